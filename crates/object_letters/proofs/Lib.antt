@@ -1,0 +1,5 @@
+pub mod ServedCopyLemmas
+pub mod PlaceLetterLemmas
+pub mod NewObjectLemmas
+pub mod RebuildableLemmas
+pub mod LeadableLemmas

@@ -1,0 +1,218 @@
+-- The letters to all places of an object lead a copy to its banks.
+use Rattle.std.proofs.Common.{◌≡◌, ℕ, Bool, true, false, cond, eqb, eqb-true, eq-eqb, List, [], ◌∷◌, ◌++◌, length, map, get_or}
+use Rattle.std.proofs.Common.{Option, Some, None, MatchOption, slice_get, refl, sym, subst, ap, ◌∙◌}
+use Rattle.std.specs.List.{AllByRecursion, position}
+use Rattle.std.proofs.lemmas.Option.{same_Some, get_or_from_slice_get, slice_get_within}
+use Rattle.layout.specs.Layout.{Layout, IsLawful}
+use Rattle.bank.specs.Bank.{Bank, opened_bank}
+use Rattle.bank_requests.specs.Reached.{after_requests}
+use Rattle.bank_requests.specs.Requests.{requests_to}
+use Rattle.bank_requests.proofs.LeadingLemmas.{requests_lead}
+use Rattle.local_object.specs.declared.letter.Letter.{Letter}
+use Rattle.local_object.specs.Local.{LocalObject, Place, bank_here, bank_in, bank_or_opened, layout_here, layout_in, heard_place}
+use Rattle.local_object.proofs.FoundLemmas.{IsFirst, FailsBelow, first_of, element}
+use Rattle.refinement.specs.Refined.{IsKeptHere}
+use Rattle.refinement.proofs.BankRowLemmas.{one_member}
+use Rattle.refinement.proofs.CallsOfNodeLemmas.{differs}
+use Rattle.object_letters.specs.Letters.{after_letter, after_letters, bank_letters, letter_to, letters_to, place_letters, places_letters}
+use Rattle.object_letters.specs.Leading.{HasNextPosition}
+use Rattle.object_letters.specs.Laws.{IsBlankOf}
+use Rattle.object_letters.specs.Rebuildable.{HaveApartPositions, AreElsewhere, IsOwnIfOpen, IsOwnPlace, IsRebuildable}
+use Rattle.object_letters.proofs.ServedCopyLemmas.{IsTowards, all_served}
+
+-- Lists
+
+after_append : (copy : LocalObject) (xs ys : List Letter) → after_letters copy (xs ++ ys) ≡ after_letters (after_letters copy xs) ys
+after_append copy [] ys = refl
+after_append copy (x ∷ xs) ys = after_append (after_letter copy x) xs ys
+
+all_map : {X : Type 0} {P Q : X → Type 0} → ((x : X) → P x → Q x) → (xs : List X) → AllByRecursion P xs → AllByRecursion Q xs
+all_map f [] all = tt
+all_map f (x ∷ xs) all = (f x all.0, all_map f xs all.1)
+
+all_both : {X : Type 0} {P Q R : X → Type 0} → ((x : X) → P x → Q x → R x) → (xs : List X) → AllByRecursion P xs
+    → AllByRecursion Q xs → AllByRecursion R xs
+all_both f [] all also = tt
+all_both f (x ∷ xs) all also = (f x all.0 also.0, all_both f xs all.1 also.1)
+
+-- the place that is found for a position is one of them
+pub at_place : (P : Place → Type 0) (places : List Place) (q : ℕ) (place : Place) → AllByRecursion P places
+    → heard_place places q ≡ Some place
+    → P place × (place.position ≡ q)
+at_place P [] q place all e = absurd (cc)
+at_place P (first ∷ places) q place all e = go (eqb first.position q) refl e (λ e. at_place P places q place all.1 e)
+  where
+    go : (b : Bool) → eqb first.position q ≡ b → cond b (Some first) (heard_place places q) ≡ Some place
+        → (heard_place places q ≡ Some place → P place × (place.position ≡ q)) → P place × (place.position ≡ q)
+    go true t e rest =
+        let same : first ≡ place = cc in
+        (subst P same all.0, ap (λ (p : Place). p.position) (sym same) ∙ eqb-true first.position q t)
+    go false t e rest = rest e
+
+-- each place is found, where no two have the same position
+found_among : (first : Place) (places others : List Place) → AreElsewhere first.position others
+    → AllByRecursion (λ place. heard_place places place.position ≡ Some place) others
+    → AllByRecursion (λ place. heard_place (first ∷ places) place.position ≡ Some place) others
+found_among first places [] elsewhere found = tt
+found_among first places (other ∷ others) elsewhere found = (
+  ap (λ b. cond b (Some first) (heard_place places other.position)) (differs first.position other.position (λ e. elsewhere.0 (sym e)))
+      ∙ found.0,
+  found_among first places others elsewhere.1 found.1,
+)
+
+all_found : (places : List Place) → HaveApartPositions places
+    → AllByRecursion (λ place. heard_place places place.position ≡ Some place) places
+all_found [] apart = tt
+all_found (first ∷ places) apart = (
+  ap (λ b. cond b (Some first) (heard_place places first.position)) (eq-eqb first.position first.position refl),
+  found_among first places places apart.0 (all_found places apart.1),
+)
+
+-- the member that a layout has for a node is the only one
+member_found : (layout : Layout) (node member : ℕ) → IsLawful layout → slice_get layout.members member ≡ Some node
+    → position (λ server. eqb server node) layout.members ≡ Some member
+member_found layout node member lawful named =
+    go (position (λ server. eqb server node) layout.members) refl
+    (first_of (λ server. eqb server node) layout.members (position (λ server. eqb server node) layout.members) refl)
+  where
+    go : (o : Option ℕ) → position (λ server. eqb server node) layout.members ≡ o
+        → MatchOption o (FailsBelow (λ server. eqb server node) layout.members (length layout.members))
+        (IsFirst (λ server. eqb server node) layout.members) → position (λ server. eqb server node) layout.members ≡ Some member
+    go None e fails = absurd (
+        let within = slice_get_within layout.members member node named in
+        let here : get_or layout.members member 0 ≡ node = get_or_from_slice_get layout.members member node 0 named in
+        let wrong : false ≡ true = sym (fails member 0 within) ∙ eq-eqb (get_or layout.members member 0) node here in cc)
+    go (Some other) e first =
+        let there = element layout.members other first.within in
+        let is : there.0 ≡ node =
+        sym (get_or_from_slice_get layout.members other there.0 0 there.1)
+        ∙ eqb-true (get_or layout.members other 0) node (first.passes 0) in
+        e ∙ ap (λ (n : ℕ). Some n) (one_member layout other member node lawful (there.1 ∙ ap (λ (n : ℕ). Some n) is) named)
+
+-- One place
+
+module _ (moves : Type 0) (local : LocalObject) where
+  pub record IsPlaced (place : Place) (copy after : LocalObject) : Type 0 where
+    pub towards : IsTowards moves local after
+    pub own : (j : ℕ) → slice_get place.layout.members j ≡ Some local.node
+        → bank_here after place.position j ≡ bank_or_opened place.bank j local.delta
+    pub others : (q j : ℕ) → (place.position ≡ q → ⊥) → bank_here after q j ≡ bank_here copy q j
+
+  module _ (place : Place) (lawful : IsLawful place.layout) (room : HasNextPosition place)
+      (known : layout_here local place.position ≡ Some place.layout) (copy : LocalObject) (towards : IsTowards moves local copy)
+      (fresh : (j : ℕ) → bank_here copy place.position j ≡ opened_bank j local.delta 0) where
+    bank_placed : (o : Option Bank) → place.bank ≡ o → IsOwnIfOpen local.node local.delta place o
+        → IsPlaced place copy (after_letters copy (bank_letters local.places place
+        (position (λ server. eqb server local.node) place.layout.members) o))
+    bank_placed None e own = record {
+      towards = towards;
+      own = λ j named. fresh j ∙ ap (λ o. bank_or_opened o j local.delta) (sym e);
+      others = λ q j apart. refl;
+    }
+    bank_placed (Some bank) e own = subst (λ o. IsPlaced place copy (after_letters copy (bank_letters local.places place o (Some bank))))
+        (sym (member_found place.layout local.node own.member lawful own.named)) (
+        let served = all_served moves local place own.member known own.named room copy towards (requests_to bank) in record {
+          towards = served.towards;
+          own = λ j named.
+              let same : own.member ≡ j = one_member place.layout own.member j local.node lawful own.named named in
+              let fold : bank_here (after_letters copy (map (letter_to local.places place own.member) (requests_to bank)))
+              place.position own.member ≡ bank =
+              served.bank ∙ ap (λ (b : Bank). after_requests b (requests_to bank)) (fresh own.member)
+              ∙ ap (λ d. after_requests (opened_bank own.member d 0) (requests_to bank)) (sym own.limited)
+              ∙ requests_lead own.member bank own.reached in
+              ap (bank_here (after_letters copy (map (letter_to local.places place own.member) (requests_to bank))) place.position)
+              (sym same)
+              ∙ fold ∙ ap (λ o. bank_or_opened o j local.delta) (sym e);
+          others = served.others;
+        })
+
+    placed : IsOwnIfOpen local.node local.delta place place.bank
+        → IsPlaced place copy (after_letters copy (place_letters local.node local.places place))
+    placed own = bank_placed place.bank refl own
+
+-- All places
+
+module _ (moves : Type 0) (local : LocalObject) where
+  -- the copy has the bank of the place, as the member that the node is
+  abbrev HasBank : LocalObject → Place → Type 0
+  HasBank copy place = (j : ℕ) → slice_get place.layout.members j ≡ Some local.node
+      → bank_here copy place.position j ≡ bank_or_opened place.bank j local.delta
+
+  abbrev IsKnown : Place → Type 0
+  IsKnown place = layout_here local place.position ≡ Some place.layout
+
+  abbrev IsFresh : LocalObject → Place → Type 0
+  IsFresh copy place = (j : ℕ) → bank_here copy place.position j ≡ opened_bank j local.delta 0
+
+  still_fresh : (first : Place) (copy after : LocalObject)
+      → ((q j : ℕ) → (first.position ≡ q → ⊥) → bank_here after q j ≡ bank_here copy q j)
+      → (places : List Place) → AreElsewhere first.position places → AllByRecursion (IsFresh copy) places
+      → AllByRecursion (IsFresh after) places
+  still_fresh first copy after others [] elsewhere fresh = tt
+  still_fresh first copy after others (place ∷ places) elsewhere fresh = (
+    λ j. others place.position j (λ e. elsewhere.0 (sym e)) ∙ fresh.0 j,
+    still_fresh first copy after others places elsewhere.1 fresh.1,
+  )
+
+  pub record ArePlaced (places : List Place) (copy after : LocalObject) : Type 0 where
+    pub towards : IsTowards moves local after
+    pub own : AllByRecursion (HasBank after) places
+    pub others : (q j : ℕ) → AreElsewhere q places → bank_here after q j ≡ bank_here copy q j
+
+  all_placed : (places : List Place) → HaveApartPositions places → AllByRecursion (IsOwnPlace local.node local.delta) places
+      → AllByRecursion HasNextPosition places → AllByRecursion IsKnown places → (copy : LocalObject) → IsTowards moves local copy
+      → AllByRecursion (IsFresh copy) places
+      → ArePlaced places copy (after_letters copy (places_letters local.node local.places places))
+  all_placed [] apart own room known copy towards fresh = record { towards = towards; own = tt; others = λ q j elsewhere. refl }
+  all_placed (place ∷ places) apart own room known copy towards fresh =
+      let one = placed moves local place own.0.lawful room.0 known.0 copy towards fresh.0 own.0.own in
+      let middle = after_letters copy (place_letters local.node local.places place) in
+      let rest = all_placed places apart.1 own.1 room.1 known.1 middle one.towards
+      (still_fresh place copy middle one.others places apart.0 fresh.1) in
+      subst (ArePlaced (place ∷ places) copy)
+      (sym (after_append copy (place_letters local.node local.places place) (places_letters local.node local.places places)))
+      (record {
+        towards = rest.towards;
+        own = (λ j named. rest.others place.position j apart.0 ∙ one.own j named, rest.own);
+        others = λ q j elsewhere. rest.others q j elsewhere.1 ∙ one.others q j elsewhere.0;
+      })
+
+  -- letters lead back
+  pub letters_lead : (copy : LocalObject) → IsRebuildable local → AllByRecursion HasNextPosition local.places
+      → IsBlankOf moves local copy → IsKeptHere moves local (after_letters copy (letters_to local))
+  letters_lead copy rebuildable room blank =
+      let found = all_found local.places rebuildable.apart in
+      let known = all_map {P = λ place. heard_place local.places place.position ≡ Some place} {Q = IsKnown}
+      (λ place e. ap layout_in e) local.places found in
+      let towards : IsTowards moves local copy = record {
+        node = blank.node;
+        delta = blank.delta;
+        layouts = blank.layouts;
+        first = blank.first;
+        calls = blank.calls;
+        mover = blank.mover;
+      } in
+      let fresh = all_map {P = λ place. heard_place local.places place.position ≡ Some place} {Q = IsFresh copy}
+      (λ place _ j. blank.banks place.position j) local.places found in
+      let all = all_placed local.places rebuildable.apart rebuildable.places room known copy towards fresh in
+      let after = after_letters copy (letters_to local) in record {
+        node = all.towards.node;
+        delta = all.towards.delta;
+        layouts = all.towards.layouts;
+        first = all.towards.first;
+        banks = λ q j layout heard named. banks after all.own q j layout heard named (heard_place local.places q) refl;
+        calls = all.towards.calls;
+        mover = all.towards.mover;
+      }
+    where
+      banks : (after : LocalObject) → AllByRecursion (HasBank after) local.places → (q j : ℕ) (layout : Layout)
+          → layout_here local q ≡ Some layout → slice_get layout.members j ≡ Some local.node
+          → (o : Option Place) → heard_place local.places q ≡ o → bank_here after q j ≡ bank_here local q j
+      banks after own q j layout heard named None e =
+          absurd (let wrong : None ≡ Some layout = sym (ap layout_in e) ∙ heard in cc)
+      banks after own q j layout heard named (Some place) e =
+          let there = at_place (HasBank after) local.places q place own e in
+          let same : place.layout ≡ layout = same_Some place.layout layout (sym (ap layout_in e) ∙ heard) in
+          ap (λ n. bank_here after n j) (sym there.1)
+          ∙ there.0 j (ap (λ (l : Layout). slice_get l.members j) same ∙ named)
+          ∙ ap (λ o. bank_or_opened (bank_in o) j local.delta) (sym e)

@@ -1,0 +1,223 @@
+-- Whatever a node does with an object, its banks came to be by requests to the node.
+use Rattle.std.proofs.Common.{◌≡◌, ◌≢◌, ℕ, suc, Bool, true, false, cond, eqb, eq-eqb, List, [], ◌∷◌, ◌++◌}
+use Rattle.std.proofs.Common.{Option, Some, None, slice_get, refl, sym, subst, ap, ◌∙◌}
+use Rattle.std.specs.List.{AllByRecursion}
+use Rattle.std.proofs.lemmas.Option.{same_Some}
+use Rattle.layout.specs.Layout.{Layout, IsLawful}
+use Rattle.encoder.specs.Fragment.{fragment}
+use Rattle.bank.specs.Bank.{Bank}
+use Rattle.bank.specs.Serve.{served_bank}
+use Rattle.bank.specs.declared.kind.Kind.{Kind}
+use Rattle.bank.specs.declared.request.Request.{Request}
+use Rattle.bank.specs.declared.request.Request.TheVariants as request
+use Rattle.bank_requests.specs.Reached.{IsReachedBank}
+use Rattle.bank_requests.proofs.LeadingLemmas.{fresh_reached, served_reached}
+use Rattle.mail.specs.declared.message.Body.{Body}
+use Rattle.mail.specs.declared.message.Body.TheVariants as body
+use Rattle.record.specs.declared.call.CallKind.{CallKind}
+use Rattle.record.specs.declared.stage.Stage.{Stage}
+use Rattle.network.specs.Worlds.{NodeCall, due_phase, open_call, with_open}
+use Rattle.network.specs.Events.{taking_open}
+use Rattle.local_object.specs.declared.letter.Letter.{Letter}
+use Rattle.local_object.specs.Local.{LocalObject, Place, added_place, bank_here, bank_in, bank_or_opened, last_position}
+use Rattle.local_object.specs.Local.{layout_here, layout_in, with_heard, learnt_if, new_local, heard_place, with_bank_here}
+use Rattle.local_object.specs.Events.{LocalEvent, Outcome, advanced_at, advanced_here, begun_here, done_here, learnt_from, on_open_call}
+use Rattle.local_object.specs.Events.{served_here, silent}
+use Rattle.local_object.specs.May.{MayHappenHere}
+use Rattle.refinement.proofs.BankRowLemmas.{one_member}
+use Rattle.object_letters.specs.Rebuildable.{HaveApartPositions, AreElsewhere, HasLawfulLayouts, IsFit, IsLawfulIfThere, IsOwnBank}
+use Rattle.object_letters.specs.Rebuildable.{IsOwnIfOpen}
+use Rattle.object_letters.specs.Rebuildable.{IsOwnPlace, IsRebuildable}
+use Rattle.object_letters.proofs.PlaceLetterLemmas.{at_place}
+
+pub new_rebuildable : (node : ℕ) (delta : Option ℕ) (first : Layout) → IsLawful first → IsRebuildable (new_local node delta first)
+new_rebuildable node delta first lawful = record {
+  apart = (tt, tt);
+  places = (record { lawful = lawful; own = tt }, tt);
+}
+
+-- A position is heard of
+
+elsewhere_none : (places : List Place) (p : ℕ) → heard_place places p ≡ None → AreElsewhere p places
+elsewhere_none [] p e = tt
+elsewhere_none (place ∷ places) p e = go (eqb place.position p) refl e (λ e. elsewhere_none places p e)
+  where
+    go : (b : Bool) → eqb place.position p ≡ b → cond b (Some place) (heard_place places p) ≡ None
+        → (heard_place places p ≡ None → AreElsewhere p places) → AreElsewhere p (place ∷ places)
+    go true t e rest = absurd (cc)
+    go false t e rest = (λ same. absurd (let wrong : false ≡ true = sym t ∙ eq-eqb place.position p same in cc), rest e)
+
+elsewhere_push : (q : ℕ) (places : List Place) (new : Place) → AreElsewhere q places → new.position ≢ q
+    → AreElsewhere q (places ++ new ∷ [])
+elsewhere_push q [] new elsewhere other = (other, tt)
+elsewhere_push q (place ∷ places) new elsewhere other = (elsewhere.0, elsewhere_push q places new elsewhere.1 other)
+
+apart_push : (places : List Place) (new : Place) → HaveApartPositions places → AreElsewhere new.position places
+    → HaveApartPositions (places ++ new ∷ [])
+apart_push [] new apart elsewhere = (tt, tt)
+apart_push (place ∷ places) new apart elsewhere =
+    (elsewhere_push place.position places new apart.0 (λ e. elsewhere.0 (sym e)), apart_push places new apart.1 elsewhere.1)
+
+all_push : {X : Type 0} (P : X → Type 0) (xs : List X) (x : X) → AllByRecursion P xs → P x → AllByRecursion P (xs ++ x ∷ [])
+all_push P [] x all here = (here, tt)
+all_push P (y ∷ ys) x all here = (all.0, all_push P ys x all.1 here)
+
+pub heard_rebuildable : (local : LocalObject) (p : ℕ) (layout : Layout) → IsLawful layout → IsRebuildable local
+    → IsRebuildable (with_heard local p layout)
+heard_rebuildable local p layout lawful is = go (heard_place local.places p) refl
+  where
+    go : (o : Option Place) → heard_place local.places p ≡ o
+        → IsRebuildable (record local { places = added_place local.places o p layout })
+    go None e =
+        let new : Place = record { position = p; layout = layout; bank = None } in record {
+          apart = apart_push local.places new is.apart (elsewhere_none local.places p e);
+          places = all_push (IsOwnPlace local.node local.delta) local.places new is.places (record { lawful = lawful; own = tt });
+        }
+    go (Some place) e = record { apart = is.apart; places = is.places }
+
+heard_if : (local : LocalObject) (p : ℕ) (o : Option Layout) → IsLawfulIfThere o → IsRebuildable local → IsRebuildable (learnt_if local p o)
+heard_if local p None lawful is = is
+heard_if local p (Some layout) lawful is = heard_rebuildable local p layout lawful is
+
+pub letter_rebuildable : (local : LocalObject) (letter : Letter) → HasLawfulLayouts letter → IsRebuildable local
+    → IsRebuildable (learnt_from local letter)
+letter_rebuildable local letter lawful is =
+    heard_if (with_heard local letter.message.position letter.layout) (suc letter.message.position) letter.next lawful.1
+    (heard_rebuildable local letter.message.position letter.layout lawful.0 is)
+
+-- A bank changes
+
+elsewhere_with : (q p : ℕ) (bank : Bank) (places : List Place) → AreElsewhere q places → AreElsewhere q (with_bank_here places p bank)
+elsewhere_with q p bank [] elsewhere = tt
+elsewhere_with q p bank (place ∷ places) elsewhere = go (eqb place.position p) (elsewhere_with q p bank places elsewhere.1)
+  where
+    go : (b : Bool) → AreElsewhere q (with_bank_here places p bank)
+        → AreElsewhere q (cond b (record place { bank = Some bank } ∷ places) (place ∷ with_bank_here places p bank))
+    go true rest = elsewhere
+    go false rest = (elsewhere.0, rest)
+
+apart_with : (p : ℕ) (bank : Bank) (places : List Place) → HaveApartPositions places → HaveApartPositions (with_bank_here places p bank)
+apart_with p bank [] apart = tt
+apart_with p bank (place ∷ places) apart = go (eqb place.position p) (apart_with p bank places apart.1)
+  where
+    go : (b : Bool) → HaveApartPositions (with_bank_here places p bank)
+        → HaveApartPositions (cond b (record place { bank = Some bank } ∷ places) (place ∷ with_bank_here places p bank))
+    go true rest = apart
+    go false rest = (elsewhere_with place.position p bank places apart.0, rest)
+
+all_with : (P : Place → Type 0) (p : ℕ) (bank : Bank) (places : List Place) (found : Place) → heard_place places p ≡ Some found
+    → P (record found { bank = Some bank }) → AllByRecursion P places → AllByRecursion P (with_bank_here places p bank)
+all_with P p bank [] found e here all = tt
+all_with P p bank (place ∷ places) found e here all =
+    go (eqb place.position p) e (λ e. all_with P p bank places found e here all.1)
+  where
+    go : (b : Bool) → cond b (Some place) (heard_place places p) ≡ Some found
+        → (heard_place places p ≡ Some found → AllByRecursion P (with_bank_here places p bank))
+        → AllByRecursion P (cond b (record place { bank = Some bank } ∷ places) (place ∷ with_bank_here places p bank))
+    go true e rest = (subst (λ (o : Place). P (record o { bank = Some bank })) (sym (same_Some place found e)) here, all.1)
+    go false e rest = (all.0, rest e)
+
+delta_stays : (b : Bank) (q : Request) → (served_bank b q 0).delta ≡ b.delta
+delta_stays b request.Next = refl
+delta_stays b (request.Spread s) = refl
+delta_stays b request.Query = refl
+delta_stays b (request.PreWrite tag p) = refl
+delta_stays b (request.Finalize tag) = refl
+delta_stays b (request.Fetch tag) = refl
+
+-- the bank of a place served one request more
+served_own : (node : ℕ) (delta : Option ℕ) (place : Place) (member : ℕ) (asked : Request) → IsLawful place.layout
+    → slice_get place.layout.members member ≡ Some node
+    → (o : Option Bank) → IsOwnIfOpen node delta place o
+    → IsOwnBank node delta place (served_bank (bank_or_opened o member delta) asked 0)
+served_own node delta place member asked lawful named None own = record {
+  member = member;
+  named = named;
+  limited = delta_stays (bank_or_opened None member delta) asked;
+  reached = served_reached member (bank_or_opened None member delta) asked (fresh_reached member delta);
+}
+served_own node delta place member asked lawful named (Some bank) own = record {
+  member = member;
+  named = named;
+  limited = delta_stays bank asked ∙ own.limited;
+  reached = served_reached member bank asked (subst (λ (m : ℕ). IsReachedBank m bank)
+      (one_member place.layout own.member member node lawful own.named named) own.reached);
+}
+
+serve_rebuildable : (heard : LocalObject) (letter : Letter) (asked : Request) → IsRebuildable heard
+    → (layout : Layout) → layout_here heard letter.message.position ≡ Some layout
+    → slice_get layout.members letter.message.member ≡ Some heard.node
+    → IsRebuildable (served_here heard letter (body.Request asked)).local
+serve_rebuildable heard letter asked is layout known named = go (heard_place heard.places letter.message.position) refl
+  where
+    go : (o : Option Place) → heard_place heard.places letter.message.position ≡ o
+        → IsRebuildable (served_here heard letter (body.Request asked)).local
+    go None e = absurd (let wrong : None ≡ Some layout = sym (ap layout_in e) ∙ known in cc)
+    go (Some place) e =
+        let at = at_place (IsOwnPlace heard.node heard.delta) heard.places letter.message.position place is.places e in
+        let same : layout ≡ place.layout = same_Some layout place.layout (sym known ∙ ap layout_in e) in
+        let member = letter.message.member in
+        let new = served_bank (bank_here heard letter.message.position member) asked 0 in
+        let own : IsOwnBank heard.node heard.delta place new =
+        subst (λ (o : Option Place). IsOwnBank heard.node heard.delta place
+        (served_bank (bank_or_opened (bank_in o) member heard.delta) asked 0))
+        (sym e) (served_own heard.node heard.delta place member asked at.0.lawful
+        (sym (ap (λ (l : Layout). slice_get l.members member) same) ∙ named)
+        place.bank at.0.own) in record {
+          apart = apart_with letter.message.position new heard.places is.apart;
+          places = all_with (IsOwnPlace heard.node heard.delta) letter.message.position new heard.places place e
+              (record {
+                lawful = at.0.lawful;
+                own = record { member = own.member; named = own.named; limited = own.limited; reached = own.reached };
+              }) is.places;
+        }
+
+-- Calls
+
+begun_rebuildable : (local : LocalObject) (id : ℕ) (kind : CallKind) (stage : Stage) (asked : Kind) (p : ℕ) (o : Option Layout)
+    → IsRebuildable local → IsRebuildable (begun_here local id kind stage asked p o).local
+begun_rebuildable local id kind stage asked p None is = is
+begun_rebuildable local id kind stage asked p (Some layout) is = record { apart = is.apart; places = is.places }
+
+advanced_rebuildable : (local : LocalObject) (call : NodeCall) (o : Option (Kind × ℕ)) → IsRebuildable local
+    → IsRebuildable (advanced_here fragment local call o).local
+advanced_rebuildable local call None is = is
+advanced_rebuildable local call (Some next) is = go (layout_here local next.1)
+  where
+    go : (o : Option Layout) → IsRebuildable (advanced_at fragment local call next o).local
+    go None = is
+    go (Some layout) = record { apart = is.apart; places = is.places }
+
+called_rebuildable : (local : LocalObject) (o : Option NodeCall) (change : NodeCall → Outcome) → IsRebuildable local
+    → ((call : NodeCall) → IsRebuildable (change call).local) → IsRebuildable (on_open_call local o change).local
+called_rebuildable local None change is changed = is
+called_rebuildable local (Some call) change is changed = changed call
+
+-- Any event
+pub stays_rebuildable : (local : LocalObject) (event : LocalEvent) → IsRebuildable local → MayHappenHere fragment local event
+    → IsFit event → IsRebuildable (done_here fragment local event).local
+stays_rebuildable local (LocalEvent.BeginRead id) is may fit = begun_rebuildable local id _ _ _ 0 (layout_here local 0) is
+stays_rebuildable local (LocalEvent.BeginWrite id value) is may fit = begun_rebuildable local id _ _ _ 0 (layout_here local 0) is
+stays_rebuildable local (LocalEvent.BeginMove id layout) is may fit =
+    let next = with_heard local (suc (last_position local)) layout in
+    begun_rebuildable next id _ _ _ (last_position local) (layout_here next (last_position local))
+    (heard_rebuildable local (suc (last_position local)) layout may.0 is)
+stays_rebuildable local (LocalEvent.Advance id) is may fit =
+    called_rebuildable local (open_call local.calls id) (λ call. advanced_here fragment local call (due_phase call)) is
+    (λ call. advanced_rebuildable local call (due_phase call) is)
+stays_rebuildable local (LocalEvent.Serve letter) is may fit =
+    let heard = learnt_from local letter in
+    subst (λ (b : Body). IsRebuildable (served_here heard letter b).local) (sym may.0.1)
+    (serve_rebuildable heard letter may.0.0 (letter_rebuildable local letter fit is) may.1.0 may.1.1 may.1.2)
+stays_rebuildable local (LocalEvent.Take letter) is may fit =
+    let heard = learnt_from local letter in
+    let heard_is = letter_rebuildable local letter fit is in
+    called_rebuildable heard (open_call heard.calls letter.message.call)
+    (λ call. silent (record heard { calls = with_open (taking_open letter.message call) heard.calls })) heard_is
+    (λ call. record { apart = heard_is.apart; places = heard_is.places })
+stays_rebuildable local (LocalEvent.Settle id value) is may fit =
+    called_rebuildable local (open_call local.calls id)
+    (λ call. silent (record local { calls = with_open (record call { settled = Some value }) local.calls })) is
+    (λ call. record { apart = is.apart; places = is.places })
+stays_rebuildable local (LocalEvent.Answer id) is may fit = record { apart = is.apart; places = is.places }
+stays_rebuildable local (LocalEvent.GiveUp id) is may fit = record { apart = is.apart; places = is.places }

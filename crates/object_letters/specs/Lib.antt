@@ -1,0 +1,4 @@
+pub mod Rebuildable
+pub mod Leading
+pub mod Letters
+pub mod Laws

@@ -1,0 +1,57 @@
+-- The contracts that docs/trusted.md lists do not depend on this file; other contracts and proofs do.
+-- Objects whose banks came to be by letters alone, as all objects do that a node keeps.
+use Rattle.std.specs.Prelude.{◌≡◌, ◌≢◌, ℕ, List, [], ◌∷◌, Option, None, Some, slice_get}
+use Rattle.std.specs.List.{AllByRecursion}
+use Rattle.layout.specs.Layout.{Layout, IsLawful}
+use Rattle.bank.specs.Bank.{Bank}
+use Rattle.bank_requests.specs.Reached.{IsReachedBank}
+use Rattle.local_object.specs.declared.letter.Letter.{Letter}
+use Rattle.local_object.specs.Local.{LocalObject, Place}
+use Rattle.local_object.specs.Events.{LocalEvent}
+
+-- none of the places has this position
+abbrev pub AreElsewhere : (position : ℕ) → List Place → Type 0
+AreElsewhere position [] = Unit {0}
+AreElsewhere position (place ∷ places) = (place.position ≢ position) × AreElsewhere position places
+
+-- no two of the places have the same position
+abbrev pub HaveApartPositions : List Place → Type 0
+HaveApartPositions [] = Unit {0}
+HaveApartPositions (place ∷ places) = AreElsewhere place.position places × HaveApartPositions places
+
+-- a bank of a place was opened for the member that the node is, and has served requests
+pub record IsOwnBank (node : ℕ) (delta : Option ℕ) (place : Place) (bank : Bank) : Type 0 where
+  pub member : ℕ
+  pub named : slice_get place.layout.members member ≡ Some node
+  pub limited : bank.delta ≡ delta
+  pub reached : IsReachedBank member bank
+
+-- the same, if there is a bank
+abbrev pub IsOwnIfOpen : (node : ℕ) → (delta : Option ℕ) → Place → Option Bank → Type 0
+IsOwnIfOpen node delta place None = Unit {0}
+IsOwnIfOpen node delta place (Some bank) = IsOwnBank node delta place bank
+
+-- the layout of a place is lawful, and its bank came to be by requests to the node
+pub record IsOwnPlace (node : ℕ) (delta : Option ℕ) (place : Place) : Type 0 where
+  pub lawful : IsLawful place.layout
+  pub own : IsOwnIfOpen node delta place place.bank
+
+-- each position is there once, and all banks came to be by requests to the node
+pub record IsRebuildable (local : LocalObject) : Type 0 where
+  pub apart : HaveApartPositions local.places
+  pub places : AllByRecursion (IsOwnPlace local.node local.delta) local.places
+
+-- a layout is lawful, if there is one
+abbrev pub IsLawfulIfThere : Option Layout → Type 0
+IsLawfulIfThere None = Unit {0}
+IsLawfulIfThere (Some layout) = IsLawful layout
+
+-- the layouts in a letter are lawful
+abbrev pub HasLawfulLayouts : Letter → Type 0
+HasLawfulLayouts letter = IsLawful letter.layout × IsLawfulIfThere letter.next
+
+-- the layouts in the letter of an event are lawful, if it has one
+abbrev pub IsFit : LocalEvent → Type 0
+IsFit (LocalEvent.Serve letter) = HasLawfulLayouts letter
+IsFit (LocalEvent.Take letter) = HasLawfulLayouts letter
+IsFit event = Unit {0}

@@ -1,0 +1,24 @@
+//! That letters lead back to an object, and of which objects this holds.
+ghost use Rattle.object_letters.specs.Laws.{LettersLeadBack, NewIsBlank, NewIsRebuildable, StaysRebuildable};
+
+/// A law: if a copy of a rebuildable object is as a restart has to keep it, but for its banks, which have served
+/// nothing, and the node serves the letters to the object, then the copy is as a restart has to keep it.
+pub fn letters_lead_back()
+    ensures { LettersLeadBack }
+{}
+
+/// A law: a new object is such a copy, where no move is open, and where a node that moves objects has heard of no
+/// position but the first.
+pub fn new_is_blank()
+    ensures { NewIsBlank }
+{}
+
+/// A law: an object of which the node has not heard is rebuildable.
+pub fn new_is_rebuildable()
+    ensures { NewIsRebuildable }
+{}
+
+/// A law: whatever a node does with a rebuildable object, by letters with lawful layouts, it stays rebuildable.
+pub fn stays_rebuildable()
+    ensures { StaysRebuildable }
+{}

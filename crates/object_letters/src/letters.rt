@@ -1,0 +1,139 @@
+//! The letters that lead to an object.
+ghost use Rattle.std.specs.Prelude.{◌≡◌, ◌==◌, ◌++◌, suc, map, position, MatchOption, None, IfOk, IfErr, OnOk};
+ghost use Rattle.tag.specs.declared.refusal.Refusal.TheVariants.{NoMemory};
+ghost use Rattle.bank_requests.specs.Requests.{requests_to};
+ghost use Rattle.local_object.specs.Distinct.{IsPlaceAt};
+ghost use Rattle.local_object.specs.Events.{next_in_request};
+ghost use Rattle.local_object.specs.Local.{heard_place, layout_in};
+ghost use Rattle.object_letters.specs.Letters.{letter_to, letters_as, place_letters};
+
+use bank::{Bank, Request, Status};
+use bank_requests::requests_of;
+use layout::Layout;
+use local_object::{Letter, LocalObject, Place};
+use mail::{Body, Message};
+use std::alloc::Global;
+use tag::Refusal;
+
+/// The letters that lead a new object of a node to this one, if the node serves them in their order: the banks are then
+/// the same. `number` is that of the object's node. The object's calls are in no letter, nor are positions without a
+/// bank.
+///
+/// The pieces in the letters share their bytes with those of the banks. `NoMemory` is the only refusal.
+pub fn letters_of(alloc: Global, number: u8, local: &LocalObject) -> Result<Vec<Letter>, Refusal>
+    ensures letters { IfOk result (λ letters. letters.items ≡ letters_as number local.now) }
+    ensures refused { IfErr result (λ e. e ≡ NoMemory) }
+{
+    let places = local.places();
+    let mut letters = Vec::new(alloc);
+    for place in places {
+        push_place(alloc, &mut letters, number, places, place)?;
+    }
+    Ok(letters)
+}
+
+// Appends the letters that lead to what the node keeps in a place.
+fn push_place(
+    alloc: Global,
+    letters: &mut Vec<Letter>,
+    number: u8,
+    places: &[Place],
+    place: &Place,
+) -> Result<(), Refusal>
+    ensures letters { OnOk result
+        (letters.new.items ≡ letters.old.items ++ place_letters number places.now place.now) }
+
+    ensures refused { IfErr result (λ e. e ≡ NoMemory) }
+{
+    match (place.layout().point_of(number), place.bank()) {
+        (Some(member), Some(bank)) => push_bank(alloc, letters, places, place, member, bank),
+        _ => Ok(()),
+    }
+}
+
+// Appends the letters that lead to the bank of a place.
+fn push_bank(
+    alloc: Global,
+    letters: &mut Vec<Letter>,
+    places: &[Place],
+    place: &Place,
+    member: u8,
+    bank: &Bank,
+) -> Result<(), Refusal>
+    ensures letters { OnOk result
+        (letters.new.items ≡ letters.old.items ++ map (letter_to places.now place.now member) (requests_to bank.now)) }
+
+    ensures refused { IfErr result (λ e. e ≡ NoMemory) }
+{
+    let requests = requests_of(alloc, bank)?;
+    for request in requests {
+        letters.push(letter_for(places, place, member, request)?)?;
+    }
+    Ok(())
+}
+
+// The request as a letter to this member of a place.
+fn letter_for(
+    places: &[Place],
+    place: &Place,
+    member: u8,
+    request: Request,
+) -> Result<Letter, Refusal>
+    ensures letter { IfOk result (λ letter. letter ≡ letter_to places.now place.now member request) }
+    ensures refused { IfErr result (λ e. e ≡ NoMemory) }
+{
+    let next = next_for(places, place.position(), &request)?;
+    Ok(Letter {
+        layout: place.layout().clone()?,
+        next,
+        message: Message {
+            call: 0,
+            phase: 0,
+            position: place.position(),
+            member,
+            body: Body::Request(request),
+        },
+    })
+}
+
+// The layout of the next position, if the request says that there is one and the node has heard of it.
+fn next_for(places: &[Place], position: u32, request: &Request) -> Result<Option<Layout>, Refusal>
+    ensures layout { IfOk result (λ layout. layout
+        ≡ next_in_request request.now (layout_in (heard_place places.now (suc position)))) }
+
+    ensures refused { IfErr result (λ e. e ≡ NoMemory) }
+{
+    match request {
+        Request::Spread(Status::Pending) | Request::Spread(Status::Final) => {
+            layout_at(places, u64::from(position) + 1)
+        }
+        _ => Ok(None),
+    }
+}
+
+// The layout of a position, if the node has heard of it.
+fn layout_at(places: &[Place], position: u64) -> Result<Option<Layout>, Refusal>
+    ensures layout { IfOk result (λ layout. layout ≡ layout_in (heard_place places.now position)) }
+    ensures refused { IfErr result (λ e. e ≡ NoMemory) }
+{
+    match index_of(places, position) {
+        Some(index) => Ok(Some(places[index].layout().clone()?)),
+        None => Ok(None),
+    }
+}
+
+// Where in the list a position is, if it is there.
+fn index_of(places: &[Place], position: u64) -> Option<usize>
+    ensures { MatchOption result (heard_place places.now position ≡ None) (IsPlaceAt places.now position) }
+{
+    first_of(places, position)
+}
+
+// The index of the first place with this position, if there is one.
+fn first_of(places: &[Place], number: u64) -> Option<usize>
+    ensures { result ≡ position (λ place. place.position == number) places.now }
+{
+    places
+        .iter()
+        .position(|place| u64::from(place.position()) == number)
+}

@@ -1,0 +1,4 @@
+pub mod Records
+pub mod Sound
+pub mod Laws
+pub mod Calls
