@@ -16,15 +16,15 @@ use Rattle.node_effects.specs.declared.work.Work.{Work}
 abbrev pub answer_frame : (client : ℕ) → Answer → List (List ℕ)
 answer_frame client answer = client_address client ∷ sent_strings answer
 
--- a client is sent an answer, and its next command is due
+-- what is added to a node's work when a client is sent an answer: the frame, and that its next command is due
 abbrev pub answer_sent : (client : ℕ) → Answer → Growth
 answer_sent client answer = record no_growth { to_clients = answer_frame client answer ∷ []; due = client ∷ [] }
 
--- a client is sent an answer, if its connection is there
+-- the same if the client's connection is there, and nothing otherwise
 abbrev pub answer_growth : (is_there : Bool) → (client : ℕ) → Answer → Growth
 answer_growth is_there client answer = if is_there then answer_sent client answer else no_growth
 
--- a client is sent `OK` to its `QUIT`, and its host is told to close the connection
+-- what is added when a client quits: the answer `OK`, and the frame that tells the host to close the connection
 abbrev pub quit_growth : (client : ℕ) → Growth
 quit_growth client =
     record no_growth { to_clients = answer_frame client answer.Ok ∷ (client_address client ∷ []) ∷ [] }

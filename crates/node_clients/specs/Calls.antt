@@ -19,23 +19,23 @@ client_waiting (Some call) = call.client
 abbrev pub waiting_for : {S : Type 0} → IndexMap ℕ OpenCall S → (id : ℕ) → Option ℕ
 waiting_for calls id = client_waiting (call_under calls id)
 
--- a call for which no client waits any more
+-- the same call, if there is one, but no client waits for it
 abbrev pub with_nobody : Option OpenCall → Option OpenCall
 with_nobody None = None
 with_nobody (Some call) = Some (record call { client = None })
 
--- whether a call of this age asks those again that have not replied: at 1, 2, 4, 8, 16 and 32, and at each multiple
--- of 64
+-- whether a call of this age asks the members again that have not replied: at 2, 4, 8, 16 and 32, and at each multiple
+-- of 64; it does not ask again at age 1, because the first tick may come right after the call began
 abbrev pub asks_at : (age : ℕ) → Bool
 asks_at age =
-    (age == 1) || ((age == 2) || ((age == 4) || ((age == 8) || ((age == 16) || ((age == 32) || (age % 64 == 0))))))
+    (age == 2) || ((age == 4) || ((age == 8) || ((age == 16) || ((age == 32) || (age % 64 == 0)))))
 
 -- a call that is older by a tick; the greatest age is 2^32 - 1
 abbrev pub older_of : OpenCall → OpenCall
 older_of call = record call { age = min (call.age + 1) (2 ^ 32 - 1) }
 
--- what is said of a call that gets older by a tick: its name, whether it is a move, whether it is then older than this
--- number of ticks, and whether it asks again
+-- what is returned for a call that gets older by a tick: its name, whether it is a move, whether it is then older than
+-- this number of ticks, and whether it asks again
 abbrev pub aged_of : (ticks : ℕ) → OpenCall → Aged
 aged_of ticks call = record {
   name = call.name;
@@ -44,12 +44,12 @@ aged_of ticks call = record {
   asks_again = asks_at (older_of call).age;
 }
 
--- the call, if it is open, is older by a tick
+-- the call, if it is open, made older by a tick
 abbrev pub older_call : Option OpenCall → Option OpenCall
 older_call None = None
 older_call (Some call) = Some (older_of call)
 
--- what is returned of a call that gets older by a tick, if it is open
+-- what is returned for a call that gets older by a tick, if it is open
 abbrev pub aged_call : (ticks : ℕ) → Option OpenCall → Option Aged
 aged_call ticks None = None
 aged_call ticks (Some call) = Some (aged_of ticks call)

@@ -21,17 +21,17 @@ connection_of desk client = get nat_eq desk.clients.by_number client
 abbrev pub is_connected : Desk → (client : ℕ) → Bool
 is_connected desk client = is_some (connection_of desk client)
 
--- whether a client waits whose connection is there
+-- whether a client is given and its connection is there
 abbrev pub has_listener : Desk → (client : Option ℕ) → Bool
 has_listener desk None = false
 has_listener desk (Some client) = is_connected desk client
 
--- the client that waits, if one does and its connection is there
+-- the client, if one is given and its connection is there
 abbrev pub listener : Desk → (client : Option ℕ) → Option ℕ
 listener desk None = None
 listener desk (Some client) = if is_connected desk client then Some client else None
 
--- what is sent to the client that waits: the answer, if one waits and its connection is there
+-- what is added to a node's work when a client is answered: nothing if none is given or its connection is not there
 abbrev pub growth_for : Desk → (client : Option ℕ) → Answer → Growth
 growth_for desk None answer = no_growth
 growth_for desk (Some client) answer = answer_growth (is_connected desk client) client answer
@@ -43,7 +43,7 @@ pub record IsIdleAgain (old : Connections) (client : ℕ) (new : Connections) : 
   pub waiting : waiting_on (get nat_eq new.by_number client) ≡ waiting_on (get nat_eq old.by_number client)
   pub others : (other : ℕ) → other ≢ client → get nat_eq new.by_number other ≡ get nat_eq old.by_number other
 
--- the same for the client that waits, if one does; otherwise all connections are as they were
+-- the same for a client that may be none: if it is none, all connections are as they were
 abbrev pub IsIdleFor : (old : Connections) → (client : Option ℕ) → (new : Connections) → Type 0
 IsIdleFor old None new = new ≡ old
 IsIdleFor old (Some client) new = IsIdleAgain old client new
@@ -56,16 +56,16 @@ one_more_counted count = min (count + 1) (2 ^ 64 - 1)
 abbrev pub none_counted : Counts
 none_counted = record { answered = 0; given_up = 0; dropped = 0; log_bytes = 0 }
 
--- the counts with one more answered command, if it was answered
+-- the counts, with one more answered command if one was answered
 abbrev pub with_told : (is_answered : Bool) → Counts → Counts
 with_told is_answered counts =
     if is_answered then record counts { answered = one_more_counted counts.answered } else counts
 
--- one more call was given up
+-- the counts, with one more call that was given up
 abbrev pub with_give_up : Counts → Counts
 with_give_up counts = record counts { given_up = one_more_counted counts.given_up }
 
--- one more frame was dropped
+-- the counts, with one more dropped frame
 abbrev pub with_drop : Counts → Counts
 with_drop counts = record counts { dropped = one_more_counted counts.dropped }
 
@@ -74,6 +74,6 @@ abbrev pub IsDue : (due : List ℕ) → (client : ℕ) → Type 0
 IsDue [] client = ⊥
 IsDue (first ∷ due) client = (client ≡ first) ⊎ IsDue due client
 
--- no command waits that may be carried out, but on connections that are due
+-- each connection on which a command waits that may be carried out is one of those that are due
 abbrev pub NoneWaits : Connections → (due : List ℕ) → Type 0
 NoneWaits clients due = (client : ℕ) → has_next (get nat_eq clients.by_number client) ≡ true → IsDue due client

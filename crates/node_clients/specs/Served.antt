@@ -25,7 +25,7 @@ KeepsOtherCalls old id new = (other : ℕ) → other ≢ id → call_under new.c
 
 -- Commands
 
--- a command waits on a client's connection, behind those that waited there; a connection that was not there is made
+-- a client's command waits on its connection, after those that waited there; the connection is made if there was none
 pub record IsArrived (old : Desk) (client : ℕ) (command : Strings) (new : Desk) : Type 0 where
   pub there : IsSome (connection_of new client)
   pub state : doing (connection_of new client) ≡ doing (connection_of old client)
@@ -34,15 +34,14 @@ pub record IsArrived (old : Desk) (client : ℕ) (command : Strings) (new : Desk
   pub calls : new.calls ≡ old.calls
   pub counts : new.counts ≡ old.counts
 
--- a client's connection is there no more
+-- a client's connection was removed
 pub record IsGone (old : Desk) (client : ℕ) (new : Desk) : Type 0 where
   pub gone : connection_of new client ≡ None
   pub others : KeepsOthers old client new
   pub calls : new.calls ≡ old.calls
   pub counts : new.counts ≡ old.counts
 
--- this was the oldest command that waited on a client's connection, which was idle; it is taken, and the connection is
--- busy
+-- the oldest command that waited on a client's connection was taken out; the connection was idle and is now busy
 pub record IsCommandTaken (old : Desk) (client : ℕ) (command : Strings) (new : Desk) : Type 0 where
   pub taken : TakesNextAt (connection_of old client) (connection_of new client) (Some command)
   pub others : KeepsOthers old client new
@@ -56,7 +55,7 @@ call_begun client (ask.Set name value) = Some (record { name = name; client = So
 call_begun client (ask.Move name layout) = Some (record { name = name; client = Some client; is_move = true; age = 0 })
 call_begun client command = None
 
--- this call is open
+-- a call was added to the open calls
 pub record IsOpened (old : Desk) (call : Option OpenCall) (id : ℕ) (new : Desk) : Type 0 where
   pub some : IsSome call
   pub opened : call_under new.calls id ≡ call
@@ -64,7 +63,7 @@ pub record IsOpened (old : Desk) (call : Option OpenCall) (id : ℕ) (new : Desk
   pub clients : new.clients ≡ old.clients
   pub counts : new.counts ≡ old.counts
 
--- a client's connection is idle again
+-- a client's command was answered, so its connection is idle again
 pub record IsClientAnswered (old : Desk) (client : ℕ) (new : Desk) : Type 0 where
   pub idle : IsIdleAgain old.clients client new.clients
   pub calls : new.calls ≡ old.calls
@@ -81,14 +80,14 @@ pub record HasQuit (old : Desk) (client : ℕ) (new : Desk) : Type 0 where
 
 -- Calls
 
--- a call is open no more, and the connection of the client that waited for it, if it is there, is idle again
+-- a call is no longer open, and the connection of the client that waited for it, if it is there, is idle again
 pub record IsCallClosed (old : Desk) (id : ℕ) (told : Option ℕ) (new : Desk) : Type 0 where
   pub who : told ≡ listener old (waiting_for old.calls id)
   pub gone : call_under new.calls id ≡ None
   pub others : KeepsOtherCalls old id new
   pub idle : IsIdleFor old.clients (waiting_for old.calls id) new.clients
 
--- the client of a call waits for it no more, and its connection, if it is there, is idle again
+-- the client of a call no longer waits for it, and its connection, if it is there, is idle again
 pub record IsReleased (old : Desk) (id : ℕ) (told : Option ℕ) (new : Desk) : Type 0 where
   pub who : told ≡ listener old (waiting_for old.calls id)
   pub released : call_under new.calls id ≡ with_nobody (call_under old.calls id)
@@ -96,7 +95,7 @@ pub record IsReleased (old : Desk) (id : ℕ) (told : Option ℕ) (new : Desk) :
   pub idle : IsIdleFor old.clients (waiting_for old.calls id) new.clients
   pub counts : new.counts ≡ with_told (has_listener old (waiting_for old.calls id)) old.counts
 
--- a call, if it is open, is older by a tick
+-- a call, if it is open, was made older by a tick
 pub record IsOlder (old : Desk) (id : ℕ) (new : Desk) : Type 0 where
   pub older : call_under new.calls id ≡ older_call (call_under old.calls id)
   pub others : KeepsOtherCalls old id new
@@ -105,8 +104,8 @@ pub record IsOlder (old : Desk) (id : ℕ) (new : Desk) : Type 0 where
 
 -- What happens
 
--- How the desk changes with each of these. A call is late where it gets older than this number of ticks. A call that is
--- late is given up, unless it is a move.
+-- How the desk changes with each service. A call is late if it is older than this number of ticks after its tick. A
+-- call that is late is given up, unless it is a move.
 abbrev pub IsServiceDone : (ticks : ℕ) → (old : Desk) → Service → (new : Desk) → Type 0
 IsServiceDone ticks old (Service.Arrives client command) new = IsArrived old client command new
 IsServiceDone ticks old (Service.Leaves client) new = IsGone old client new
@@ -132,14 +131,14 @@ IsServiceDone ticks old (Service.Releases id told) new =
 IsServiceDone ticks old Service.Drops new =
     (new.clients ≡ old.clients) × (new.calls ≡ old.calls) × (new.counts ≡ with_drop old.counts)
 
--- the desk after these, one after another
+-- how the desk changes with these services, one after another
 abbrev pub AreServicesDone : (ticks : ℕ) → (old : Desk) → List Service → (new : Desk) → Type 0
 AreServicesDone ticks old [] new = new ≡ old
 AreServicesDone ticks old (service ∷ services) new =
     (between : Desk) × IsServiceDone ticks old service between × AreServicesDone ticks between services new
 
--- the desk did these things, one after another, and what there is to do grew by the frames that clients are sent for
--- them, by the connections that are idle again, and by what clients see of them
+-- the desk did these services, one after another, and the work grew by the frames that clients are sent for them, by
+-- the connections that are idle again, and by what clients see of them
 pub record HasServed (ticks : ℕ) (old : Desk) (before : Work) (services : List Service) (new : Desk)
     (after : Work) : Type 0 where
   pub served : AreServicesDone ticks old services new

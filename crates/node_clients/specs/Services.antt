@@ -1,5 +1,5 @@
 -- The contracts that docs/trusted.md lists do not depend on this file; other contracts and proofs do.
--- What a node does for its clients, one thing after another, and what they are sent for it.
+-- The services that a node does for its clients, and what clients are sent for each.
 use Rattle.std.specs.Prelude.{ℕ, List, [], ◌∷◌, ◌++◌, Option, None, Some}
 use Rattle.local_object.specs.declared.progress.Ended.{Ended}
 use Rattle.client_commands.specs.declared.answer.Answer.{Answer}
@@ -13,10 +13,10 @@ use Rattle.node_effects.specs.declared.notice.Notice.{Notice}
 use Rattle.node_effects.specs.declared.notice.Notice.TheVariants as notice
 use Rattle.node_clients.specs.Answers.{answer_frame, ended_answer}
 
--- What happens at the desk of a node: a command of a client comes, or its connection ends; the next command of a client
--- begins the call with an id, or gets an answer at once, or ends the connection; the call about the object of a name is
--- answered, and this client is told, if one is; a call is older by a tick, or it is late then: it is given up, or its
--- client, if one is told, waits for it no more; a frame is dropped.
+-- One thing that a node does for its clients. A command of a client comes, or a client's connection ends. The next
+-- command of a client begins the call with an id, or is answered at once, or is a QUIT. A call of the object of a name
+-- is answered. A call gets older by a tick. A late call is given up, or its client no longer waits for it. A frame is
+-- dropped. `told` is the client that is told, if one is.
 pub data Service : Type 0 where
   Arrives : (client : ℕ) → (command : Strings) → Service
   Leaves : (client : ℕ) → Service
@@ -39,8 +39,8 @@ abbrev pub told_clients : (told : Option ℕ) → List ℕ
 told_clients None = []
 told_clients (Some client) = client ∷ []
 
--- the frames that clients are sent: the answer of a command to its client, and behind that of a QUIT the frame by which
--- the host closes the connection
+-- the frames that clients are sent: answers, and after the answer to a QUIT the frame that tells the host to close the
+-- connection
 abbrev pub service_frames : Service → List Strings
 service_frames (Service.Replies client command answer) = answer_frame client answer ∷ []
 service_frames (Service.Quits client) = answer_frame client answer.Ok ∷ (client_address client ∷ []) ∷ []
@@ -70,17 +70,17 @@ service_notices (Service.Begins client command id) = begun_notices command id
 service_notices (Service.Ends name ended told) = notice.Tells name ended ∷ []
 service_notices service = []
 
--- the frames of these, one after another
+-- the frames of these services, one after another
 abbrev pub all_frames : List Service → List Strings
 all_frames [] = []
 all_frames (service ∷ services) = service_frames service ++ all_frames services
 
--- the connections that are idle again after these, one after another
+-- the connections that are idle again after these services, one after another
 abbrev pub all_dues : List Service → List ℕ
 all_dues [] = []
 all_dues (service ∷ services) = service_dues service ++ all_dues services
 
--- what clients see of these, one after another
+-- what clients see of these services, one after another
 abbrev pub all_notices : List Service → List Notice
 all_notices [] = []
 all_notices (service ∷ services) = service_notices service ++ all_notices services

@@ -1,15 +1,15 @@
-//! What a node counts since its start, for `INFO` alone.
+//! What a node counts from its start on. Only the answer to `INFO` shows these counts.
 
-/// Counts since the start of a node, each at most 2^64 - 1.
+/// What a node has counted since its start. A count stops at 2^64 - 1.
 #[derive(Clone, Copy, Debug, PartialEq, Eq)]
 pub struct Counts {
     /// Commands of clients that were answered, except `QUIT`.
     pub answered: u64,
     /// Reads and writes that were given up.
     pub given_up: u64,
-    /// Frames that came in and were dropped: malformed ones, ones of another cluster, and ones of no node.
+    /// Frames that came in and were dropped: malformed frames, and frames that no node of this cluster sent.
     pub dropped: u64,
-    /// The length of the log in bytes, as it was last noted.
+    /// The length of the log in bytes, as the node was last told.
     pub log_bytes: u64,
 }
 

@@ -23,7 +23,7 @@ mod endings;
 
 /// The connections of a node's clients, and the calls that the node carries out.
 ///
-/// If a function fails, its contract says nothing of what was sent, because the node stops.
+/// If a function fails, its contract says nothing about what was sent, because the node stops.
 #[derive(Drop)]
 pub struct Desk {
     alloc: Global,
@@ -36,7 +36,7 @@ pub struct Desk {
 }
 
 impl Desk {
-    /// A desk without clients and calls, with all counts 0. It allocates no memory.
+    /// Makes a desk without clients and calls, with all counts 0. It allocates no memory.
     pub fn new(alloc: Global) -> Desk
         ensures clients { result.clients.by_number.entries ≡ [] }
         ensures calls { result.calls.entries ≡ [] }
@@ -50,7 +50,7 @@ impl Desk {
         }
     }
 
-    /// A client quits: it gets `OK`, and the host closes the connection. `NoMemory`.
+    /// Answers a client that quits with `OK`, and has the host close the connection. Fails with `NoMemory`.
     pub fn quit(&mut self, client: ConnectionId, work: &mut Work) -> Result<(), NodeError>
         ensures grown { OnOk result (IsGrown work.old work.new (quit_growth client)) }
         ensures tells { OnOk result (TellsClients work.old work.new) }

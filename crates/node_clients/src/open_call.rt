@@ -16,11 +16,11 @@ pub struct OpenCall {
     pub client: Option<ConnectionId>,
     /// Whether it is a move, which is never given up.
     pub is_move: bool,
-    /// The number of ticks since it began, of at most 2^32 - 1.
+    /// The number of ticks since it began, at most 2^32 - 1.
     pub age: u32,
 }
 
-/// An open call at a tick.
+/// What `Desk::aged` returns of an open call that a tick has made older.
 #[derive(Debug, Drop)]
 pub struct Aged {
     /// The name of its object.
@@ -29,13 +29,13 @@ pub struct Aged {
     pub is_move: bool,
     /// Whether it has been open for too many ticks.
     pub is_late: bool,
-    /// Whether it is to ask those again that have not replied.
+    /// Whether its requests are to be sent again to the members that have not replied.
     pub asks_again: bool,
 }
 
 impl OpenCall {
-    /// The call is older by a tick. It is late where it is older than this number of ticks, and asks again after 1, 2,
-    /// 4, 8, 16, 32 and 64 ticks, and then at each 64th tick. `NoMemory`, and nothing changes.
+    /// Makes the call older by a tick. It is late if it is then older than this number of ticks. It asks again after 2,
+    /// 4, 8, 16, 32 and 64 ticks, and then at each 64th tick. Fails with `NoMemory`, and then nothing changes.
     pub(crate) fn grow_older(&mut self, ticks: u32) -> Result<Aged, NodeError>
         ensures older { OnOk result (self.new ≡ older_of self.old) }
         ensures aged { IfOk result (λ aged. aged ≡ aged_of ticks self.old) }
@@ -61,5 +61,5 @@ impl OpenCall {
 fn asks_at(age: u32) -> bool
     ensures { result ≡ asks_at age }
 {
-    age == 1 || age == 2 || age == 4 || age == 8 || age == 16 || age == 32 || age % 64 == 0
+    age == 2 || age == 4 || age == 8 || age == 16 || age == 32 || age % 64 == 0
 }

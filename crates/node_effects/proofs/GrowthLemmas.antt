@@ -1,13 +1,14 @@
 -- How what a node has to do grows.
-use Rattle.std.proofs.Common.{◌≡◌, List, ◌++◌, sym, subst, ap, ◌∙◌}
+use Rattle.std.proofs.Common.{◌≡◌, ℕ, List, [], ◌∷◌, ◌++◌, refl, sym, subst, ap, ◌∙◌}
 use Rattle.std.proofs.lemmas.List.{append-nil, append_assoc}
-use Rattle.node_effects.specs.Work.{Growth, IsGrown, both_grown, no_growth}
+use Rattle.node_effects.specs.Work.{Growth, IsGrown, both_grown, entries_in, log_all, no_growth}
+use Rattle.node_effects.specs.declared.output.Output.{Output}
+use Rattle.node_effects.specs.declared.output.Output.TheVariants as output
 use Rattle.node_effects.specs.declared.work.Work.{Work}
 
 pub grown_none : (work : Work) → IsGrown work work no_growth
 grown_none work = record {
-  entries = sym (append-nil work.entries.items);
-  to_nodes = sym (append-nil work.to_nodes.items);
+  outputs = sym (append-nil work.outputs.items);
   to_clients = sym (append-nil work.to_clients.items);
   notices = sym (append-nil work.notices.items);
   own = sym (append-nil work.own.items);
@@ -20,8 +21,7 @@ grown_list a b c x y first second = second ∙ ap (λ xs. xs ++ y) first ∙ app
 pub grown_then : (a b c : Work) (first second : Growth) → IsGrown a b first → IsGrown b c second →
     IsGrown a c (both_grown first second)
 grown_then a b c first second f s = record {
-  entries = grown_list a.entries.items b.entries.items c.entries.items first.entries second.entries f.entries s.entries;
-  to_nodes = grown_list a.to_nodes.items b.to_nodes.items c.to_nodes.items first.to_nodes second.to_nodes f.to_nodes s.to_nodes;
+  outputs = grown_list a.outputs.items b.outputs.items c.outputs.items first.outputs second.outputs f.outputs s.outputs;
   to_clients = grown_list a.to_clients.items b.to_clients.items c.to_clients.items first.to_clients second.to_clients
       f.to_clients s.to_clients;
   notices = grown_list a.notices.items b.notices.items c.notices.items first.notices second.notices f.notices s.notices;
@@ -31,3 +31,14 @@ grown_then a b c first second f s = record {
 
 pub grown_as : (a b : Work) (growth same : Growth) → IsGrown a b growth → growth ≡ same → IsGrown a b same
 grown_as a b growth same is e = subst (λ g. IsGrown a b g) e is
+
+-- the entries of outputs, one after another
+pub entries_append : (xs ys : List Output) → entries_in (xs ++ ys) ≡ entries_in xs ++ entries_in ys
+entries_append [] ys = refl
+entries_append (output.Log entry ∷ xs) ys = ap (λ zs. entry ∷ zs) (entries_append xs ys)
+entries_append (output.Send frame ∷ xs) ys = entries_append xs ys
+
+-- outputs that are all entries
+pub entries_all : (entries : List (List (List ℕ))) → entries_in (log_all entries) ≡ entries
+entries_all [] = refl
+entries_all (entry ∷ entries) = ap (λ zs. entry ∷ zs) (entries_all entries)

@@ -6,19 +6,20 @@ use std::alloc::{AllocError, AllocFailed};
 use tag::Refusal;
 use thiserror::Error;
 
-/// Why a node cannot go on. What it keeps is then not to be used any more: the node is started again from its log.
+/// Why a node cannot go on. After an error nobody may use what the node keeps: the node is started again from its log.
 #[derive(Clone, Copy, Debug, PartialEq, Eq, Error)]
 pub enum NodeError {
     /// Memory is refused.
     #[error("out of memory")]
     NoMemory,
-    /// The node began as many epochs as there are, so that it has no more ids for its calls.
+    /// The node has begun all of its 2^24 epochs, so it has no more ids for its calls.
     #[error("no more ids for calls")]
     NoMoreIds,
-    /// A message has no frame, or an entry is too long. A node makes no such message and no such entry.
+    /// A message has no frame, or an entry has too many strings or one that is too long. A node makes no such message
+    /// and no such entry.
     #[error("a message that has no frame")]
     Unwritable,
-    /// An object refused what a node may always do.
+    /// An object refused something that a node may always do.
     #[error("refused: {0}")]
     Refused(Refusal),
 }
@@ -93,16 +94,16 @@ pub enum RecoveryError {
     /// The log does not begin with the entry that names the cluster and the node.
     #[error("the log does not begin with a cluster")]
     NoCluster,
-    /// The log is that of a cluster whose file has another digest.
+    /// The log belongs to a cluster whose file has this digest, which is not that of the node's cluster file.
     #[error("the log is of another cluster: a setting that is fixed at the first start differs in the cluster file")]
     OtherCluster([u8; DIGEST_LENGTH]),
-    /// The log is that of the node of this number.
+    /// The log belongs to the node with this number, which is another node.
     #[error("the log is that of node {0}")]
     OtherNode(u8),
-    /// The entry is none that a node makes.
+    /// No node makes such an entry.
     #[error("no entry of a node")]
     NoEntry,
-    /// The entry cannot be carried out.
+    /// The entry cannot be carried out again, because the node cannot go on.
     #[error("{0}")]
     Stopped(NodeError),
 }

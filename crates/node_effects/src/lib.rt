@@ -1,4 +1,4 @@
-//! What a node wants done after a frame, what it has still to do itself, and why it stops.
+//! What a node wants done after it has handled a frame, what it still has to do itself, and why it stops.
 #![tactic(auto)]
 
 pub use effects::Effects;
@@ -6,6 +6,7 @@ pub use error::{NodeError, RecoveryError};
 pub use letter::NamedLetter;
 pub use machine::Machine;
 pub use notice::Notice;
+pub use output::Output;
 pub use work::Work;
 
 mod effects;
@@ -13,4 +14,5 @@ mod error;
 mod letter;
 mod machine;
 mod notice;
+mod output;
 mod work;

@@ -3,7 +3,7 @@ use crate::error::{NodeError, RecoveryError};
 use frames::Frame;
 use node_log::Entry;
 
-/// A deterministic machine over frames, with a log.
+/// A deterministic machine that handles frames and has a log, such as a node.
 pub trait Machine {
     ghost use Rattle.std.specs.Prelude.{ℕ, List, OnOk, IfOk};
     ghost use Rattle.node_effects.specs.declared.effects.Effects.{Effects as Wanted};
@@ -25,7 +25,7 @@ pub trait Machine {
     fn handle(&mut self, frame: Frame) -> Result<Effects, NodeError>
         ensures { IfOk result (λ effects. handles self.old frame effects self.new) };
 
-    /// Is told how long the log is, in bytes.
+    /// Notes how many bytes the log has.
     fn note_log(&mut self, bytes: u64)
         ensures { notes self.old bytes self.new };
 }

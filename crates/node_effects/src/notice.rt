@@ -3,7 +3,7 @@ use layout::Layout;
 use local_object::Ended;
 use tag::CallId;
 
-/// What the clients of a node see.
+/// Something that clients of a node see: a call begins, or it is answered.
 #[derive(Debug, Drop)]
 pub enum Notice {
     /// A read of the object of this name began.

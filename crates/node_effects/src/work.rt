@@ -1,20 +1,20 @@
-//! What a node has still to do.
+//! What a node still has to do.
 ghost use Rattle.std.specs.Prelude.{◌≡◌, ◌∷◌, ◌++◌, [], IfErr, IfOk, MatchResult, OnOk};
 ghost use Rattle.frames.specs.Frame.{IsFrame};
-ghost use Rattle.node_log.specs.Entry.{IsEntry, sealed};
+ghost use Rattle.node_log.specs.Entry.{IsEntry};
 ghost use Rattle.node_strings.specs.Arrival.{client_address, node_address};
 ghost use Rattle.node_strings.specs.Record.{record_strings};
 ghost use Rattle.client_commands.specs.Answers.{sent_strings};
 ghost use Rattle.node_effects.specs.Errors.{WritesOrFails};
 ghost use Rattle.node_effects.specs.declared.error.NodeError.TheVariants.{NoMemory, Unwritable};
 ghost use Rattle.node_effects.specs.Work.{IsEmpty, IsGrown, one_due, one_entry, one_notice, one_own};
-ghost use Rattle.node_effects.specs.Work.{to_client, to_node};
-ghost use Rattle.node_effects.specs.Work.{IsDueTaken, IsOwnTaken};
+ghost use Rattle.node_effects.specs.Work.{IsDueTaken, IsOwnTaken, OnlyLogs, entries_in, to_client, to_node};
 
 use crate::effects::Effects;
 use crate::error::NodeError;
 use crate::letter::NamedLetter;
 use crate::notice::Notice;
+use crate::output::Output;
 use bytes::Bytes;
 use client_commands::{Answer, push_answer};
 use frames::{Frame, FrameError};
@@ -23,35 +23,32 @@ use node_strings::{ConnectionId, Record, client_address, node_address, record_st
 use std::alloc::Global;
 use std::collections::VecDeque;
 
-/// What a node has still to do before it is done with a frame, and what it wants done afterwards.
+/// What a node still has to do before it is done with a frame, and what it wants done afterwards.
 ///
-/// Where a function is refused, nothing is said of what the work is afterwards: the node stops.
+/// If a function fails, its contract says nothing about the work afterwards, because the node stops.
 #[derive(Debug, Drop)]
 pub struct Work {
     alloc: Global,
-    /// What the log gets.
-    pub entries: Vec<Entry>,
-    /// Frames to other nodes, each with its address in front.
-    pub to_nodes: Vec<Frame>,
+    /// Entries for the log, and frames to other nodes, in the order in which they were wanted.
+    pub outputs: Vec<Output>,
     /// Frames to clients, each with its address in front.
     pub to_clients: Vec<Frame>,
     /// What clients see: calls that began, and answers, in this order.
     pub notices: Vec<Notice>,
     /// The node's letters to itself, oldest first.
     pub own: VecDeque<NamedLetter>,
-    /// The connections whose command has been answered, oldest first.
+    /// The connections whose next command is due, the one that has been due longest first.
     pub due: VecDeque<ConnectionId>,
 }
 
 impl Work {
-    /// Nothing to do yet.
+    /// Makes work in which there is nothing to do yet.
     pub fn new(alloc: Global) -> Work
         ensures { IsEmpty result }
     {
         Work {
             alloc,
-            entries: Vec::new(alloc),
-            to_nodes: Vec::new(alloc),
+            outputs: Vec::new(alloc),
             to_clients: Vec::new(alloc),
             notices: Vec::new(alloc),
             own: VecDeque::new(alloc),
@@ -59,18 +56,19 @@ impl Work {
         }
     }
 
-    /// The entry that records this goes to the log. `NoMemory`, and `Unwritable` where the strings are too many or too
-    /// long for an entry.
+    /// Adds the entry of this record to those that the log gets. Fails with `NoMemory`, or with `Unwritable` if its
+    /// strings are too many or too long for an entry.
     pub fn log(&mut self, it: &Record) -> Result<(), NodeError>
-        ensures grown { OnOk result (IsGrown self.old self.new (one_entry (sealed (record_strings it.now)))) }
+        ensures grown { OnOk result (IsGrown self.old self.new (one_entry (record_strings it.now))) }
         ensures writes { WritesOrFails (IsEntry (record_strings it.now)) result }
     {
         let entry = Entry::new(self.alloc, record_strings(self.alloc, it)?)?;
-        self.entries.push(entry)?;
+        self.outputs.push(Output::Log(entry))?;
         Ok(())
     }
 
-    /// A frame goes to another node. `NoMemory`, and `Unwritable` where the frame has `MOST_STRINGS` strings.
+    /// Adds a frame to another node. Fails with `NoMemory`, or with `Unwritable` if the frame has `MOST_STRINGS`
+    /// strings.
     pub fn send(&mut self, node: u8, frame: Frame) -> Result<(), NodeError>
         ensures grown { OnOk result (IsGrown self.old self.new (to_node (node_address node ∷ frame))) }
         ensures writes { WritesOrFails (IsFrame (node_address node ∷ frame)) result }
@@ -78,12 +76,12 @@ impl Work {
         let mut strings = frame.into_strings();
         strings.insert(0, node_address(self.alloc, node)?)?;
         let frame = frame_of(strings)?;
-        self.to_nodes.push(frame)?;
+        self.outputs.push(Output::Send(frame))?;
         Ok(())
     }
 
-    /// An answer goes to a client. `NoMemory`, and `Unwritable` where the answer has a value longer than a string of a
-    /// frame.
+    /// Adds an answer to a client. Fails with `NoMemory`, or with `Unwritable` if the answer has a value that is longer
+    /// than a string of a frame may be.
     pub fn answer(&mut self, client: ConnectionId, answer: Answer) -> Result<(), NodeError>
         ensures grown { OnOk result
             (IsGrown self.old self.new (to_client (client_address client ∷ sent_strings answer))) }
@@ -97,7 +95,7 @@ impl Work {
         Ok(())
     }
 
-    /// The host closes a client's connection, behind what was written. `NoMemory`.
+    /// Adds the frame that tells the host to close a client's connection. Fails with `NoMemory`.
     pub fn close(&mut self, client: ConnectionId) -> Result<(), NodeError>
         ensures grown { OnOk result (IsGrown self.old self.new (to_client (client_address client ∷ []))) }
         ensures refused { IfErr result (λ e. e ≡ NoMemory) }
@@ -109,7 +107,7 @@ impl Work {
         Ok(())
     }
 
-    /// Clients see this. `NoMemory`.
+    /// Adds something that clients see. Fails with `NoMemory`.
     pub fn note(&mut self, notice: Notice) -> Result<(), NodeError>
         ensures grown { OnOk result (IsGrown self.old self.new (one_notice notice)) }
         ensures refused { IfErr result (λ e. e ≡ NoMemory) }
@@ -118,7 +116,7 @@ impl Work {
         Ok(())
     }
 
-    /// A letter of the node to itself waits. `NoMemory`.
+    /// Adds a letter of the node to itself. Fails with `NoMemory`.
     pub fn keep(&mut self, letter: NamedLetter) -> Result<(), NodeError>
         ensures grown { OnOk result (IsGrown self.old self.new (one_own letter)) }
         ensures refused { IfErr result (λ e. e ≡ NoMemory) }
@@ -127,7 +125,7 @@ impl Work {
         Ok(())
     }
 
-    /// The next command of a connection is due. `NoMemory`.
+    /// Adds a connection whose next command is due. Fails with `NoMemory`.
     pub fn make_due(&mut self, client: ConnectionId) -> Result<(), NodeError>
         ensures grown { OnOk result (IsGrown self.old self.new (one_due client)) }
         ensures refused { IfErr result (λ e. e ≡ NoMemory) }
@@ -136,44 +134,67 @@ impl Work {
         Ok(())
     }
 
-    /// The oldest letter of the node to itself, which waits no more. None, and nothing changes, where none waits.
+    /// Removes and returns the oldest letter of the node to itself. Returns none and changes nothing if none waits.
     pub fn next_own(&mut self) -> Option<NamedLetter>
         ensures { IsOwnTaken self.old self.new result }
     {
         self.own.pop_front()
     }
 
-    /// The connection whose next command has been due longest, and is due no more. None, and nothing changes, where
-    /// none is due.
+    /// Removes and returns the connection whose next command has been due longest. Returns none and changes nothing if
+    /// no connection is due.
     pub fn next_due(&mut self) -> Option<ConnectionId>
         ensures { IsDueTaken self.old self.new result }
     {
         self.due.pop_front()
     }
 
-    /// What the node wants done. Frames to nodes stand before those to clients. `NoMemory`.
-    pub fn into_effects(self) -> Result<Effects, NodeError>
-        ensures entries { IfOk result (λ effects. effects.entries.items ≡ self.entries.items) }
-        ensures frames { IfOk result (λ effects. effects.frames.items ≡ self.to_nodes.items ++ self.to_clients.items) }
-        ensures notices { IfOk result (λ effects. effects.notices.items ≡ self.notices.items) }
-        ensures refused { IfErr result (λ e. e ≡ NoMemory) }
+    /// What the node wants done. It may have no letter to itself left, and no connection whose next command is due.
+    pub fn into_effects(self) -> Effects
+        requires own { self.own.items ≡ [] }
+        requires due { self.due.items ≡ [] }
+        ensures outputs { result.outputs.items ≡ self.outputs.items }
+        ensures answers { result.answers.items ≡ self.to_clients.items }
+        ensures notices { result.notices.items ≡ self.notices.items }
     {
         let Work {
-            entries,
-            to_nodes,
+            outputs,
             to_clients,
             notices,
             ..
         } = self;
-        let mut frames = to_nodes;
-        let mut to_clients = to_clients;
-        frames.append(&mut to_clients)?;
-        Ok(Effects {
-            entries,
-            frames,
+        Effects {
+            outputs,
+            answers: to_clients,
             notices,
-        })
+        }
     }
+
+    /// The entries for the log, where there is nothing else to do. `NoMemory`.
+    pub fn into_entries(self) -> Result<Vec<Entry>, NodeError>
+        requires { OnlyLogs self }
+        ensures entries { IfOk result (λ entries. entries.items ≡ entries_in self.outputs.items) }
+        ensures refused { IfErr result (λ e. e ≡ NoMemory) }
+    {
+        let Work { alloc, outputs, .. } = self;
+        let mut entries = Vec::new(alloc);
+        for output in outputs {
+            push_entry(&mut entries, output)?;
+        }
+        Ok(entries)
+    }
+}
+
+// An entry comes behind others. A frame does not.
+fn push_entry(entries: &mut Vec<Entry>, output: Output) -> Result<(), NodeError>
+    ensures pushed { OnOk result (entries.new.items ≡ entries.old.items ++ entries_in (output ∷ [])) }
+    ensures refused { IfErr result (λ e. e ≡ NoMemory) }
+{
+    match output {
+        Output::Log(entry) => entries.push(entry)?,
+        Output::Send(_) => (),
+    }
+    Ok(())
 }
 
 // The frame of these strings.

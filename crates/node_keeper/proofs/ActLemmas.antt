@@ -13,28 +13,31 @@ use Rattle.deeds.proofs.IdLemmas.{later_same}
 use Rattle.deeds.proofs.ListLemmas.{all_append, all_weaker}
 use Rattle.recoveries.specs.Copies.{IsLogged}
 use Rattle.recoveries.specs.Records.{LogRecord}
-use Rattle.recoveries.specs.Stops.{IsHandledSafely}
+use Rattle.recoveries.specs.Stops.{IsHandledSafely, Output as Left, logged_first, sent_in}
 use Rattle.recoveries.proofs.LoggedLemmas.{same_unlogged}
 use Rattle.recoveries.proofs.StopLemmas.{more_safe, one_safe, two_safe, unlogged_safe}
 use Rattle.node_effects.specs.Seen.{all_seen, seen_of}
-use Rattle.node_effects.specs.Work.{Growth, IsGrown, both_grown}
+use Rattle.node_effects.specs.Work.{Growth, IsGrown, both_grown, log_all, send_all}
 use Rattle.node_effects.specs.declared.work.Work.{Work}
 use Rattle.node_effects.proofs.GrowthLemmas.{grown_then}
 use Rattle.node_keeper.specs.Acts.{Acts}
 use Rattle.node_keeper.specs.Keeping.{kept_of}
 use Rattle.node_keeper.specs.Logging.{IsReadBack, log_entry_of}
 use Rattle.node_keeper.specs.Sendings.{IsDirected, Sending, letters_of, posted, to_itself}
+use Rattle.node_keeper.specs.Wants.{left_by, outputs_of, records_in, sends_in}
 use Rattle.node_keeper.specs.declared.keeper.Keeper.{Keeper}
 use Rattle.node_keeper.proofs.IdLemmas.{handled_within}
-use Rattle.node_keeper.proofs.SendingLemmas.{letters_append, posted_append, to_itself_append}
+use Rattle.node_keeper.proofs.SendingLemmas.{to_itself_append}
+use Rattle.node_keeper.proofs.WantLemmas.{in_order, left_append, left_ordered, left_sent, outputs_append, outputs_ordered}
+use Rattle.node_keeper.proofs.WantLemmas.{records_append, records_ordered, sends_append, sends_ordered}
 
--- what is sent, and what clients see, may be given in other words
-pub safe_as : (old : KeptNode) (got : List Named) (records : List LogRecord) (new : KeptNode) (sent also : List Named)
-    (notices too : List Seen) → IsHandledSafely fragment old got records new sent notices → also ≡ sent → too ≡ notices →
-    IsHandledSafely fragment old got records new also too
-safe_as old got records new sent also notices too is letters seen =
-    subst (λ ns. IsHandledSafely fragment old got records new also ns) (sym seen)
-    (subst (λ xs. IsHandledSafely fragment old got records new xs notices) (sym letters) is)
+-- what leaves the node, and what clients see, may be given in other words
+pub safe_as : (old : KeptNode) (got : List Named) (outputs also : List Left) (new : KeptNode) (notices too : List Seen) →
+    IsHandledSafely fragment old got outputs new notices → also ≡ outputs → too ≡ notices →
+    IsHandledSafely fragment old got also new too
+safe_as old got outputs also new notices too is same seen =
+    subst (λ ns. IsHandledSafely fragment old got also new ns) (sym seen)
+    (subst (λ xs. IsHandledSafely fragment old got xs new notices) (sym same) is)
 
 -- there are no records, or one
 abbrev pub AreFew : List LogRecord → Type 0
@@ -43,12 +46,12 @@ AreFew records = (records ≡ []) ⊎ ((one : LogRecord) × (records ≡ one ∷
 -- what needs no record, or one, is handled safely
 pub few_safe : (old : KeptNode) (got : List Named) (records : List LogRecord) (new : KeptNode) (sent : List Named)
     (notices : List Seen) → AreFew records → HasRanges old.ids → IsHandled fragment old got new sent notices →
-    IsLogged old records new → IsHandledSafely fragment old got records new sent notices
+    IsLogged old records new → IsHandledSafely fragment old got (logged_first records sent) new notices
 few_safe old got records new sent notices (inl none) within handled logged =
-    subst (λ rs. IsHandledSafely fragment old got rs new sent notices) (sym none)
+    subst (λ rs. IsHandledSafely fragment old got (logged_first rs sent) new notices) (sym none)
     (unlogged_safe fragment old new got sent notices handled (subst (λ rs. IsLogged old rs new) none logged))
 few_safe old got records new sent notices (inr few) within handled logged =
-    subst (λ rs. IsHandledSafely fragment old got rs new sent notices) (sym few.1)
+    subst (λ rs. IsHandledSafely fragment old got (logged_first rs sent) new notices) (sym few.1)
     (one_safe fragment old new got sent notices few.0 (later_same old.ids within) handled
     (subst (λ rs. IsLogged old rs new) few.1 logged))
 
@@ -56,23 +59,56 @@ few_safe old got records new sent notices (inr few) within handled logged =
 pub same_logged : (node : KeptNode) → IsLogged node [] node
 same_logged node = same_unlogged node node (record { file = refl; node = refl; epoch = refl; objects = λ name. refl })
 
+-- the parts of what a node does where its records go to the log before its letters go out
+pub record ActsInOrder (asker : ℕ) (got : List Named) (old : Keeper) (before : Work) (new : Keeper)
+    (after : Work) : Type 0 where
+  pub sends : List Sending
+  pub records : List LogRecord
+  pub growth : Growth
+  pub grown : IsGrown before after growth
+  pub outputs : growth.outputs ≡
+      log_all (map (log_entry_of old.digest) records) ++ send_all (posted old.ids.node old.digest sends)
+  pub read : AllByRecursion (IsReadBack old.digest) records
+  pub own : growth.own ≡ to_itself old.ids.node sends
+  pub addressed : AllByRecursion (IsDirected old.ids.node asker) sends
+  pub handled : HasRanges old.ids → IsHandledSafely fragment (kept_of old) got (logged_first records (letters_of sends))
+      (kept_of new) (all_seen growth.notices)
+  pub node : new.ids.node ≡ old.ids.node
+  pub digest : new.digest ≡ old.digest
+
+pub acts_in_order : (asker : ℕ) (got : List Named) (old new : Keeper) (before after : Work) →
+    ActsInOrder asker got old before new after → Acts asker got old before new after
+acts_in_order asker got old new before after a =
+    let seen = all_seen a.growth.notices in record {
+      wants = in_order a.records a.sends;
+      growth = a.growth;
+      grown = a.grown;
+      outputs = a.outputs ∙ sym (outputs_ordered old.ids.node old.digest a.records a.sends);
+      read = subst (λ rs. AllByRecursion (IsReadBack old.digest) rs) (sym (records_ordered a.records a.sends)) a.read;
+      own = a.own ∙ ap (λ xs. to_itself old.ids.node xs) (sym (sends_ordered a.records a.sends));
+      addressed = subst (λ xs. AllByRecursion (IsDirected old.ids.node asker) xs) (sym (sends_ordered a.records a.sends))
+          a.addressed;
+      handled = λ within. safe_as (kept_of old) got (logged_first a.records (letters_of a.sends))
+          (left_by (in_order a.records a.sends)) (kept_of new) seen seen (a.handled within) (left_ordered a.records a.sends) refl;
+      node = a.node;
+      digest = a.digest;
+    }
+
 -- nothing is done with objects, nothing is sent or logged, and clients see nothing
 pub acts_rest : (asker : ℕ) (got : List Named) (keeper : Keeper) (before after : Work) (growth : Growth) →
-    IsGrown before after growth → growth.entries ≡ [] → growth.to_nodes ≡ [] → growth.own ≡ [] → growth.notices ≡ [] →
+    IsGrown before after growth → growth.outputs ≡ [] → growth.own ≡ [] → growth.notices ≡ [] →
     Acts asker got keeper before keeper after
-acts_rest asker got keeper before after growth grown entries to_nodes own notices = record {
-  sends = [];
-  records = [];
+acts_rest asker got keeper before after growth grown outputs own notices = record {
+  wants = [];
   growth = growth;
   grown = grown;
-  entries = entries;
+  outputs = outputs;
   read = tt;
-  to_nodes = to_nodes;
   own = own;
   addressed = tt;
   handled = λ within.
       let node = kept_of keeper in
-      safe_as node got [] node [] [] [] (all_seen growth.notices)
+      safe_as node got [] [] node [] (all_seen growth.notices)
       (unlogged_safe fragment node node got [] [] (nothing_handled fragment node got keeper.ids (later_same keeper.ids within))
       (same_logged node)) refl (ap all_seen notices);
   node = refl;
@@ -83,42 +119,44 @@ acts_rest asker got keeper before after growth grown entries to_nodes own notice
 pub acts_then : (asker other : ℕ) (got more : List Named) (a b c : Keeper) (u v w : Work) →
     (first : Acts asker got a u b v) → Acts other more b v c w →
     ((send : Sending) → IsDirected a.ids.node other send → IsDirected a.ids.node asker send) →
-    ((letter : Named) → IsOneOf more letter → IsOneOf (got ++ letters_of first.sends) letter) →
+    ((letter : Named) → IsOneOf more letter → IsOneOf (got ++ letters_of (sends_in first.wants)) letter) →
     Acts asker got a u c w
 acts_then asker other got more a b c u v w first second addressed among =
     let n = a.ids.node in
     let f = first.growth in
     let s = second.growth in record {
-      sends = first.sends ++ second.sends;
-      records = first.records ++ second.records;
+      wants = first.wants ++ second.wants;
       growth = both_grown f s;
       grown = grown_then u v w f s first.grown second.grown;
-      entries = ap (λ xs. xs ++ s.entries) first.entries
-          ∙ ap (λ xs. map (log_entry_of a.digest) first.records ++ xs) (second.entries
-          ∙ ap (λ d. map (log_entry_of d) second.records) first.digest)
-          ∙ sym (map-append (log_entry_of a.digest) first.records second.records);
-      read = all_append (IsReadBack a.digest) first.records second.records first.read
-          (subst (λ d. AllByRecursion (IsReadBack d) second.records) first.digest second.read);
-      to_nodes = ap (λ xs. xs ++ s.to_nodes) first.to_nodes
-          ∙ ap (λ xs. posted n a.digest first.sends ++ xs) (second.to_nodes
-          ∙ ap (λ m. posted m b.digest second.sends) first.node ∙ ap (λ d. posted n d second.sends) first.digest)
-          ∙ sym (posted_append n a.digest first.sends second.sends);
+      outputs = ap (λ xs. xs ++ s.outputs) first.outputs
+          ∙ ap (λ xs. outputs_of n a.digest first.wants ++ xs) (second.outputs
+          ∙ ap (λ m. outputs_of m b.digest second.wants) first.node ∙ ap (λ d. outputs_of n d second.wants) first.digest)
+          ∙ sym (outputs_append n a.digest first.wants second.wants);
+      read = subst (λ rs. AllByRecursion (IsReadBack a.digest) rs) (sym (records_append first.wants second.wants))
+          (all_append (IsReadBack a.digest) (records_in first.wants) (records_in second.wants) first.read
+          (subst (λ d. AllByRecursion (IsReadBack d) (records_in second.wants)) first.digest second.read));
       own = ap (λ xs. xs ++ s.own) first.own
-          ∙ ap (λ xs. to_itself n first.sends ++ xs) (second.own ∙ ap (λ m. to_itself m second.sends) first.node)
-          ∙ sym (to_itself_append n first.sends second.sends);
-      addressed = all_append (IsDirected n asker) first.sends second.sends first.addressed
-          (all_weaker (IsDirected n other) (IsDirected n asker) addressed second.sends
-          (subst (λ m. AllByRecursion (IsDirected m other) second.sends) first.node second.addressed));
+          ∙ ap (λ xs. to_itself n (sends_in first.wants) ++ xs) (second.own
+          ∙ ap (λ m. to_itself m (sends_in second.wants)) first.node)
+          ∙ sym (to_itself_append n (sends_in first.wants) (sends_in second.wants))
+          ∙ ap (λ xs. to_itself n xs) (sym (sends_append first.wants second.wants));
+      addressed = subst (λ xs. AllByRecursion (IsDirected n asker) xs) (sym (sends_append first.wants second.wants))
+          (all_append (IsDirected n asker) (sends_in first.wants) (sends_in second.wants) first.addressed
+          (all_weaker (IsDirected n other) (IsDirected n asker) addressed (sends_in second.wants)
+          (subst (λ m. AllByRecursion (IsDirected m other) (sends_in second.wants)) first.node second.addressed)));
       handled = λ within.
           let fst = first.handled within in
-          let ids = handled_within fragment (kept_of a) got (kept_of b) (letters_of first.sends) (all_seen f.notices) fst.handled in
-          let snd = more_safe fragment (kept_of b) (kept_of c) more (got ++ letters_of first.sends) (letters_of second.sends)
-          second.records (all_seen s.notices) among (second.handled ids) in
-          safe_as (kept_of a) got (first.records ++ second.records) (kept_of c) (letters_of first.sends ++ letters_of second.sends)
-          (letters_of (first.sends ++ second.sends)) (all_seen f.notices ++ all_seen s.notices) (all_seen (f.notices ++ s.notices))
-          (two_safe fragment (kept_of a) (kept_of b) (kept_of c) got (letters_of first.sends) (letters_of second.sends)
-          first.records second.records (all_seen f.notices) (all_seen s.notices) fst snd)
-          (letters_append first.sends second.sends) (map-append seen_of f.notices s.notices);
+          let left = left_by first.wants in
+          let more_left = left_by second.wants in
+          let ids = handled_within fragment (kept_of a) got (kept_of b) (sent_in left) (all_seen f.notices) fst.handled in
+          let snd = more_safe fragment (kept_of b) (kept_of c) more (got ++ sent_in left) more_left (all_seen s.notices)
+          (λ letter is. subst (λ xs. IsOneOf (got ++ xs) letter) (sym (left_sent first.wants)) (among letter is))
+          (second.handled ids) in
+          safe_as (kept_of a) got (left ++ more_left) (left_by (first.wants ++ second.wants)) (kept_of c)
+          (all_seen f.notices ++ all_seen s.notices) (all_seen (f.notices ++ s.notices))
+          (two_safe fragment (kept_of a) (kept_of b) (kept_of c) got left more_left (all_seen f.notices) (all_seen s.notices)
+          fst snd)
+          (left_append first.wants second.wants) (map-append seen_of f.notices s.notices);
       node = second.node ∙ first.node;
       digest = second.digest ∙ first.digest;
     }
@@ -134,23 +172,21 @@ pub acts_more : (asker : ℕ) (got : List Named) (a b c : Keeper) (u v w : Work)
     Acts asker [] b v c w → Acts asker got a u c w
 acts_more asker got a b c u v w first second =
     acts_then asker asker got [] a b c u v w first second (λ send is. is)
-    (none_of (got ++ letters_of first.sends))
+    (none_of (got ++ letters_of (sends_in first.wants)))
 
 -- letters that had come need not be used
 pub acts_with : (asker : ℕ) (got more : List Named) (a b : Keeper) (u v : Work) →
     ((letter : Named) → IsOneOf got letter → IsOneOf more letter) → Acts asker got a u b v → Acts asker more a u b v
 acts_with asker got more a b u v among acts = record {
-  sends = acts.sends;
-  records = acts.records;
+  wants = acts.wants;
   growth = acts.growth;
   grown = acts.grown;
-  entries = acts.entries;
+  outputs = acts.outputs;
   read = acts.read;
-  to_nodes = acts.to_nodes;
   own = acts.own;
   addressed = acts.addressed;
-  handled = λ within. more_safe fragment (kept_of a) (kept_of b) got more (letters_of acts.sends) acts.records
-      (all_seen acts.growth.notices) among (acts.handled within);
+  handled = λ within. more_safe fragment (kept_of a) (kept_of b) got more (left_by acts.wants) (all_seen acts.growth.notices) among
+      (acts.handled within);
   node = acts.node;
   digest = acts.digest;
 }

@@ -1,6 +1,5 @@
 -- Calls that begin, and that are asked again, as what a node does.
-use Rattle.std.proofs.Common.{◌≡◌, inl, inr, ℕ, List, [], ◌∷◌, map, Some, refl, sym, subst, ap, ◌∙◌}
-use Rattle.std.proofs.lemmas.List.{append-nil}
+use Rattle.std.proofs.Common.{◌≡◌, inl, inr, ℕ, List, [], ◌∷◌, ◌++◌, map, Some, refl, sym, subst, ap, ◌∙◌}
 use Rattle.std.specs.List.{AllByRecursion}
 use Rattle.encoder.specs.Fragment.{fragment}
 use Rattle.call_ids.specs.CallId.{CallIds, after_given, next_given_id}
@@ -15,10 +14,11 @@ use Rattle.deeds.proofs.HandledLemmas.{resent_handled}
 use Rattle.deeds.proofs.IdLemmas.{later_same}
 use Rattle.deeds.proofs.MethodLemmas.{begun_handled}
 use Rattle.recoveries.specs.Records.{LogRecord}
+use Rattle.recoveries.specs.Stops.{logged_first}
 use Rattle.node_objects.specs.Doing.{IsDoneAt}
 use Rattle.node_objects.specs.Objects.{objects_of}
 use Rattle.node_effects.specs.Seen.{seen_of}
-use Rattle.node_effects.specs.Work.{Growth, IsGrown, both_grown, no_growth}
+use Rattle.node_effects.specs.Work.{Growth, IsGrown, both_grown, log_all, no_growth, send_all}
 use Rattle.node_effects.specs.declared.notice.Notice.{Notice}
 use Rattle.node_effects.specs.declared.work.Work.{Work}
 use Rattle.node_effects.proofs.GrowthLemmas.{grown_then}
@@ -28,7 +28,7 @@ use Rattle.node_keeper.specs.Logging.{IsReadBack, log_entry_of}
 use Rattle.node_keeper.specs.Keeping.{kept_of}
 use Rattle.node_keeper.specs.Sendings.{asked, letters_of, member_or, posted, sent_growth, to_itself}
 use Rattle.node_keeper.specs.declared.keeper.Keeper.{Keeper}
-use Rattle.node_keeper.proofs.ActLemmas.{AreFew, acts_more, acts_rest, few_safe, safe_as, same_logged}
+use Rattle.node_keeper.proofs.ActLemmas.{AreFew, acts_in_order, acts_more, acts_rest, few_safe, safe_as, same_logged}
 use Rattle.node_keeper.proofs.DoneLemmas.{done_to, file_same}
 use Rattle.node_keeper.proofs.EpochLemmas.{epoch_acts, in_epoch}
 use Rattle.node_keeper.proofs.EventLogLemmas.{EventIsLogged}
@@ -53,20 +53,22 @@ next_acts asker old new before noted after name event id letters records notice 
     let n = old.ids.node in
     let node : new.ids.node ≡ n = ap (λ (i : CallIds). i.node) given ∙ next_is_node old.ids in
     let epoch : new.ids.epoch ≡ old.ids.epoch = ap (λ (i : CallIds). i.epoch) given ∙ next_epoch old.ids in
-    let entries = map (log_entry_of old.digest) records in
+    let entries = log_all (map (log_entry_of old.digest) records) in
     let seeing = opened_growth old.digest records notice in
-    let sending : Growth = sent_growth new.ids.node new.digest (asked new.ids.node name letters) in record {
+    let sending : Growth = sent_growth new.ids.node new.digest (asked new.ids.node name letters) in
+    acts_in_order asker [] old new before after (record {
       sends = asked n name letters;
       records = records;
       growth = both_grown seeing sending;
       grown = grown_then before noted after seeing sending notes sent;
-      entries = append-nil entries;
+      outputs = ap (λ fs. entries ++ send_all fs)
+          (ap (λ m. posted m new.digest (asked m name letters)) node ∙ ap (λ d. posted n d (asked n name letters)) digest);
       read = read;
-      to_nodes = ap (λ m. posted m new.digest (asked m name letters)) node ∙ ap (λ d. posted n d (asked n name letters)) digest;
       own = ap (λ m. to_itself m (asked m name letters)) node;
       addressed = asked_addressed n asker name letters
           (done_asks (objects_of old.objects name) done.local (event ∷ []) letters done.done (begins_serve_none event id begins, tt));
-      handled = λ within. safe_as (kept_of old) [] records (kept_of new) (with_names name letters) (letters_of (asked n name letters))
+      handled = λ within. safe_as (kept_of old) [] (logged_first records (with_names name letters))
+          (logged_first records (letters_of (asked n name letters))) (kept_of new)
           (noticed name (objects_of old.objects name) event) (seen_of notice ∷ [])
           (few_safe (kept_of old) [] records (kept_of new) (with_names name letters) (noticed name (objects_of old.objects name) event)
           few within
@@ -74,10 +76,10 @@ next_acts asker old new before noted after name event id letters records notice 
           (record { now = old.ids; reached = later_same old.ids within; next = next; left = sym given })
           (file_same old new file done.changed.settings) done.changed.objects)
           (logged (kept_of old) (kept_of new) refl refl refl (done_to old new name (event ∷ []) letters file node epoch done)))
-          (going_letters (member_or n) name letters) seen;
+          (ap (λ xs. logged_first records xs) (going_letters (member_or n) name letters)) seen;
       node = node;
       digest = digest;
-    }
+    })
 
 module _ (asker : ℕ) (old new : Keeper) where
   -- a call begins: an id is given, and then as above
@@ -93,7 +95,7 @@ module _ (asker : ℕ) (old new : Keeper) where
   begun_acts before given noted after name event id letters records notice file digest (inl g) done begins allowed seen few logged
       read notes sent =
       acts_more asker [] old old new before given after
-      (acts_rest asker [] old before given no_growth g.2 refl refl refl refl)
+      (acts_rest asker [] old before given no_growth g.2 refl refl refl)
       (next_acts asker old new given noted after name event id letters records notice file digest g.0 g.1 done begins allowed seen
       few logged read notes sent)
   begun_acts before given noted after name event id letters records notice file digest (inr g) done begins allowed seen few logged
@@ -112,22 +114,22 @@ pub resent_acts : (asker : ℕ) (keeper : Keeper) (before after : Work) (name : 
     IsGrown before after (sent_growth keeper.ids.node keeper.digest (asked keeper.ids.node name letters)) →
     Acts asker [] keeper before keeper after
 resent_acts asker keeper before after name letters resent sent =
-    let n = keeper.ids.node in record {
+    let n = keeper.ids.node in
+    acts_in_order asker [] keeper keeper before after (record {
       sends = asked n name letters;
       records = [];
       growth = sent_growth n keeper.digest (asked n name letters);
       grown = sent;
-      entries = refl;
+      outputs = refl;
       read = tt;
-      to_nodes = refl;
       own = refl;
       addressed = asked_addressed n asker name letters (resent_ask (objects_of keeper.objects name) letters resent);
       handled = λ within.
           let node = kept_of keeper in
-          safe_as node [] [] node (with_names name letters) (letters_of (asked n name letters)) [] []
+          safe_as node [] (logged_first [] (with_names name letters)) (logged_first [] (letters_of (asked n name letters))) node [] []
           (few_safe node [] [] node (with_names name letters) [] (inl refl) within
           (resent_handled fragment node [] name letters (later_same keeper.ids within) resent) (same_logged node))
-          (going_letters (member_or n) name letters) refl;
+          (ap (λ xs. logged_first [] xs) (going_letters (member_or n) name letters)) refl;
       node = refl;
       digest = refl;
-    }
+    })

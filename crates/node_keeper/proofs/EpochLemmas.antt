@@ -19,7 +19,7 @@ use Rattle.node_keeper.specs.Acts.{Acts, GivesId}
 use Rattle.node_keeper.specs.Keeping.{kept_of}
 use Rattle.node_keeper.specs.Logging.{start_entry}
 use Rattle.node_keeper.specs.declared.keeper.Keeper.{Keeper}
-use Rattle.node_keeper.proofs.ActLemmas.{acts_more, few_safe}
+use Rattle.node_keeper.proofs.ActLemmas.{acts_in_order, acts_more, few_safe}
 use Rattle.node_keeper.proofs.DoneLemmas.{file_same}
 use Rattle.node_keeper.proofs.IdLemmas.{begun_later, next_epoch, next_is_node}
 use Rattle.node_keeper.proofs.ReadLemmas.{start_read}
@@ -30,14 +30,14 @@ given_acts : (asker : ℕ) (old new : Keeper) (before after : Work) → new.file
     IsGrown before after no_growth → Acts asker [] old before new after
 given_acts asker old new before after file digest same given later grown =
     let node : new.ids.node ≡ old.ids.node = ap (λ (i : CallIds). i.node) given ∙ next_is_node old.ids in
-    let kept = file_same old new file same.settings in record {
+    let kept = file_same old new file same.settings in
+    acts_in_order asker [] old new before after (record {
       sends = [];
       records = [];
       growth = no_growth;
       grown = grown;
-      entries = refl;
+      outputs = refl;
       read = tt;
-      to_nodes = refl;
       own = refl;
       addressed = tt;
       handled = λ within. few_safe (kept_of old) [] [] (kept_of new) [] [] (inl refl) within
@@ -52,7 +52,7 @@ given_acts asker old new before after file digest same given later grown =
           }));
       node = node;
       digest = digest;
-    }
+    })
 
 -- an epoch begins
 pub epoch_acts : (asker : ℕ) (old new : Keeper) (before after : Work) → new.file ≡ old.file → new.digest ≡ old.digest →
@@ -62,14 +62,14 @@ epoch_acts asker old new before after file digest objects more ids grown =
     let same : AreSame old.objects new.objects = subst (λ now. AreSame old.objects now) (sym objects)
     (record { settings = record { number = refl; delta = refl; placement = refl }; objects = λ name. refl }) in
     let kept = file_same old new file same.settings in
-    let later : IsLater old.ids new.ids = subst (λ after. IsLater old.ids after) (sym ids) (begun_later old.ids more) in record {
+    let later : IsLater old.ids new.ids = subst (λ after. IsLater old.ids after) (sym ids) (begun_later old.ids more) in
+    acts_in_order asker [] old new before after (record {
       sends = [];
       records = LogRecord.Starts ∷ [];
       growth = one_entry start_entry;
       grown = grown;
-      entries = refl;
+      outputs = refl;
       read = (start_read old.digest, tt);
-      to_nodes = refl;
       own = refl;
       addressed = tt;
       handled = λ within. few_safe (kept_of old) [] (LogRecord.Starts ∷ []) (kept_of new) [] []
@@ -80,7 +80,7 @@ epoch_acts asker old new before after file digest objects more ids grown =
           (record { file = kept; more = more; ids = ids; objects = same.objects }));
       node = later.node;
       digest = digest;
-    }
+    })
 
 -- what the node keeps once an epoch began
 abbrev pub in_epoch : Keeper → Keeper

@@ -1,5 +1,5 @@
 -- What can be written, and what cannot.
-use Rattle.std.proofs.Common.{◌≡◌, ◌<◌, ℕ, Bool, true, false, cond, leb, ltb, not, List, [], ◌∷◌, ◌++◌, length}
+use Rattle.std.proofs.Common.{◌≡◌, ◌<◌, ℕ, Bool, true, false, leb, ltb, not, List, [], ◌∷◌, ◌++◌, length}
 use Rattle.std.proofs.Common.{zero, suc, get_or, Result, Ok, Err, IfErr, refl, sym, subst, ap, ◌∙◌, arith}
 use Rattle.std.specs.Prelude.{is_some}
 use Rattle.std.specs.List.{AllByRecursion, list_all}
@@ -28,13 +28,12 @@ use Rattle.node_objects.specs.declared.objects.Objects.{Objects}
 use Rattle.node_objects.specs.Objects.{objects_of}
 use Rattle.node_strings.specs.Record.{record_strings}
 use Rattle.node_strings.specs.declared.record.Record.TheVariants as record_of
-use Rattle.recoveries.specs.Records.{LogRecord}
 use Rattle.node_effects.specs.Errors.{IsUnwritten, WritesOrFails, error_of_message}
 use Rattle.node_effects.specs.declared.letter.NamedLetter.{NamedLetter}
 use Rattle.node_effects.proofs.ErrorLemmas.{start_fits}
 use Rattle.node_effects.specs.declared.error.NodeError.{NodeError}
 use Rattle.node_effects.specs.declared.error.NodeError.TheVariants as errors
-use Rattle.node_keeper.specs.Fitting.{HasFrame, IsLoggable, IsSendable}
+use Rattle.node_keeper.specs.Fitting.{HasFrame, IsSendable}
 use Rattle.node_keeper.specs.NextIds.{IsNoEpoch}
 use Rattle.node_keeper.specs.Delivering.{CanServe, CanTake}
 use Rattle.node_keeper.specs.Sendings.{Sending, asked, member_or, message_of, reply_sendings, sending}

@@ -1,5 +1,5 @@
 -- Letters that come, and calls that are given up, as what a node does.
-use Rattle.std.proofs.Common.{◌≡◌, inl, inr, ℕ, Bool, true, false, cond, not, ◌||◌, ◌==◌, eq-eqb, List, [], ◌∷◌, map}
+use Rattle.std.proofs.Common.{◌≡◌, inl, inr, ℕ, Bool, true, false, cond, not, ◌||◌, ◌==◌, eq-eqb, List, [], ◌∷◌, ◌++◌, map}
 use Rattle.std.proofs.Common.{Option, None, Some, option_to_list, refl, sym, ap, ◌∙◌}
 use Rattle.std.proofs.lemmas.Bool.{and_parts}
 use Rattle.std.proofs.lemmas.List.{append-nil}
@@ -18,7 +18,7 @@ use Rattle.recoveries.proofs.LoggedLemmas.{given_up_unlogged, served_logged, tak
 use Rattle.node_objects.specs.Doing.{IsDoneAt}
 use Rattle.node_objects.specs.Objects.{objects_of}
 use Rattle.node_effects.specs.Seen.{all_seen, named_of}
-use Rattle.node_effects.specs.Work.{both_grown, no_growth}
+use Rattle.node_effects.specs.Work.{both_grown, log_all, no_growth}
 use Rattle.node_effects.specs.declared.letter.NamedLetter.{NamedLetter}
 use Rattle.node_effects.specs.declared.work.Work.{Work}
 use Rattle.node_effects.proofs.GrowthLemmas.{grown_none}
@@ -77,10 +77,9 @@ module _ (asker : ℕ) (it : NamedLetter) (old new : Keeper) (before after : Wor
         sends = sends;
         growth = both_grown (logged_growth old.digest records) (sent_growth old.ids.node old.digest sends);
         grown = serves.grown;
-        entries = append-nil (map (log_entry_of old.digest) records);
+        outputs = refl;
         read = read_if old.digest (LogRecord.Serves it.name it.letter) (λ fits. serve_read old.digest it fits.message) changes
             serves.fits.logged;
-        to_nodes = refl;
         own = refl;
         addressed = replied_addressed old.ids.node asker it.name serves.replies
             (all_reply local serves.done.local it.letter serves.replies serves.done.done);
@@ -121,10 +120,9 @@ module _ (it : NamedLetter) (old new : Keeper) (before after : Work) (ended : Op
         sends = sends;
         growth = both_grown (logged_growth old.digest records) (both_grown sending (tell_growth it.name ended));
         grown = takes.grown;
-        entries = append-nil (map (log_entry_of old.digest) records);
+        outputs = ap (λ xs. log_all (map (log_entry_of old.digest) records) ++ xs) (append-nil sending.outputs);
         read = read_if old.digest (LogRecord.Takes it.name it.letter) (λ fits. take_read old.digest it fits.message) moves
             takes.fits.logged;
-        to_nodes = append-nil sending.to_nodes;
         own = append-nil sending.own;
         addressed = asked_addressed old.ids.node asker it.name takes.letters
             (done_asks local takes.done.local quiet.events takes.letters quiet.done quiet.asks);
@@ -146,9 +144,8 @@ given_up_acts asker old new work name id file digest ids done =
       sends = [];
       growth = no_growth;
       grown = grown_none work;
-      entries = refl;
+      outputs = refl;
       read = tt;
-      to_nodes = refl;
       own = refl;
       addressed = tt;
       those = refl;

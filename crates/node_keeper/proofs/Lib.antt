@@ -1,5 +1,6 @@
 pub mod IdLemmas
 pub mod SendingLemmas
+pub mod WantLemmas
 pub mod ActLemmas
 pub mod DoneLemmas
 pub mod EventLogLemmas
@@ -13,3 +14,5 @@ pub mod RequestLemmas
 pub mod FittingLemmas
 pub mod SeenLemmas
 pub mod CallLemmas
+pub mod HeardNameLemmas
+pub mod AnewLemmas

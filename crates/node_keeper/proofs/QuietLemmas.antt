@@ -26,16 +26,17 @@ use Rattle.deeds.proofs.ListLemmas.{all_append, all_weaker}
 use Rattle.deeds.proofs.MethodLemmas.{BeginsNone, if_all, quiet_handled}
 use Rattle.recoveries.specs.Copies.{IsLogged}
 use Rattle.recoveries.specs.Records.{LogRecord}
+use Rattle.recoveries.specs.Stops.{logged_first}
 use Rattle.node_objects.specs.Objects.{IsChangedAt, objects_of}
 use Rattle.node_effects.specs.Seen.{all_seen}
-use Rattle.node_effects.specs.Work.{Growth, IsGrown}
+use Rattle.node_effects.specs.Work.{Growth, IsGrown, log_all, send_all}
 use Rattle.node_effects.specs.declared.work.Work.{Work}
 use Rattle.node_keeper.specs.Acts.{Acts}
 use Rattle.node_keeper.specs.Keeping.{kept_of}
 use Rattle.node_keeper.specs.Logging.{IsReadBack, log_entry_of}
 use Rattle.node_keeper.specs.Sendings.{IsDirected, Sending, letters_of, posted, to_itself}
 use Rattle.node_keeper.specs.declared.keeper.Keeper.{Keeper}
-use Rattle.node_keeper.proofs.ActLemmas.{AreFew, few_safe, safe_as}
+use Rattle.node_keeper.proofs.ActLemmas.{AreFew, acts_in_order, few_safe, safe_as}
 use Rattle.node_keeper.proofs.DoneLemmas.{file_same}
 use Rattle.node_keeper.proofs.RequestLemmas.{ServesNone}
 
@@ -45,9 +46,9 @@ pub record GoesOut (asker : ℕ) (keeper : Keeper) (before after : Work) (record
   pub sends : List Sending
   pub growth : Growth
   pub grown : IsGrown before after growth
-  pub entries : growth.entries ≡ map (log_entry_of keeper.digest) records
+  pub outputs : growth.outputs ≡
+      log_all (map (log_entry_of keeper.digest) records) ++ send_all (posted keeper.ids.node keeper.digest sends)
   pub read : AllByRecursion (IsReadBack keeper.digest) records
-  pub to_nodes : growth.to_nodes ≡ posted keeper.ids.node keeper.digest sends
   pub own : growth.own ≡ to_itself keeper.ids.node sends
   pub addressed : AllByRecursion (IsDirected keeper.ids.node asker) sends
   pub those : letters_of sends ≡ letters
@@ -62,25 +63,26 @@ pub quiet_acts : (asker : ℕ) (got : List Named) (old new : Keeper) (before aft
     IsLogged (kept_of old) records (kept_of new) → GoesOut asker old before after records (with_names name letters)
     (map (Seen.Tells name) (all_told fragment (objects_of old.objects name) events)) → Acts asker got old before new after
 quiet_acts asker got old new before after name events local letters records file digest ids done changed fed none few logged out =
-    let tells = map (Seen.Tells name) (all_told fragment (objects_of old.objects name) events) in record {
+    let tells = map (Seen.Tells name) (all_told fragment (objects_of old.objects name) events) in
+    acts_in_order asker got old new before after (record {
       sends = out.sends;
       records = records;
       growth = out.growth;
       grown = out.grown;
-      entries = out.entries;
+      outputs = out.outputs;
       read = out.read;
-      to_nodes = out.to_nodes;
       own = out.own;
       addressed = out.addressed;
-      handled = λ within. safe_as (kept_of old) got records (kept_of new) (with_names name letters) (letters_of out.sends) tells
-          (all_seen out.growth.notices)
+      handled = λ within. safe_as (kept_of old) got (logged_first records (with_names name letters))
+          (logged_first records (letters_of out.sends)) (kept_of new) tells (all_seen out.growth.notices)
           (few_safe (kept_of old) got records (kept_of new) (with_names name letters) tells few within
           (quiet_handled (kept_of old) got name events local letters (kept_of new) done fed none
           (subst (λ after. IsLater old.ids after) (sym ids) (later_same old.ids within))
-          (file_same old new file changed.settings) changed.objects) logged) out.those out.told;
+          (file_same old new file changed.settings) changed.objects) logged)
+          (ap (λ xs. logged_first records xs) out.those) out.told;
       node = ap (λ (i : CallIds). i.node) ids;
       digest = digest;
-    }
+    })
 
 -- clients are told nothing of an event that tells them nothing, whether it is done or not
 untold_if : (local : LocalObject) (event : LocalEvent) → all_told fragment local (event ∷ []) ≡ [] → (b : Bool) →

@@ -5,7 +5,10 @@ use Rattle.std.specs.List.{AllByRecursion}
 use Rattle.deeds.specs.Named.{with_names}
 use Rattle.local_object.specs.declared.letter.Letter.{Letter}
 use Rattle.node_effects.specs.Seen.{named_of}
-use Rattle.node_effects.specs.Work.{IsGrown, both_grown, no_growth}
+use Rattle.string_parts.specs.Strings.{Strings}
+use Rattle.node_effects.specs.Work.{IsGrown, both_grown, no_growth, send_all}
+use Rattle.node_effects.specs.declared.output.Output.{Output}
+use Rattle.node_effects.specs.declared.output.Output.TheVariants as output
 use Rattle.node_effects.specs.declared.work.Work.{Work}
 use Rattle.node_effects.proofs.GrowthLemmas.{grown_as, grown_then}
 use Rattle.node_effects.specs.declared.letter.NamedLetter.{NamedLetter}
@@ -40,11 +43,14 @@ to_itself_append number (x ∷ xs) ys = go (x.to == number) (to_itself_append nu
 
 pub sent_append : (number : ℕ) (digest : List ℕ) (xs ys : List Sending) →
     both_grown (sent_growth number digest xs) (sent_growth number digest ys) ≡ sent_growth number digest (xs ++ ys)
-sent_append number digest xs ys = go _ _ _ _ (posted_append number digest xs ys) (to_itself_append number xs ys)
+sent_append number digest xs ys =
+    go _ _ _ _ (ap send_all (posted_append number digest xs ys)
+    ∙ map-append (λ (frame : Strings). output.Send frame) (posted number digest xs) (posted number digest ys))
+    (to_itself_append number xs ys)
   where
-    go : (p q : List (List (List ℕ))) (o r : List NamedLetter) → p ≡ q → o ≡ r →
-        record no_growth { to_nodes = q; own = r } ≡ record no_growth { to_nodes = p; own = o }
-    go p q o r e f = λ i. record no_growth { to_nodes = (sym e) i; own = (sym f) i }
+    go : (p q : List Output) (o r : List NamedLetter) → p ≡ q → o ≡ r →
+        record no_growth { outputs = q; own = r } ≡ record no_growth { outputs = p; own = o }
+    go p q o r e f = λ i. record no_growth { outputs = (sym e) i; own = (sym f) i }
 
 pub asked_append : (number : ℕ) (name : List ℕ) (xs ys : List Letter) →
     asked number name (xs ++ ys) ≡ asked number name xs ++ asked number name ys

@@ -8,19 +8,20 @@ use Rattle.deeds.specs.Named.{NamedLetter as Named}
 use Rattle.recoveries.specs.Records.{LogRecord}
 use Rattle.recoveries.specs.Stops.{IsHandledSafely}
 use Rattle.node_effects.specs.Seen.{all_seen}
-use Rattle.node_effects.specs.Work.{Growth, IsGrown, no_growth, one_entry}
+use Rattle.node_effects.specs.Work.{Growth, IsGrown, log_all, no_growth, one_entry}
 use Rattle.node_effects.specs.declared.notice.Notice.{Notice}
 use Rattle.node_effects.specs.declared.work.Work.{Work}
 use Rattle.node_keeper.specs.Keeping.{kept_of}
 use Rattle.node_keeper.specs.Logging.{IsReadBack, log_entry_of, start_entry}
-use Rattle.node_keeper.specs.Sendings.{IsDirected, Sending, letters_of, posted, to_itself}
+use Rattle.node_keeper.specs.Sendings.{IsDirected, to_itself}
+use Rattle.node_keeper.specs.Wants.{Want, left_by, outputs_of, records_in, sends_in}
 use Rattle.node_keeper.specs.declared.keeper.Keeper.{Keeper}
 
--- what a node has to do more where its log gets these records
+-- what is added to a node's work if its log gets these records
 abbrev pub logged_growth : (digest : List ℕ) → List LogRecord → Growth
-logged_growth digest records = record no_growth { entries = map (log_entry_of digest) records }
+logged_growth digest records = record no_growth { outputs = log_all (map (log_entry_of digest) records) }
 
--- clients saw these, and nothing else, between the first of these and the second
+-- between the first work and the second, clients saw exactly these notices
 abbrev pub ClientsSee : (before after : Work) → List Notice → Type 0
 ClientsSee before after notices = after.notices.items ≡ before.notices.items ++ notices
 
@@ -31,21 +32,20 @@ GivesId old id new before after =
     ⊎ ((suc old.epoch < 2 ^ 24) × (next_given_id (with_next_epoch old) ≡ Some id)
     × (new ≡ after_given (with_next_epoch old)) × IsGrown before after (one_entry start_entry))
 
--- the node did deeds with these letters, which had come; `asker` is the node that had asked. Its work grew by the log
+-- The node did deeds with these letters, which had come; `asker` is the node that had asked. Its work grew by the log
 -- entries of the records that its log needs, by the letters that it sent, each to the node to which it has to go, and
--- by what its clients saw
+-- by what its clients saw. Entries and letters stand in such an order that each letter may go out once the log has all
+-- entries before it.
 pub record Acts (asker : ℕ) (got : List Named) (old : Keeper) (before : Work) (new : Keeper)
     (after : Work) : Type 0 where
-  pub sends : List Sending
-  pub records : List LogRecord
+  pub wants : List Want
   pub growth : Growth
   pub grown : IsGrown before after growth
-  pub entries : growth.entries ≡ map (log_entry_of old.digest) records
-  pub read : AllByRecursion (IsReadBack old.digest) records
-  pub to_nodes : growth.to_nodes ≡ posted old.ids.node old.digest sends
-  pub own : growth.own ≡ to_itself old.ids.node sends
-  pub addressed : AllByRecursion (IsDirected old.ids.node asker) sends
-  pub handled : HasRanges old.ids → IsHandledSafely fragment (kept_of old) got records (kept_of new)
-      (letters_of sends) (all_seen growth.notices)
+  pub outputs : growth.outputs ≡ outputs_of old.ids.node old.digest wants
+  pub read : AllByRecursion (IsReadBack old.digest) (records_in wants)
+  pub own : growth.own ≡ to_itself old.ids.node (sends_in wants)
+  pub addressed : AllByRecursion (IsDirected old.ids.node asker) (sends_in wants)
+  pub handled : HasRanges old.ids → IsHandledSafely fragment (kept_of old) got (left_by wants) (kept_of new)
+      (all_seen growth.notices)
   pub node : new.ids.node ≡ old.ids.node
   pub digest : new.digest ≡ old.digest

@@ -1,5 +1,5 @@
 -- The contracts that docs/trusted.md lists do not depend on this file; other contracts and proofs do.
--- Calls that begin at an object, or are refused by it.
+-- Calls that begin at an object, or that the object refuses.
 use Rattle.std.specs.Prelude.{◌≡◌, ⊤, ℕ, List, [], ◌∷◌, Option, None, Some}
 use Rattle.encoder.specs.Fragment.{fragment}
 use Rattle.layout.specs.Layout.{Layout}
@@ -64,11 +64,11 @@ moving_call name layout = record {
   records = λ id. LogRecord.Moves name id layout ∷ [];
 }
 
--- what a node has to do more as a call begins, before its letters go out: the log gets its records, and clients see it
+-- what is added to a node's work when a call begins, before its letters go out: records for the log, and the notice
 abbrev pub opened_growth : (digest : List ℕ) → List LogRecord → Notice → Growth
 opened_growth digest records seen = record (logged_growth digest records) { notices = seen ∷ [] }
 
--- what a node has to do more as a call begins
+-- what is added to a node's work when a call begins, together with its letters
 abbrev pub begun_growth : Beginning → (id : ℕ) → Keeper → List Letter → Growth
 begun_growth call id keeper letters =
     both_grown (opened_growth keeper.digest (call.records id) (call.notice id))
@@ -107,13 +107,13 @@ abbrev pub seen_of_begun : (ℕ → Notice) → Begun → List Notice
 seen_of_begun seen (begun.Open id) = seen id ∷ []
 seen_of_begun seen (begun.Refused refusal) = []
 
--- all can be written that the call with this id needs as it begins
+-- everything that has to be written when the call with this id begins can be written
 abbrev pub CanBegin : Beginning → (id : ℕ) → Keeper → Type 0
 CanBegin call id keeper =
     CanBeWritten keeper.ids.node keeper.digest (call.records id) (asked keeper.ids.node call.name
     (done_here fragment (objects_of keeper.objects call.name) (call.event id)).sent)
 
--- why a node cannot go on where a call was to begin: memory is refused, there is no id and no further epoch, or what
+-- why a node cannot go on when a call was to begin: memory is refused, there is no id and no further epoch, or what
 -- the call needs cannot be written
 abbrev pub IsNotBegun : Beginning → Keeper → NodeError → Type 0
 IsNotBegun call keeper errors.NoMemory = ⊤

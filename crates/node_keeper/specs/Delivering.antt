@@ -43,7 +43,7 @@ abbrev pub notices_of : (name : List ℕ) → Option Ended → List Notice
 notices_of name None = []
 notices_of name (Some ended) = notice.Tells name ended ∷ []
 
--- what a node has to do more after a reply was taken
+-- what is added to a node's work after a reply was taken
 abbrev pub tell_growth : (name : List ℕ) → Option Ended → Growth
 tell_growth name ended = record no_growth { notices = notices_of name ended }
 
@@ -79,7 +79,7 @@ abbrev pub delivered_of : Option Ended → Delivered
 delivered_of None = delivered.Handled
 delivered_of (Some ended) = delivered.Ended ended
 
--- what became of a letter, by whether the node heeds it, and whether it is a request
+-- what became of a letter; whether the node heeds it, and whether it is a request, are arguments
 abbrev pub DeliversAs : (heeded asks : Bool) → (asker : ℕ) → NamedLetter → (old : Keeper) → (before : Work) →
     (new : Keeper) → (after : Work) → Delivered → Type 0
 DeliversAs false asks asker it old before new after result =
@@ -96,7 +96,7 @@ DeliversLetter asker it old before new after result =
     DeliversAs (heeds (kept_of old) (named_of it)) (is_request it.letter.message.body)
     asker it old before new after result
 
--- what clients see of a letter of which this became
+-- what clients see of a letter, by what became of it
 abbrev pub told_by : (name : List ℕ) → Delivered → List Notice
 told_by name delivered.Dropped = []
 told_by name delivered.Handled = []
@@ -108,14 +108,14 @@ was_dropped delivered.Dropped = true
 was_dropped delivered.Handled = false
 was_dropped (delivered.Ended ended) = false
 
--- all can be written that is to be written as a request is served
+-- everything that has to be written when a request is served can be written
 abbrev pub CanServe : (asker : ℕ) → NamedLetter → Keeper → Type 0
 CanServe asker it keeper =
     let local = objects_of keeper.objects it.name in
     CanBeWritten keeper.ids.node keeper.digest (served_records keeper it)
     (reply_sendings asker it.name (all_done fragment local (serve_events local it.letter)).sent)
 
--- all can be written that is to be written as a reply is taken
+-- everything that has to be written when a reply is taken can be written
 abbrev pub CanTake : NamedLetter → Keeper → Type 0
 CanTake it keeper =
     AllByRecursion (IsLoggable keeper.digest) (taken_records keeper it)
@@ -123,13 +123,13 @@ CanTake it keeper =
     IsTakenAt keeper.objects it.name it.letter new letters ended →
     AllByRecursion (IsSendable keeper.ids.node keeper.digest) (asked keeper.ids.node it.name letters))
 
--- the same of a letter, by whether the node heeds it, and whether it is a request
+-- the same for a letter; whether the node heeds it, and whether it is a request, are arguments
 abbrev pub CanDeliverAs : (heeded asks : Bool) → (asker : ℕ) → NamedLetter → Keeper → Type 0
 CanDeliverAs false asks asker it keeper = Unit {0}
 CanDeliverAs true true asker it keeper = CanServe asker it keeper
 CanDeliverAs true false asker it keeper = CanTake it keeper
 
--- the same of a letter that has come from the node of number `asker`
+-- the same for a letter that has come from the node of number `asker`
 abbrev pub CanDeliver : (asker : ℕ) → NamedLetter → Keeper → Type 0
 CanDeliver asker it keeper =
     CanDeliverAs (heeds (kept_of keeper) (named_of it)) (is_request it.letter.message.body) asker it keeper

@@ -9,7 +9,7 @@ use Rattle.recoveries.specs.Records.{LogRecord}
 use Rattle.node_keeper.specs.Logging.{strings_for}
 use Rattle.node_keeper.specs.Sendings.{Sending, frame_to, message_of}
 
--- the letter is a message between nodes, and with the address of a node in front its strings are those of a frame
+-- the letter is a message between nodes, and the address of a node and the strings of that message make a frame
 pub record HasFrame (digest : List ℕ) (send : Sending) : Type 0 where
   pub message : IsMessage (message_of digest send.it)
   pub frame : IsFrame (frame_to digest send)
@@ -32,7 +32,7 @@ pub record IsLoggable (digest : List ℕ) (it : LogRecord) : Type 0 where
   pub message : HasMessage digest it
   pub entry : IsEntry (strings_for digest it)
 
--- a node of this number can write all this: the records go to its log, and the letters to nodes
+-- a node of this number can write all of this: the records to its log, and the letters to nodes
 pub record CanBeWritten (number : ℕ) (digest : List ℕ) (records : List LogRecord) (sends : List Sending) : Type 0 where
   pub logged : AllByRecursion (IsLoggable digest) records
   pub sent : AllByRecursion (IsSendable number digest) sends

@@ -10,7 +10,7 @@ use Rattle.deeds.specs.Named.{NamedLetter as Named}
 use Rattle.node_objects.specs.Objects.{first_layout_of, objects_of}
 use Rattle.node_keeper.specs.declared.keeper.Keeper.{Keeper}
 
--- what a cluster file says
+-- what a cluster file says, as `deeds` defines it
 abbrev pub names_of : FileContents → FileOfNames
 names_of file = record {
   delta = file.fixed.delta;
@@ -18,7 +18,7 @@ names_of file = record {
   first = placed (placement_of file.fixed);
 }
 
--- what the cluster file of a node says, and how it places names
+-- what the cluster file of a node says, with the layouts that it gives names
 abbrev pub names_of_keeper : Keeper → FileOfNames
 names_of_keeper keeper = record {
   delta = keeper.objects.delta;

@@ -1,9 +1,11 @@
 pub mod Keeping
 pub mod Sendings
 pub mod Logging
+pub mod Wants
 pub mod Fitting
 pub mod NextIds
 pub mod Resending
 pub mod Acts
 pub mod Beginning
 pub mod Delivering
+pub mod Anew

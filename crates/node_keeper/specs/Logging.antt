@@ -1,7 +1,6 @@
 -- The contracts that docs/trusted.md lists do not depend on this file; other contracts and proofs do.
 -- The entries of a node's log, and what they record.
 use Rattle.std.specs.Prelude.{◌≡◌, ℕ, List, [], ◌∷◌, Option, None, Some, Result, Ok, Err}
-use Rattle.node_log.specs.Entry.{sealed}
 use Rattle.local_object.specs.declared.letter.Letter.{Letter}
 use Rattle.node_messages.specs.Reading.{message_from}
 use Rattle.node_messages.specs.Strings.{strings_of}
@@ -16,7 +15,7 @@ use Rattle.node_keeper.specs.Sendings.{letter_of_message, message_of}
 
 -- the entry that records that an epoch began
 abbrev pub start_entry : Strings
-start_entry = sealed (record_strings record_of.Start)
+start_entry = record_strings record_of.Start
 
 -- the strings of the entry of a record
 abbrev pub strings_for : (digest : List ℕ) → LogRecord → Strings
@@ -29,11 +28,11 @@ strings_for digest (LogRecord.Moves name id layout) = record_strings (record_of.
 
 -- the entry of a record, in the log of a node with the cluster file of this digest
 abbrev pub log_entry_of : (digest : List ℕ) → LogRecord → Strings
-log_entry_of digest it = sealed (strings_for digest it)
+log_entry_of digest it = strings_for digest it
 
 -- What is read from a log
 
--- what a frame of a log records, if it was read as a message
+-- what an entry with a letter records, if its strings were read as a message
 abbrev pub letter_records : ((name : List ℕ) → Letter → LogRecord) → Result NodeMessage Fault → List LogRecord
 letter_records recorded (Ok message) = recorded (letter_of_message message).name (letter_of_message message).letter ∷ []
 letter_records recorded (Err fault) = []
@@ -46,7 +45,7 @@ deeds_of (record_of.Serve frame) = letter_records LogRecord.Serves (message_from
 deeds_of (record_of.Take frame) = letter_records LogRecord.Takes (message_from frame)
 deeds_of (record_of.Move id name layout) = LogRecord.Moves name id layout ∷ []
 
--- the same, if there is a record
+-- the same for a record that may be missing: if it is, the node did nothing
 abbrev pub deeds_if : Option Record → List LogRecord
 deeds_if None = []
 deeds_if (Some it) = deeds_of it

@@ -5,7 +5,7 @@ use Rattle.call_ids.specs.CallId.{CallIds, next_given_id, with_next_epoch}
 use Rattle.node_effects.specs.declared.error.NodeError.{NodeError}
 use Rattle.node_effects.specs.declared.error.NodeError.TheVariants as errors
 
--- the next id, if the epoch has one more, or else there is one more epoch
+-- the next id: of this epoch if it has one more, otherwise of the next epoch; none if there is no further epoch
 abbrev pub next_id_of : CallIds → Option ℕ
 next_id_of ids = next_given_id (if nat_lt ids.given (2 ^ 32) then ids else with_next_epoch ids)
 

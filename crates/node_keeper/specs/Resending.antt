@@ -1,5 +1,5 @@
 -- The contracts that docs/trusted.md lists do not depend on this file; other contracts and proofs do.
--- Requests that a call sends again.
+-- The requests of a call that are sent again.
 use Rattle.std.specs.Prelude.{ℕ, List}
 use Rattle.std.specs.List.{AllByRecursion}
 use Rattle.encoder.specs.Fragment.{fragment}
@@ -9,7 +9,7 @@ use Rattle.node_keeper.specs.Fitting.{IsSendable}
 use Rattle.node_keeper.specs.Sendings.{Sending, asked}
 use Rattle.node_keeper.specs.declared.keeper.Keeper.{Keeper}
 
--- the requests that the call with this id sends again, each to the node that it asks
+-- the requests of the call with this id that are sent again, each to the node that it asks
 abbrev pub sendings_again : (name : List ℕ) → (id : ℕ) → Keeper → List Sending
 sendings_again name id keeper = asked keeper.ids.node name (letters_again fragment (objects_of keeper.objects name) id)
 

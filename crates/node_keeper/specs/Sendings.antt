@@ -9,10 +9,10 @@ use Rattle.node_messages.specs.declared.message.NodeMessage.{NodeMessage}
 use Rattle.node_strings.specs.Arrival.{node_address}
 use Rattle.node_effects.specs.Seen.{named_of}
 use Rattle.string_parts.specs.Strings.{Strings}
-use Rattle.node_effects.specs.Work.{Growth, no_growth}
+use Rattle.node_effects.specs.Work.{Growth, no_growth, send_all}
 use Rattle.node_effects.specs.declared.letter.NamedLetter.{NamedLetter}
 
--- a letter, as a message of a node with the cluster file of this digest
+-- the message that has a letter, from a node whose cluster file has this digest
 abbrev pub message_of : (digest : List ℕ) → NamedLetter → NodeMessage
 message_of digest it = record {
   digest = digest;
@@ -22,7 +22,7 @@ message_of digest it = record {
   message = it.letter.message;
 }
 
--- the letter that a message is, with the name of its object
+-- the letter of a message, with the name of its object
 abbrev pub letter_of_message : NodeMessage → NamedLetter
 letter_of_message message = record {
   name = message.name;
@@ -56,9 +56,9 @@ to_itself number (send ∷ sends) = if send.to == number then send.it ∷ to_its
 -- what is added to the work of the node of this number when these letters go out
 abbrev pub sent_growth : (number : ℕ) → (digest : List ℕ) → List Sending → Growth
 sent_growth number digest sends =
-    record no_growth { to_nodes = posted number digest sends; own = to_itself number sends }
+    record no_growth { outputs = send_all (posted number digest sends); own = to_itself number sends }
 
--- this one, or the given one if there is none
+-- the number in an option, or the given number if the option has none
 abbrev pub one_or : ℕ → Option ℕ → ℕ
 one_or other None = other
 one_or other (Some one) = one
@@ -75,11 +75,11 @@ sending to it = record { to = to; it = it }
 abbrev pub to_one : (to : ℕ) → NamedLetter → List Sending
 to_one to it = sending to it ∷ []
 
--- letters of the object of a name, each to the node that this says
+-- letters about the object of a name, each with the node to which the function `to` sends it
 abbrev pub going : (to : Letter → ℕ) → (name : List ℕ) → List Letter → List Sending
 going to name letters = map (λ letter. sending (to letter) (record { name = name; letter = letter })) letters
 
--- letters of the object of a name, each to the node that it asks
+-- letters about the object of a name, each to the node that it asks
 abbrev pub asked : (number : ℕ) → (name : List ℕ) → List Letter → List Sending
 asked number name letters = going (member_or number) name letters
 
@@ -87,7 +87,7 @@ asked number name letters = going (member_or number) name letters
 abbrev pub reply_sendings : (asker : ℕ) → (name : List ℕ) → List Letter → List Sending
 reply_sendings asker name letters = going (λ letter. asker) name letters
 
--- the node to which a letter goes: a request to the node that it asks, and a reply to the one that asked
+-- the node to which a letter goes: for a request the node that it asks, and for a reply the node that asked
 abbrev pub addressee : (number asker : ℕ) → Letter → ℕ
 addressee number asker letter = if is_request letter.message.body then member_or number letter else asker
 

@@ -4,11 +4,11 @@ use tag::{CallId, Refusal};
 /// What became of a letter.
 #[derive(Debug, Drop)]
 pub enum Delivered {
-    /// It was dropped, because the node does not heed it.
+    /// The letter was dropped, because the node does not heed it.
     Dropped,
-    /// It was served or taken, and no call of this node ended.
+    /// The letter was served or taken, and no call of this node ended.
     Handled,
-    /// It was taken, and this call of this node was answered.
+    /// The letter was taken, and this call of this node was answered.
     Ended(Ended),
 }
 
@@ -17,6 +17,6 @@ pub enum Delivered {
 pub enum Begun {
     /// The call with this id is open.
     Open(CallId),
-    /// The object refused it.
+    /// The object refused the call.
     Refused(Refusal),
 }

@@ -1,4 +1,4 @@
-//! The ids of a node's calls, with the node's number.
+//! The source of the ids of a node's calls, and the node's number.
 ghost use Rattle.std.specs.Prelude.{◌≡◌, ◌^◌, nat_lt, suc};
 ghost use Rattle.call_ids.specs.CallId.{HasRanges, after_given, with_next_epoch, next_given_id};
 
@@ -6,7 +6,7 @@ use call_ids::CallIds;
 use std::marker::Model;
 use tag::CallId;
 
-/// Gives the calls of the node of this number their ids.
+/// The source of the ids of a node's calls. It also keeps the number of the node.
 #[derive(Debug, Drop)]
 pub struct OwnIds {
     number: u8,
@@ -25,7 +25,7 @@ impl Model for OwnIds {
 }
 
 impl OwnIds {
-    /// The ids of the node with this number, before its first epoch.
+    /// Makes the source of ids of the node with this number, before its first epoch.
     pub fn new(number: u8) -> OwnIds
         ensures { result ≡ record { node = number; epoch = 0; given = 0 } }
     {
@@ -35,7 +35,7 @@ impl OwnIds {
         }
     }
 
-    /// The number of the node.
+    /// Returns the number of the node.
     pub fn number(&self) -> u8
         ensures number { result ≡ self.now.node }
         ensures within { HasRanges self.now }
@@ -43,7 +43,7 @@ impl OwnIds {
         self.number
     }
 
-    /// The number of epochs that have begun, below 2^24.
+    /// Returns the number of epochs that have begun, which is below 2^24.
     pub fn epoch(&self) -> u32
         ensures { result ≡ self.now.epoch }
     {
@@ -58,7 +58,8 @@ impl OwnIds {
         self.ids.begin_epoch()
     }
 
-    /// The next id, which differs from all that were given before. None if the epoch has given all of its 2^32 ids.
+    /// Gives the next id, which differs from all that were given before. Returns none if the epoch has given all of its
+    /// 2^32 ids.
     pub fn next_id(&mut self) -> Option<CallId>
         ensures id { result ≡ next_given_id self.old }
         ensures given { self.new ≡ after_given self.old }

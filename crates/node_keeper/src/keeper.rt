@@ -1,4 +1,4 @@
-//! What a node keeps, and what it does with it.
+//! What a node keeps.
 ghost use Rattle.std.specs.Prelude.{◌≡◌, ◌==◌};
 ghost use Rattle.call_ids.specs.CallId.{HasRanges};
 ghost use Rattle.cluster_file.specs.Digest.{fixed_digest};
@@ -13,12 +13,14 @@ use std::alloc::Global;
 mod begin;
 mod letters;
 mod recovery;
+mod rewriting;
 mod send;
+mod weighing;
 
 /// What a node keeps: its cluster file with its digest, its objects, and the source of its calls' ids.
 ///
-/// If a function fails, its contract says nothing of what the node keeps, because the node stops and starts again from
-/// its log.
+/// If a function fails, its contract says nothing about what the node keeps, because the node stops and starts again
+/// from its log.
 #[derive(Drop)]
 pub struct Keeper {
     alloc: Global,
@@ -29,7 +31,7 @@ pub struct Keeper {
 }
 
 impl Keeper {
-    /// What the node with this number keeps before it has heard of any object, and before its first epoch.
+    /// Makes what the node with this number keeps before it has heard of any object, and before its first epoch.
     pub fn new(alloc: Global, file: ClusterFile, number: u8) -> Keeper
         ensures kept { kept_of result ≡ new_node (names_of file) number }
         ensures digest { result.digest ≡ fixed_digest file.fixed }
@@ -45,7 +47,7 @@ impl Keeper {
         }
     }
 
-    /// The number of the node.
+    /// Returns the number of the node.
     pub fn number(&self) -> u8
         ensures number { result ≡ self.now.ids.node }
         ensures within { HasRanges self.now.ids }
@@ -53,7 +55,7 @@ impl Keeper {
         self.ids.number()
     }
 
-    /// Whether this node is the one that moves objects.
+    /// Returns whether this node is the one that moves objects.
     pub fn is_mover(&self) -> bool
         ensures { result ≡ (self.now.ids.node == self.now.file.fixed.mover) }
     {

@@ -3,11 +3,13 @@
 #![tactic(auto)]
 
 pub use delivered::{Begun, Delivered};
+pub use entries::push_entry;
 pub use ids::OwnIds;
 pub use keeper::Keeper;
 pub use post::letter_of;
 
 mod delivered;
+mod entries;
 mod ids;
 mod keeper;
 mod post;

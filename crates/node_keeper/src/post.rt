@@ -1,4 +1,4 @@
-//! Letters of an object as messages between nodes, and back.
+//! Turning letters about an object into messages between nodes, and messages into letters.
 ghost use Rattle.std.specs.Prelude.{◌≡◌, IfErr, IfOk, OnOk};
 ghost use Rattle.frames.specs.Frame.{IsFrame};
 ghost use Rattle.local_object.specs.Doing.{is_request};
@@ -16,7 +16,7 @@ use node_effects::{NamedLetter, NodeError};
 use node_messages::{NodeMessage, frame_of};
 use std::alloc::Global;
 
-/// The letter of a message, with the name of its object.
+/// Returns the letter of a message, with the name of its object.
 pub fn letter_of(message: NodeMessage) -> NamedLetter
     ensures { result ≡ letter_of_message message }
 {
@@ -30,7 +30,7 @@ pub fn letter_of(message: NodeMessage) -> NamedLetter
     }
 }
 
-/// The frame of a letter, as a message from a node whose cluster file has this digest, and the letter itself.
+/// Returns the frame of a letter, as a message from a node whose cluster file has this digest, and the letter itself.
 pub(crate) fn framed(
     alloc: Global,
     digest: [u8; DIGEST_LENGTH],
@@ -53,7 +53,7 @@ pub(crate) fn framed(
     Ok((frame, letter_of(message)))
 }
 
-/// Whether a letter is a request, and not a reply.
+/// Returns whether a letter is a request, and not a reply.
 pub(crate) fn is_request(letter: &Letter) -> bool
     ensures { result ≡ is_request letter.now.message.body }
 {
@@ -63,7 +63,8 @@ pub(crate) fn is_request(letter: &Letter) -> bool
     }
 }
 
-/// The node that is the member which the letter names, by the letter's layout; this node if there is no such member.
+/// Returns the node that is the member which the letter names, by the letter's layout, or this node if there is no
+/// such member.
 pub(crate) fn member_or(number: u8, letter: &Letter) -> u8
     ensures { result ≡ member_or number letter.now }
 {

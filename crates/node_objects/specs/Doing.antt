@@ -11,8 +11,8 @@ use Rattle.local_object.specs.Taking.{IsTaken}
 use Rattle.node_objects.specs.declared.objects.Objects.{Objects}
 use Rattle.node_objects.specs.Objects.{IsChangedAt, objects_of}
 
--- these events may happen at the object of the name, and after them the node keeps this and has sent these letters;
--- every other object is what it was
+-- these events may happen at the object of the name; after them the node keeps `new` and has sent the letters `sent`,
+-- and every other object is as it was
 pub record IsDoneAt (old : Objects) (name : List ℕ) (events : List LocalEvent) (new : Objects)
     (sent : List Letter) : Type 0 where
   pub local : LocalObject
@@ -20,7 +20,7 @@ pub record IsDoneAt (old : Objects) (name : List ℕ) (events : List LocalEvent)
   pub changed : IsChangedAt old name local new
 
 -- what came of a letter that may be a reply to an open call of the object of the name: exactly the events of `IsTaken`,
--- after which the node keeps this, has sent these letters, and has answered these calls; every other object is what it
+-- after which the node keeps `new`, has sent `letters`, and has answered the calls `ended`; every other object is as it
 -- was
 pub record IsTakenAt (old : Objects) (name : List ℕ) (letter : Letter) (new : Objects) (letters : List Letter)
     (ended : List Ended) : Type 0 where

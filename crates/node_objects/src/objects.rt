@@ -15,6 +15,7 @@ use std::alloc::Global;
 use tag::Refusal;
 
 mod begin;
+mod heard;
 mod questions;
 mod replies;
 mod requests;
@@ -22,7 +23,7 @@ mod requests;
 /// What a node keeps of all its objects, each under its name. Any bytes are a name. An object of which the node has not
 /// heard counts as a new one, with the layout that placement gives its name.
 ///
-/// If a function is refused with `NoMemory`, its contract says nothing of the objects, because the node stops and
+/// If a function is refused with `NoMemory`, its contract says nothing about the objects, because the node stops and
 /// starts again from its log. Every other refusal changes no object.
 #[derive(Drop)]
 pub struct Objects {
@@ -38,7 +39,7 @@ pub struct Objects {
 }
 
 impl Objects {
-    /// What the node with this number keeps before it has heard of any object. It allocates no memory.
+    /// Makes what the node with this number keeps before it has heard of any object. It allocates no memory.
     ///
     /// `delta` is the number of finalized versions of which the node's banks keep pieces, besides the newest; without
     /// it they keep all pieces. `placement` gives each name the layout that its object has before any move.

@@ -11,8 +11,8 @@ use node_effects::{NodeError, Work};
 use node_strings::ConnectionId;
 
 impl Desk {
-    /// Answers the command of a connection, if the connection is still there, and makes its next command due. It fails
-    /// if `Work::answer` does.
+    /// Answers the command of a connection, if the connection is still there, and makes its next command due. Fails
+    /// only if `Work::answer` or `Work::make_due` fails.
     pub fn answer(
         &mut self,
         client: ConnectionId,
@@ -34,8 +34,8 @@ impl Desk {
         work.make_due(client)
     }
 
-    /// Tells a client why its command is not carried out, if the connection is still there. It fails if `Work::answer`
-    /// does.
+    /// Tells a client why its command is not carried out, if the connection is still there, and makes its next command
+    /// due. Fails only if `Work::answer` or `Work::make_due` fails.
     pub fn refuse(
         &mut self,
         client: ConnectionId,

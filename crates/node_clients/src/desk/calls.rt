@@ -1,4 +1,4 @@
-//! The calls that are open.
+//! The open calls of a node.
 ghost use Rattle.std.specs.Prelude.{◌≡◌, ◌≢◌, ℕ, IfErr, IfOk, None, OnOk, Some};
 ghost use Rattle.indexmap.specs.IndexMap.{keys};
 ghost use Rattle.node_effects.specs.declared.error.NodeError.TheVariants.{NoMemory};
@@ -12,8 +12,8 @@ use node_strings::ConnectionId;
 use tag::CallId;
 
 impl Desk {
-    /// A call begins, which is a move or none: it is open from now on, and this client waits for its answer, if one is
-    /// given. `NoMemory`, and nothing changes.
+    /// Adds an open call of the object of this name, with the client that waits for its answer, if one is given.
+    /// `is_move` says whether the call is a move. Fails with `NoMemory`, and then nothing changes.
     pub fn open(
         &mut self,
         id: CallId,
@@ -41,7 +41,7 @@ impl Desk {
         }
     }
 
-    /// Removes a call. Returns the connection that waits for its answer, if one does.
+    /// Removes an open call. Returns the connection that waited for its answer, if one did.
     pub fn closed(&mut self, id: CallId) -> Option<ConnectionId>
         ensures client { result ≡ waiting_for self.old.calls id }
         ensures gone { call_under self.new.calls id ≡ None }
@@ -69,7 +69,7 @@ impl Desk {
         }
     }
 
-    /// The ids of the open calls. `NoMemory`.
+    /// Returns the ids of the open calls. Fails with `NoMemory`.
     pub fn open_ids(&self) -> Result<Vec<CallId>, NodeError>
         ensures ids { IfOk result (λ ids. ids.items ≡ keys self.now.calls) }
         ensures refused { IfErr result (λ e. e ≡ NoMemory) }
@@ -85,8 +85,8 @@ impl Desk {
         Ok(ids)
     }
 
-    /// Makes an open call older by a tick. It is late if it is then older than this number of ticks. Returns none, and
-    /// changes nothing, if no call with this id is open. `NoMemory`, and then nothing changes.
+    /// Makes an open call older by a tick. The call is late if it is then older than this number of ticks. Returns none
+    /// and changes nothing if no call with this id is open. Fails with `NoMemory`, and then nothing changes.
     pub fn aged(&mut self, id: CallId, ticks: u32) -> Result<Option<Aged>, NodeError>
         ensures aged { IfOk result (λ aged. aged ≡ aged_call ticks (call_under self.old.calls id)) }
         ensures older { OnOk result (call_under self.new.calls id ≡ older_call (call_under self.old.calls id)) }

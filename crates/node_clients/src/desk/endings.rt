@@ -16,8 +16,8 @@ use record::Operation;
 use tag::CallId;
 
 impl Desk {
-    /// Removes a call that was answered, and tells the client that waits for it, if its connection is there. It fails
-    /// if `Work::answer` does.
+    /// Removes a call that was answered, and sends the answer to the client that waits for it, if its connection is
+    /// still there. Fails only if `Work::answer` or `Work::make_due` fails.
     pub fn end(&mut self, ended: Ended, work: &mut Work) -> Result<(), NodeError>
         ensures told { OnOk result (IsGrown work.old work.new
             (growth_for self.old (waiting_for self.old.calls ended.id) (ended_answer ended))) }
@@ -34,7 +34,7 @@ impl Desk {
     }
 
     /// Removes a call that was given up, and tells the client that waits for it that no quorum answered, if its
-    /// connection is there. It fails if `Work::answer` does.
+    /// connection is still there. Fails only if `Work::answer` or `Work::make_due` fails.
     pub fn give_up(&mut self, id: CallId, work: &mut Work) -> Result<(), NodeError>
         ensures told { OnOk result (IsGrown work.old work.new
             (growth_for self.old (waiting_for self.old.calls id) (answers.Error NoQuorum))) }
@@ -49,8 +49,8 @@ impl Desk {
         self.close(id, Answer::Error(AnswerError::NoQuorum), work)
     }
 
-    /// Tells the client that waits for a call that no quorum answered, if its connection is there. The client no longer
-    /// waits, and the call stays open. It fails if `Work::answer` does.
+    /// Tells the client that waits for a call that no quorum answered, if its connection is still there. The client no
+    /// longer waits, and the call stays open. Fails only if `Work::answer` or `Work::make_due` fails.
     pub fn release(&mut self, id: CallId, work: &mut Work) -> Result<(), NodeError>
         ensures told { OnOk result (IsGrown work.old work.new
             (growth_for self.old (waiting_for self.old.calls id) (answers.Error NoQuorum))) }

@@ -1,4 +1,4 @@
-//! Calls that begin, are sent again, and are given up.
+//! Calls that begin, calls whose requests are sent again, and calls that are given up.
 ghost use Rattle.std.specs.Prelude.{◌≡◌, ◌≢◌, ◌<◌, ◌^◌, ◌∷◌, [], ℕ, suc, IfErr, IfOk, OnOk, Some};
 ghost use Rattle.tag.specs.declared.refusal.Refusal.TheVariants.{NoMemory};
 ghost use Rattle.call_ids.specs.CallId.{with_next_epoch};
@@ -34,7 +34,7 @@ use tag::{CallId, Refusal};
 impl Keeper {
     /// Begins an epoch of the calls' ids, and logs it.
     ///
-    /// `NoMoreIds` if all epochs have begun, and `NoMemory`.
+    /// Fails with `NoMoreIds` if all epochs have begun, or with `NoMemory`.
     pub fn begin_epoch(&mut self, work: &mut Work) -> Result<(), NodeError>
         ensures acts { OnOk result ((asker : ℕ) → Acts asker [] self.old work.old self.new work.new) }
         ensures more { OnOk result (suc self.old.ids.epoch < 2 ^ 24) }
@@ -49,7 +49,8 @@ impl Keeper {
 
     /// Begins a read of the object of this name, and sends its first requests.
     ///
-    /// `NoMoreIds` if there is no id for the call, and `NoMemory`.
+    /// Fails with `NoMoreIds` if there is no id for the call, with `Unwritable` if a request is no message, or with
+    /// `NoMemory`.
     pub fn begin_read(&mut self, name: &Bytes, work: &mut Work) -> Result<Begun, NodeError>
         ensures acts { OnOk result ((asker : ℕ) → Acts asker [] self.old work.old self.new work.new) }
         ensures begins { IfOk result (BeginsCall (reading_call name.now) self.old work.old self.new work.new) }
@@ -71,7 +72,8 @@ impl Keeper {
 
     /// Begins a write of a value to the object of this name, and sends its first requests.
     ///
-    /// `NoMoreIds` if there is no id for the call, and `NoMemory`.
+    /// Fails with `NoMoreIds` if there is no id for the call, with `Unwritable` if a request is no message, or with
+    /// `NoMemory`.
     pub fn begin_write(
         &mut self,
         name: &Bytes,
@@ -102,7 +104,8 @@ impl Keeper {
     /// Begins a move of the object of this name to this layout, logs it, and sends its first requests. Only the node
     /// that moves objects may call this.
     ///
-    /// `NoMoreIds` if there is no id for the call, and `NoMemory`.
+    /// Fails with `NoMoreIds` if there is no id for the call, with `Unwritable` if a request is no message or the entry
+    /// for the log is too long, or with `NoMemory`.
     pub fn begin_move(
         &mut self,
         name: &Bytes,
@@ -156,7 +159,7 @@ impl Keeper {
     /// Sends the requests of a call's current phase again to the members that have not replied, if the call with this
     /// id is open at the object of this name.
     ///
-    /// `NoMemory`.
+    /// Fails with `Unwritable` if a request is no message, or with `NoMemory`.
     pub fn resend(&self, name: &Bytes, id: CallId, work: &mut Work) -> Result<(), NodeError>
         ensures acts { OnOk result ((asker : ℕ) → Acts asker [] self.now work.old self.now work.new) }
         ensures sends { OnOk result (IsGrown work.old work.new
@@ -169,7 +172,7 @@ impl Keeper {
     }
 
     /// Ends the read or the write with this id at the object of this name without an answer, if one is open there.
-    /// Returns whether one was. A move goes on.
+    /// Returns whether it ended one. A move goes on.
     pub fn give_up(&mut self, name: &Bytes, id: CallId) -> bool
         ensures acts { (asker : ℕ) (work : Todo) → Acts asker [] self.old work self.new work }
         ensures given_up { result ≡ gives_up (objects_of self.old.objects name.now) id }

@@ -25,11 +25,12 @@ use node_effects::{NamedLetter, NodeError, Notice, Work};
 use node_strings::Record;
 
 impl Keeper {
-    /// A letter has come from the node with this number, which may be this node itself. The node serves or takes the
-    /// letter, unless the letter names no member or its layouts contradict those of which the node has heard. It logs a
-    /// request that may change a bank, and a reply that an open move takes, before it does so.
+    /// Serves the request or takes the reply in a letter from the node with this number, which may be this node itself.
+    /// Drops the letter if it names no member, or if its layouts contradict those of which the node has heard. The node
+    /// that moves objects also drops a letter with a layout of which it has not heard. Logs a request that may change a
+    /// bank before it is served, and a reply to an open move before the move takes it.
     ///
-    /// `NoMemory`. `Unwritable` if the letter is no message.
+    /// Fails with `NoMemory`, or with `Unwritable` if the letter is no message.
     pub fn deliver(
         &mut self,
         sender: u8,

@@ -1,4 +1,4 @@
-//! What is carried out again from the log. Nothing is sent, and clients see nothing.
+//! Carrying out again what the log records. Nothing is sent, and clients see nothing.
 ghost use Rattle.std.specs.Prelude.{◌≡◌, ◌⊎◌, ◌∷◌, ◌^◌, [], true, false, nat_lt, suc};
 ghost use Rattle.std.specs.Prelude.{IfErr, IfOk, OnOk, option_to_list};
 ghost use Rattle.local_object.specs.Doing.{move_refusal, serve_events};
@@ -18,7 +18,7 @@ use node_effects::{NamedLetter, NodeError};
 use tag::CallId;
 
 impl Keeper {
-    /// Begins an epoch again. Returns whether there was one.
+    /// Begins an epoch again. Returns false and changes nothing if all epochs have begun.
     pub fn start_again(&mut self) -> bool
         ensures more { result ≡ nat_lt (suc self.old.ids.epoch) (2 ^ 24) }
         ensures started { result ≡ true → IsStarted (kept_of self.old) (kept_of self.new) }
@@ -28,7 +28,7 @@ impl Keeper {
         self.ids.begin_epoch()
     }
 
-    /// Serves a request again. `NoMemory`.
+    /// Serves a request again. Fails with `NoMemory`.
     pub fn serve_again(&mut self, it: NamedLetter) -> Result<(), NodeError>
         ensures served { OnOk result (IsDoneTo (kept_of self.old) it.name
             (serve_events (objects_of self.old.objects it.name) it.letter) (kept_of self.new)) }
@@ -41,7 +41,7 @@ impl Keeper {
         Ok(())
     }
 
-    /// Takes a reply again. Returns the call that it answers, if it answers one. `NoMemory`.
+    /// Takes a reply again. Returns the id of the call that this answers, if it answers one. Fails with `NoMemory`.
     pub fn take_again(&mut self, it: NamedLetter) -> Result<Option<CallId>, NodeError>
         ensures taken { IfOk result (λ id.
             (taken : IsTakenBy (kept_of self.old) it.name it.letter (kept_of self.new))
@@ -55,7 +55,7 @@ impl Keeper {
         Ok(id_of(progress.ended))
     }
 
-    /// Begins a move again. `Refused` if the object refuses it, and `NoMemory`.
+    /// Begins a move again. Fails with `Refused` if the object refuses the move, or with `NoMemory`.
     pub fn move_again(&mut self, name: &Bytes, id: CallId, layout: Layout) -> Result<(), NodeError>
         ensures begun { OnOk result (IsDoneTo (kept_of self.old) name.now (LocalEvent.BeginMove id layout ∷ [])
             (kept_of self.new)) }

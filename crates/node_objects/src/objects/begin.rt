@@ -17,10 +17,10 @@ use local_object::Letter;
 use tag::{CallId, LONGEST_VALUE, Refusal};
 
 impl Objects {
-    /// The node begins a read of the object of a name, with an id that no other call of the object has in the whole
-    /// cluster. The letters are its requests to the members of position 0.
+    /// Begins a read of the object of a name, with an id that no other call of the object has in the whole cluster.
+    /// Returns the read's requests to the members of position 0.
     ///
-    /// `NotNow` if a call with this id is open at the object, and `NoMemory`.
+    /// Is refused with `NotNow` if a call with this id is open at the object, or with `NoMemory`.
     pub fn begin_read(&mut self, name: &Bytes, id: CallId) -> Result<Vec<Letter>, Refusal>
         ensures done { IfOk result (λ letters.
             IsDoneAt self.old name.now (LocalEvent.BeginRead id ∷ []) self.new letters.items) }
@@ -35,11 +35,11 @@ impl Objects {
         }
     }
 
-    /// The node begins a write of this value to the object of a name, with an id that no other call of the object has
-    /// in the whole cluster. The letters are its requests to the members of position 0.
+    /// Begins a write of this value to the object of a name, with an id that no other call of the object has in the
+    /// whole cluster. Returns the write's requests to the members of position 0.
     ///
-    /// `NotNow` if a call with this id is open at the object, `TooLong` if the value has more than `LONGEST_VALUE`
-    /// bytes, and `NoMemory`.
+    /// Is refused with `NotNow` if a call with this id is open at the object, with `TooLong` if the value has more than
+    /// `LONGEST_VALUE` bytes, or with `NoMemory`.
     pub fn begin_write(
         &mut self,
         name: &Bytes,
@@ -70,11 +70,11 @@ impl Objects {
         !self.by_name.contains_key(name) && value.len() > LONGEST_VALUE
     }
 
-    /// The node begins a move of the object of a name, from the last position of which it has heard to a new one with
-    /// this layout. The letters are its requests to the members of that last position.
+    /// Begins a move of the object of a name, from the last position of which the node has heard to a new one with this
+    /// layout. Returns the move's requests to the members of that last position.
     ///
-    /// `NotNow` if a call with this id is open at the object, `MovePending` if a move is, `Full` if there are no
-    /// numbers for the new position and the one after it, and `NoMemory`.
+    /// Is refused with `NotNow` if a call with this id is open at the object, with `MovePending` if a move is open
+    /// there, with `Full` if there are no numbers for the new position and the one after it, or with `NoMemory`.
     pub fn begin_move(
         &mut self,
         name: &Bytes,

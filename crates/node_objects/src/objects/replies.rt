@@ -1,4 +1,4 @@
-//! Replies that calls take, and calls that end without an answer.
+//! How calls take replies, and how calls end without an answer.
 ghost use Rattle.std.specs.Prelude.{◌≡◌, [], IfErr, IfOk, option_to_list};
 ghost use Rattle.tag.specs.declared.refusal.Refusal.TheVariants.{NoMemory};
 ghost use Rattle.local_object.specs.Doing.{give_up_events, gives_up};
@@ -11,9 +11,9 @@ use local_object::{Letter, Progress};
 use tag::{CallId, Refusal};
 
 impl Objects {
-    /// A call of the node at the object of a name takes a reply and goes on as far as it can: it settles the value that
-    /// it fetched, and begins its next phase or is answered. No object changes if the letter is no reply to a call that
-    /// is open there, or if there is no number in 32 bits for the next position.
+    /// Has a call of the object of a name take a reply and go on as far as it can: the call settles the value that it
+    /// fetched, and begins its next phase or is answered. No object changes if the letter is no reply to a call that is
+    /// open at this node, or if there is no number in 32 bits for the next position.
     ///
     /// `NoMemory` is the only refusal.
     pub fn take(&mut self, name: &Bytes, letter: Letter) -> Result<Progress, Refusal>
@@ -30,8 +30,8 @@ impl Objects {
     }
 
     /// Ends the read or the write with this id at the object of a name without an answer, if one is open there. A write
-    /// may still take effect. Returns whether a call was given up. A move goes on until it is answered. It allocates no
-    /// memory.
+    /// may still take effect. Returns whether a call was given up. A move goes on until it is answered. The function
+    /// allocates no memory.
     pub fn give_up(&mut self, name: &Bytes, id: CallId) -> bool
         ensures done { IsDoneAt self.old name.now (give_up_events (objects_of self.old name.now) id) self.new [] }
         ensures given_up { result ≡ gives_up (objects_of self.old name.now) id }

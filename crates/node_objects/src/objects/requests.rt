@@ -14,9 +14,9 @@ use local_object::Letter;
 use tag::{CallId, Refusal};
 
 impl Objects {
-    /// The node serves a request about the object of a name. The reply has to be sent to the node from which the
-    /// request came. Returns none, and changes no object, if the letter is no request, if there is no number in 32 bits
-    /// for the next position, or if this node is not the member that the letter names.
+    /// Serves a request about the object of a name, and returns the reply, which has to be sent to the node from which
+    /// the request came. Returns none, and changes no object, if the letter is no request, if there is no number in 32
+    /// bits for the next position, or if this node is not the member that the letter names.
     ///
     /// `NoMemory` is the only refusal.
     pub fn serve(&mut self, name: &Bytes, letter: Letter) -> Result<Option<Letter>, Refusal>
@@ -32,8 +32,9 @@ impl Objects {
         }
     }
 
-    /// The requests of the current phase of the call with this id at the object of a name, as they were sent, to the
-    /// members whose replies are not recorded, in their order. No letters where no call with this id is open there.
+    /// Returns the requests of the current phase of the call with this id at the object of a name, as they were sent,
+    /// to the members whose replies are not recorded, in the order of the members. Returns no letters if no call with
+    /// this id is open there.
     ///
     /// `NoMemory` is the only refusal.
     pub fn resend(&self, name: &Bytes, id: CallId) -> Result<Vec<Letter>, Refusal>

@@ -9,4 +9,4 @@ use Rattle.node_keeper.proofs.keeper.Keeper.deliver.Goals as goal
 pub returns-then-not-branch-clause-acts : goal.returns-then-not-branch-clause-acts
 returns-then-not-branch-clause-acts c =
     acts_rest c.args.sender (if_heeded (kept_of c.args.self.now) (named_of c.args.it)) c.args.self.now c.args.work.now
-    c.args.work.now no_growth (grown_none c.args.work.now) refl refl refl refl
+    c.args.work.now no_growth (grown_none c.args.work.now) refl refl refl

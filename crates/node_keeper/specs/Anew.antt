@@ -1,0 +1,21 @@
+-- The contracts that docs/trusted.md lists do not depend on this file; other contracts and proofs do.
+-- The records of a node's log that is written anew.
+use Rattle.std.specs.Prelude.{ℕ, List, map}
+use Rattle.node_objects.specs.Objects.{heard_names, objects_of}
+use Rattle.object_letters.specs.Letters.{letters_as}
+use Rattle.recoveries.specs.Records.{LogRecord}
+use Rattle.rewritten_logs.specs.Records.{object_records, rewritten_records}
+use Rattle.node_keeper.specs.Keeping.{kept_of}
+use Rattle.node_keeper.specs.declared.keeper.Keeper.{Keeper}
+
+-- those of the letters that lead to the object of a name
+abbrev pub name_records : (name : List ℕ) → Keeper → List LogRecord
+name_records name keeper = map (LogRecord.Serves name) (letters_as keeper.ids.node (objects_of keeper.objects name))
+
+-- those of all objects of which the node has heard
+abbrev pub object_records_of : Keeper → List LogRecord
+object_records_of keeper = object_records (kept_of keeper) (heard_names keeper.objects)
+
+-- all of them: the node's epochs, and then its objects
+abbrev pub anew_records : Keeper → List LogRecord
+anew_records keeper = rewritten_records (kept_of keeper) (heard_names keeper.objects)

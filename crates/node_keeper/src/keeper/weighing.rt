@@ -1,0 +1,37 @@
+//! How long a log would be that is written anew.
+use super::Keeper;
+use local_object::LocalObject;
+
+// How many bytes the entries of one tag take, without a piece and without the object's name.
+const TAG_BYTES: u64 = 400;
+
+impl Keeper {
+    /// About how many bytes a log would have that is written anew: those of all pieces in the banks, some 400 for each
+    /// tag of a bank, and two names for each tag. It is `u64::MAX` if there are more. This is an estimate, by which a
+    /// host may decide when to write the log anew; no promise depends on it.
+    ///
+    /// It takes time linear in the number of tags.
+    pub fn needed_bytes(&self) -> u64 {
+        let mut bytes = self.objects.bytes_stored();
+        for index in 0..self.objects.count() {
+            if let Some((name, object)) = self.objects.named(index) {
+                let each = (name.len() as u64)
+                    .saturating_mul(2)
+                    .saturating_add(TAG_BYTES);
+                bytes = bytes.saturating_add(each.saturating_mul(tags_of(object)));
+            }
+        }
+        bytes
+    }
+}
+
+// The number of tags in all banks of an object.
+fn tags_of(object: &LocalObject) -> u64 {
+    let mut tags = 0u64;
+    for place in object.places() {
+        if let Some(bank) = place.bank() {
+            tags = tags.saturating_add(bank.count() as u64);
+        }
+    }
+    tags
+}
