@@ -5,7 +5,7 @@ use Rattle.cluster_file.specs.declared.error.FileError.TheVariants as files
 use Rattle.casd.specs.declared.fault.Fault.{Fault}
 use Rattle.casd.specs.declared.fault.Fault.TheVariants as faults
 
--- 2 where the words or the cluster file are wrong, and 1 for anything else
+-- 2 if the words or the cluster file are wrong, and 1 for anything else
 abbrev pub exit_status_of : Fault → ℕ
 exit_status_of faults.NotText = 2
 exit_status_of faults.Usage = 2
@@ -20,6 +20,7 @@ exit_status_of (faults.Unopened error) = 1
 exit_status_of (faults.BadLog error) = 1
 exit_status_of (faults.Stopped error) = 1
 exit_status_of (faults.LogLost error) = 1
+exit_status_of (faults.NotExchanged error) = 1
 exit_status_of (faults.Ended error) = 1
 exit_status_of (faults.OutputLost error) = 1
 exit_status_of faults.NoMemory = 1

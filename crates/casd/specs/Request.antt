@@ -1,6 +1,6 @@
 -- The contracts that docs/trusted.md lists do not depend on this file; other contracts and proofs do.
 -- Which words of a command line ask for what.
-use Rattle.std.specs.Prelude.{◌≡◌, ◌⊎◌, ◌≤◌, ℕ, List, [], ◌∷◌, codes, Result, MatchResult}
+use Rattle.std.specs.Prelude.{◌≡◌, ◌≤◌, ℕ, List, [], ◌∷◌, codes, Result, MatchResult}
 use Rattle.words.specs.Number.{IsNumber}
 use Rattle.words.specs.Word.{Word}
 use Rattle.casd.specs.declared.arguments.Request.{Request}
@@ -19,8 +19,8 @@ Spells words asks.Version = words ≡ codes "--version" ∷ []
 Spells words (asks.Run file number folder) =
     (word : Word) × (words ≡ file.now ∷ word ∷ folder.now ∷ []) × IsNodeWord word number
 
--- why the words ask for nothing: they are not `--help`, not `--version` and not three words; or the second of three
--- writes no number of a node
+-- why the words ask for nothing: they are neither `--help`, nor `--version`, nor three words; or they are three words,
+-- the second of which writes no number of a node
 abbrev pub IsFaultOf : List Word → Fault → Type 0
 IsFaultOf words faults.Usage =
     ((words ≡ codes "--help" ∷ []) → ⊥) × ((words ≡ codes "--version" ∷ []) → ⊥)

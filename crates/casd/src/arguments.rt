@@ -11,7 +11,7 @@ pub enum Request<'a> {
     Help,
     /// The program's name and version.
     Version,
-    /// To be the node of this number, with this cluster file and this folder.
+    /// To run the node with this number, with this cluster file and this folder.
     Run {
         file: &'a str,
         number: u8,
@@ -19,8 +19,8 @@ pub enum Request<'a> {
     },
 }
 
-/// What the words after the program's name ask for. `Usage` where they have no such form, and otherwise `BadNode` where
-/// the node's number is none from 0 to 255.
+/// Returns what the words after the program's name ask for. Fails with `BadNode` if there are three words, the second
+/// of which writes no number from 0 to 255, and with `Usage` for any other words that ask for nothing.
 pub fn read_request(words: &[String]) -> Result<Request<'_>, Fault>
     ensures { ParsesTo (map string_bytes words.entry.now) result }
 {

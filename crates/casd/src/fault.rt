@@ -20,22 +20,22 @@ pub enum Fault {
     /// The words of the command line have the form of no request.
     #[error("usage: casd FILE NODE FOLDER")]
     Usage,
-    /// The node's number is none from 0 to 255.
+    /// The word for the node's number writes no number from 0 to 255.
     #[error("NODE is no number from 0 to 255")]
     BadNode,
     /// The cluster file cannot be read.
     #[error("cannot read the cluster file: {0}")]
     Unread(io::Error),
-    /// The cluster file is none.
+    /// The cluster file has a fault, or there is no memory to read it.
     #[error("the cluster file, {0}")]
     BadFile(FileError),
     /// The cluster file names no node of this number.
     #[error("the cluster file has no node {0}")]
     NoNode(u8),
-    /// The file that stands for closed streams cannot be opened.
+    /// `/dev/null`, which takes the place of closed standard streams, cannot be opened.
     #[error("cannot open /dev/null: {0}")]
     NoNull(io::Error),
-    /// The folder is not there.
+    /// The folder does not exist.
     #[error("FOLDER is not there")]
     NoFolder,
     /// The log cannot be opened or cut.
@@ -47,9 +47,12 @@ pub enum Fault {
     /// The node cannot start.
     #[error("{0}")]
     Stopped(NodeError),
-    /// The log cannot be begun.
+    /// The entries of the node's start cannot be written to the log.
     #[error("cannot write the log: {0}")]
     LogLost(io::Error),
+    /// The log was written anew, and the new one cannot be put in the place of the old one.
+    #[error("cannot exchange the log: {0}")]
+    NotExchanged(io::Error),
     /// The node's loop ended early.
     #[error("{0}")]
     Ended(ServeError),
@@ -62,7 +65,7 @@ pub enum Fault {
 }
 
 impl Fault {
-    /// Why the program's arguments could not be read: one is not UTF-8, or memory is refused.
+    /// Returns why the program's arguments could not be read: one is not UTF-8, or memory is refused.
     pub fn from_arguments(error: io::Error) -> Fault
         ensures memory { error_kind error ≡ ErrorKind.OutOfMemory → result ≡ NoMemory }
         ensures text { error_kind error ≢ ErrorKind.OutOfMemory → result ≡ NotText }
@@ -73,7 +76,7 @@ impl Fault {
         }
     }
 
-    /// The exit status: 2 for wrong arguments or a bad cluster file, and 1 for anything else.
+    /// Returns the exit status: 2 for wrong arguments or a bad cluster file, and 1 for anything else.
     fn status(&self) -> u8
         ensures { result ≡ exit_status_of self.now }
     {

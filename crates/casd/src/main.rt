@@ -8,6 +8,7 @@ use std::{env, fs, io};
 
 mod arguments;
 mod fault;
+mod folder;
 mod opening;
 mod program;
 

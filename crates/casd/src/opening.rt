@@ -1,17 +1,22 @@
-//! The cluster file, and the log in a node's folder.
+//! The cluster file, and the log of a node at its start.
 use crate::fault::Fault;
+use crate::folder::FolderLog;
 use cluster_file::{ClusterFile, read_cluster_file};
 use node::Node;
-use node_store::{LogFile, append_entries, recover_machine};
-use std::fs;
-use std::fs::{OpenFile, OpenOptions};
-use std::io::{BufReader, ErrorKind, Seek, SeekFrom};
+use node_log::Entry;
+use node_store::{
+    RewritableLog, Rewriting, append_entries, is_worth_rewriting, recover_machine, rewrite_log,
+};
+use std::fmt::Display;
+use std::fs::OpenFile;
+use std::io::{BufReader, ErrorKind, Seek, SeekFrom, Write};
 use std::rt::Files;
+use std::{fs, io};
 
 // The size of the buffer with which the log is read, in bytes.
 const LOG_BUFFER: usize = 65_536;
 
-/// The cluster file of this name, which has a node of this number.
+/// Reads the cluster file of this name. Fails with `NoNode` if it has no node of this number.
 pub fn read_file<R: Files + AllocGlobal>(
     rt: &R,
     name: &str,
@@ -26,42 +31,33 @@ pub fn read_file<R: Files + AllocGlobal>(
     }
 }
 
-/// Opens the log in the folder, has the node carry it out again, cuts off an entry that is cut short at its end, and
-/// begins an epoch of the node. Returns the log, which is synced, and its length.
+/// Opens the log in the folder, has the node carry it out again, and cuts off an entry that is cut short at its end.
+/// Then it writes the log anew, if most of it is no longer needed, and begins an epoch of the node. Returns the log,
+/// which is synced, and its length. How many bytes it cut off is said on `err`, and why the log was not written anew.
 ///
-/// Where the log is damaged or not the node's, it is left as it is.
-pub fn open_log<R: Files + AllocGlobal>(
-    rt: &R,
+/// If the log is damaged or is not this node's, the file is left as it is.
+pub fn open_log<'a, R: Files + AllocGlobal, E: Write>(
+    rt: &'a R,
     folder: &str,
     node: &mut Node,
-) -> Result<(LogFile<R::File>, u64), Fault> {
-    let mut file = open_file(rt, folder)?;
-    let length = recover(rt, &mut file, node)?;
-    cut_behind(&mut file, length)?;
-    let mut log = LogFile { file };
-    let effects = node.start().map_err(Fault::Stopped)?;
-    let more = append_entries(rt.alloc(), &mut log, &effects.entries).map_err(Fault::LogLost)?;
-    sync_folder(rt, folder)?;
+    err: &mut E,
+) -> Result<(FolderLog<'a, R>, u64), Fault> {
+    let mut log = FolderLog::open(rt, folder).map_err(unopened)?;
+    let length = recover(rt, log.file(), node)?;
+    cut_behind(log.file(), length, err).map_err(Fault::Unopened)?;
+    let length = write_anew(rt, &mut log, node, length, err)?;
+    let entries = node.start().map_err(Fault::Stopped)?;
+    let more = append_entries(rt.alloc(), &mut log, &entries).map_err(Fault::LogLost)?;
+    log.sync_place().map_err(Fault::Unopened)?;
     Ok((log, length.saturating_add(more)))
 }
 
-// Opens the file `log` in the folder, and makes it where there is none.
-fn open_file<R: Files + AllocGlobal>(rt: &R, folder: &str) -> Result<R::File, Fault> {
-    let Ok(name) = format!(in rt.alloc(); "{folder}/log") else {
-        return Err(Fault::NoMemory);
-    };
-    let mut options = OpenOptions::new();
-    match options
-        .read(true)
-        .write(true)
-        .create(true)
-        .open(rt, name.as_str())
-    {
-        Ok(file) => Ok(file),
-        Err(error) => match error.kind() {
-            ErrorKind::NotFound => Err(Fault::NoFolder),
-            _ => Err(Fault::Unopened(error)),
-        },
+// Why the log cannot be opened.
+fn unopened(error: io::Error) -> Fault {
+    match error.kind() {
+        ErrorKind::NotFound => Fault::NoFolder,
+        ErrorKind::OutOfMemory => Fault::NoMemory,
+        _ => Fault::Unopened(error),
     }
 }
 
@@ -77,17 +73,67 @@ fn recover<R: Files + AllocGlobal>(
     }
 }
 
-// Cuts the file behind so many bytes, where the next byte is then written.
-fn cut_behind<F: Seek + OpenFile>(file: &mut F, length: u64) -> Result<(), Fault> {
-    file.set_len(length).map_err(Fault::Unopened)?;
-    match file.seek(SeekFrom::Start(length)) {
-        Ok(_) => Ok(()),
-        Err(error) => Err(Fault::Unopened(error)),
+// Cuts the file behind so many bytes, where the next byte is then written. Says on `err` how many bytes it cut off.
+fn cut_behind<F: Seek + OpenFile, E: Write>(
+    file: &mut F,
+    length: u64,
+    err: &mut E,
+) -> io::Result<()> {
+    let end = file.seek(SeekFrom::End(0))?;
+    if end > length {
+        file.set_len(length)?;
+        let cut = end - length;
+        let _ = writeln!(
+            err,
+            "casd: the log's last entry was cut short; {cut} bytes were cut off"
+        );
+    }
+    file.seek(SeekFrom::Start(length))?;
+    Ok(())
+}
+
+// Writes the log of so many bytes anew, if that is worth it and the node may do so now. Returns its length. If a file
+// `log.new` was left when the node stopped while it wrote its log anew, that file is removed.
+fn write_anew<R: Files + AllocGlobal, E: Write>(
+    rt: &R,
+    log: &mut FolderLog<'_, R>,
+    node: &Node,
+    length: u64,
+    err: &mut E,
+) -> Result<u64, Fault> {
+    let _ = log.remove_second();
+    if !is_worth_rewriting(length, node.needed_bytes()) {
+        return Ok(length);
+    }
+    match node.entries_anew() {
+        Ok(Some(entries)) => exchange(rt, log, &entries, length, err),
+        Ok(None) => Ok(length),
+        Err(error) => {
+            give_up(err, error);
+            Ok(length)
+        }
     }
 }
 
-// Syncs the folder, so that a log that was made since the last start is in it after the machine stops.
-fn sync_folder<R: Files + AllocGlobal>(rt: &R, folder: &str) -> Result<(), Fault> {
-    let opened = fs::open(rt, folder).map_err(Fault::Unopened)?;
-    opened.sync_all().map_err(Fault::Unopened)
+// Puts a log with these entries in the place of the log of so many bytes, which stays if the new one cannot be written.
+// Returns the length of the log.
+fn exchange<R: Files + AllocGlobal, E: Write>(
+    rt: &R,
+    log: &mut FolderLog<'_, R>,
+    entries: &[Entry],
+    length: u64,
+    err: &mut E,
+) -> Result<u64, Fault> {
+    match rewrite_log(rt.alloc(), log, entries).map_err(Fault::NotExchanged)? {
+        Rewriting::Done(anew) => Ok(anew),
+        Rewriting::GivenUp(error) => {
+            give_up(err, error);
+            Ok(length)
+        }
+    }
+}
+
+// Says on `err` why the log was not written anew. A write that fails is ignored.
+fn give_up<E: Write, C: Display + Drop>(err: &mut E, cause: C) {
+    let _ = writeln!(err, "casd: the log was not written anew: {cause}");
 }

@@ -19,8 +19,8 @@ in on standard input and go out on standard output; a host moves them.
 The status is 0 at the end of the input, 2 for wrong arguments or a bad cluster file, and
 1 for anything else, such as a log that is damaged or cannot be written.";
 
-/// Carries out the words after the program's name, and returns the exit status: 0 at the end of the input, and else
-/// that of the fault, whose text goes to `err`.
+/// Carries out the words after the program's name, and returns the exit status. It is 0 at the end of the input, and
+/// otherwise that of the fault, whose text goes to `err`.
 pub fn run_words<R: Files + AllocGlobal, I: Read + Drop, O: Write, E: Write>(
     rt: &R,
     words: &[String],
@@ -37,7 +37,7 @@ pub fn run_words<R: Files + AllocGlobal, I: Read + Drop, O: Write, E: Write>(
                 number,
                 folder,
             },
-        ) => run_node(rt, file, number, folder, input, output),
+        ) => run_node(rt, file, number, folder, input, output, err),
         Err(fault) => Err(fault),
     };
     match done {
@@ -47,24 +47,22 @@ pub fn run_words<R: Files + AllocGlobal, I: Read + Drop, O: Write, E: Write>(
 }
 
 fn print_line<O: Write>(output: &mut O, text: &str) -> Result<(), Fault> {
-    match writeln!(output, "{text}") {
-        Ok(()) => Ok(()),
-        Err(error) => Err(Fault::OutputLost(error)),
-    }
+    writeln!(output, "{text}").map_err(Fault::OutputLost)
 }
 
 // The node of this number runs until its input ends.
-fn run_node<R: Files + AllocGlobal, I: Read + Drop, O: Write>(
+fn run_node<R: Files + AllocGlobal, I: Read + Drop, O: Write, E: Write>(
     rt: &R,
     file: &str,
     number: u8,
     folder: &str,
     input: I,
     output: &mut O,
+    err: &mut E,
 ) -> Result<(), Fault> {
     let file = read_file(rt, file, number)?;
     let mut node = Node::new(rt.alloc(), file, number);
-    let (mut log, length) = open_log(rt, folder, &mut node)?;
+    let (mut log, length) = open_log(rt, folder, &mut node, err)?;
     let Ok(mut input) = BufReader::with_capacity(rt.alloc(), INPUT_BUFFER, input) else {
         return Err(Fault::NoMemory);
     };

@@ -1,5 +1,5 @@
 -- What a node has done so far, as it handles a frame.
-use Rattle.std.proofs.Common.{◌≡◌, ℕ, zero, suc, Bool, true, false, cond, ◌==◌, List, [], ◌∷◌, ◌++◌, map}
+use Rattle.std.proofs.Common.{◌≡◌, ℕ, zero, suc, Bool, true, false, cond, ◌==◌, List, [], ◌∷◌, ◌++◌}
 use Rattle.std.proofs.Common.{None, Some, slice_get, refl, sym, subst, ap, ◌∙◌}
 use Rattle.std.proofs.lemmas.List.{append-nil, append_assoc, map-append}
 use Rattle.std.specs.List.{AllByRecursion}
@@ -9,7 +9,7 @@ use Rattle.deeds.specs.Named.{NamedLetter as Named, IsOneOf}
 use Rattle.deeds.proofs.ListLemmas.{all_append, all_weaker}
 use Rattle.deeds.proofs.NameLemmas.{one_of_first, one_of_second}
 use Rattle.node_strings.specs.Arrival.{arrival_at}
-use Rattle.recoveries.specs.Stops.{IsHandledSafely}
+use Rattle.recoveries.specs.Stops.{IsHandledSafely, sent_in}
 use Rattle.recoveries.proofs.StopLemmas.{more_safe, two_safe}
 use Rattle.node_clients.specs.Desk.{NoneWaits}
 use Rattle.node_effects.specs.Seen.{all_seen, named_of, seen_of}
@@ -20,12 +20,14 @@ use Rattle.node_effects.specs.declared.letter.NamedLetter.{NamedLetter}
 use Rattle.node_effects.specs.declared.work.Work.{Work}
 use Rattle.node_keeper.specs.Acts.{Acts}
 use Rattle.node_keeper.specs.Keeping.{heeds, if_heeded, kept_of}
-use Rattle.node_keeper.specs.Logging.{IsReadBack, log_entry_of}
-use Rattle.node_keeper.specs.Sendings.{IsDirected, Sending, letters_of, posted, to_itself}
+use Rattle.node_keeper.specs.Logging.{IsReadBack}
+use Rattle.node_keeper.specs.Sendings.{IsDirected, Sending, letters_of, to_itself}
+use Rattle.node_keeper.specs.Wants.{left_by, outputs_of, records_in, sends_in}
 use Rattle.node_keeper.specs.declared.keeper.Keeper.{Keeper}
 use Rattle.node_keeper.proofs.ActLemmas.{safe_as}
 use Rattle.node_keeper.proofs.IdLemmas.{handled_within}
-use Rattle.node_keeper.proofs.SendingLemmas.{letters_append, posted_append}
+use Rattle.node_keeper.proofs.SendingLemmas.{letters_append}
+use Rattle.node_keeper.proofs.WantLemmas.{left_append, left_sent, outputs_append, records_append, sends_append}
 use Rattle.node.specs.declared.node.Node.{Node}
 use Rattle.node.specs.Frames.{letters_in, sender_or}
 use Rattle.node.specs.Handles.{Handles, HasActed}
@@ -65,20 +67,19 @@ pub acted_first : (asker : ℕ) (got : List Named) (a b : Keeper) (u v : Work) �
 acted_first asker got a b u v within empty acts =
     let g = acts.growth in
     let notices : v.notices.items ≡ g.notices = acts.grown.notices ∙ ap (λ xs. xs ++ g.notices) empty.notices in
-    let own : v.own.items ≡ to_itself a.ids.node acts.sends =
+    let sends = sends_in acts.wants in
+    let own : v.own.items ≡ to_itself a.ids.node sends =
     acts.grown.own ∙ ap (λ xs. xs ++ g.own) empty.own ∙ acts.own in record {
-      sends = acts.sends;
-      records = acts.records;
-      handled = subst (λ ns. IsHandledSafely fragment (kept_of a) got acts.records (kept_of b) (letters_of acts.sends) (all_seen ns))
+      wants = acts.wants;
+      handled = subst (λ ns. IsHandledSafely fragment (kept_of a) got (left_by acts.wants) (kept_of b) (all_seen ns))
           (sym notices) (acts.handled within);
-      entries = acts.grown.entries ∙ ap (λ xs. xs ++ g.entries) empty.entries ∙ acts.entries;
+      outputs = acts.grown.outputs ∙ ap (λ xs. xs ++ g.outputs) empty.outputs ∙ acts.outputs;
       read = acts.read;
-      to_nodes = acts.grown.to_nodes ∙ ap (λ xs. xs ++ g.to_nodes) empty.to_nodes ∙ acts.to_nodes;
-      own = subst (λ xs. AllByRecursion (WasSent acts.sends) xs) (sym own) (own_were_sent a.ids.node acts.sends);
+      own = subst (λ xs. AllByRecursion (WasSent sends) xs) (sym own) (own_were_sent a.ids.node sends);
       addressed = record {
-        first = acts.sends;
+        first = sends;
         rest = [];
-        all = sym (append-nil acts.sends);
+        all = sym (append-nil sends);
         asked = acts.addressed;
         own = tt;
       };
@@ -88,53 +89,54 @@ acted_first asker got a b u v within empty acts =
 
 -- what is done next, where fewer of the letters to itself may wait
 pub acted_then : (asker other : ℕ) (got more : List Named) (a b c : Keeper) (v w x : Work) →
-    (done : HasActed asker got a b v) → w.entries.items ≡ v.entries.items → w.notices.items ≡ v.notices.items →
-    w.to_nodes.items ≡ v.to_nodes.items →
-    AllByRecursion (WasSent done.sends) w.own.items → Acts other more b w c x →
+    (done : HasActed asker got a b v) → w.outputs.items ≡ v.outputs.items → w.notices.items ≡ v.notices.items →
+    AllByRecursion (WasSent (sends_in done.wants)) w.own.items → Acts other more b w c x →
     other ≡ a.ids.node →
-    ((letter : Named) → IsOneOf more letter → IsOneOf (got ++ letters_of done.sends) letter) →
+    ((letter : Named) → IsOneOf more letter → IsOneOf (got ++ letters_of (sends_in done.wants)) letter) →
     HasActed asker got a c x
-acted_then asker other got more a b c v w x done entries notices to_nodes own acts itself among =
+acted_then asker other got more a b c v w x done outputs notices own acts itself among =
     let n = a.ids.node in
     let sent = done.addressed in
     let g = acts.growth in
+    let before = sends_in done.wants in
+    let then = sends_in acts.wants in
+    let left = left_by done.wants in
+    let more_left = left_by acts.wants in
+    let all : sends_in (done.wants ++ acts.wants) ≡ before ++ then = sends_append done.wants acts.wants in
     let noted : x.notices.items ≡ v.notices.items ++ g.notices = acts.grown.notices ∙ ap (λ xs. xs ++ g.notices) notices in
-    let within = handled_within fragment (kept_of a) got (kept_of b) (letters_of done.sends) (all_seen v.notices.items)
+    let within = handled_within fragment (kept_of a) got (kept_of b) (sent_in left) (all_seen v.notices.items)
     done.handled.handled in
-    let next = more_safe fragment (kept_of b) (kept_of c) more (got ++ letters_of done.sends) (letters_of acts.sends) acts.records
-    (all_seen g.notices) among (acts.handled within) in record {
-      sends = done.sends ++ acts.sends;
-      records = done.records ++ acts.records;
-      handled = safe_as (kept_of a) got (done.records ++ acts.records) (kept_of c)
-          (letters_of done.sends ++ letters_of acts.sends) (letters_of (done.sends ++ acts.sends))
+    let next = more_safe fragment (kept_of b) (kept_of c) more (got ++ sent_in left) more_left (all_seen g.notices)
+    (λ letter is. subst (λ xs. IsOneOf (got ++ xs) letter) (sym (left_sent done.wants)) (among letter is))
+    (acts.handled within) in record {
+      wants = done.wants ++ acts.wants;
+      handled = safe_as (kept_of a) got (left ++ more_left) (left_by (done.wants ++ acts.wants)) (kept_of c)
           (all_seen v.notices.items ++ all_seen g.notices) (all_seen x.notices.items)
-          (two_safe fragment (kept_of a) (kept_of b) (kept_of c) got (letters_of done.sends) (letters_of acts.sends) done.records
-          acts.records (all_seen v.notices.items) (all_seen g.notices) done.handled next)
-          (letters_append done.sends acts.sends) (ap all_seen noted ∙ map-append seen_of v.notices.items g.notices);
-      entries = acts.grown.entries ∙ ap (λ xs. xs ++ g.entries) (entries ∙ done.entries)
-          ∙ ap (λ xs. map (log_entry_of a.digest) done.records ++ xs) (acts.entries
-          ∙ ap (λ d. map (log_entry_of d) acts.records) done.digest)
-          ∙ sym (map-append (log_entry_of a.digest) done.records acts.records);
-      read = all_append (IsReadBack a.digest) done.records acts.records done.read
-          (subst (λ d. AllByRecursion (IsReadBack d) acts.records) done.digest acts.read);
-      to_nodes = acts.grown.to_nodes ∙ ap (λ xs. xs ++ g.to_nodes) (to_nodes ∙ done.to_nodes)
-          ∙ ap (λ xs. posted n a.digest done.sends ++ xs) (acts.to_nodes
-          ∙ ap (λ m. posted m b.digest acts.sends) done.node ∙ ap (λ d. posted n d acts.sends) done.digest)
-          ∙ sym (posted_append n a.digest done.sends acts.sends);
-      own = subst (λ xs. AllByRecursion (WasSent (done.sends ++ acts.sends)) xs)
+          (two_safe fragment (kept_of a) (kept_of b) (kept_of c) got left more_left (all_seen v.notices.items)
+          (all_seen g.notices) done.handled next)
+          (left_append done.wants acts.wants) (ap all_seen noted ∙ map-append seen_of v.notices.items g.notices);
+      outputs = acts.grown.outputs ∙ ap (λ xs. xs ++ g.outputs) (outputs ∙ done.outputs)
+          ∙ ap (λ xs. outputs_of n a.digest done.wants ++ xs) (acts.outputs
+          ∙ ap (λ m. outputs_of m b.digest acts.wants) done.node ∙ ap (λ d. outputs_of n d acts.wants) done.digest)
+          ∙ sym (outputs_append n a.digest done.wants acts.wants);
+      read = subst (λ rs. AllByRecursion (IsReadBack a.digest) rs) (sym (records_append done.wants acts.wants))
+          (all_append (IsReadBack a.digest) (records_in done.wants) (records_in acts.wants) done.read
+          (subst (λ d. AllByRecursion (IsReadBack d) (records_in acts.wants)) done.digest acts.read));
+      own = subst (λ xs. AllByRecursion (WasSent xs) x.own.items) (sym all)
+          (subst (λ xs. AllByRecursion (WasSent (before ++ then)) xs)
           (sym (acts.grown.own ∙ ap (λ xs. w.own.items ++ xs) acts.own))
-          (all_append (WasSent (done.sends ++ acts.sends)) w.own.items (to_itself b.ids.node acts.sends)
-          (all_weaker (WasSent done.sends) (WasSent (done.sends ++ acts.sends)) (sent_before done.sends acts.sends) w.own.items own)
-          (all_weaker (WasSent acts.sends) (WasSent (done.sends ++ acts.sends)) (sent_after done.sends acts.sends)
-          (to_itself b.ids.node acts.sends) (own_were_sent b.ids.node acts.sends)));
+          (all_append (WasSent (before ++ then)) w.own.items (to_itself b.ids.node then)
+          (all_weaker (WasSent before) (WasSent (before ++ then)) (sent_before before then) w.own.items own)
+          (all_weaker (WasSent then) (WasSent (before ++ then)) (sent_after before then)
+          (to_itself b.ids.node then) (own_were_sent b.ids.node then))));
       addressed = record {
         first = sent.first;
-        rest = sent.rest ++ acts.sends;
-        all = ap (λ xs. xs ++ acts.sends) sent.all ∙ append_assoc sent.first sent.rest acts.sends;
+        rest = sent.rest ++ then;
+        all = all ∙ ap (λ xs. xs ++ then) sent.all ∙ append_assoc sent.first sent.rest then;
         asked = sent.asked;
-        own = all_append (IsDirected n n) sent.rest acts.sends sent.own
-            (subst (λ m. AllByRecursion (IsDirected n m) acts.sends) itself
-            (subst (λ m. AllByRecursion (IsDirected m other) acts.sends) done.node acts.addressed));
+        own = all_append (IsDirected n n) sent.rest then sent.own
+            (subst (λ m. AllByRecursion (IsDirected n m) then) itself
+            (subst (λ m. AllByRecursion (IsDirected m other) then) done.node acts.addressed));
       };
       node = acts.node ∙ done.node;
       digest = acts.digest ∙ done.digest;
@@ -142,17 +144,15 @@ acted_then asker other got more a b c v w x done entries notices to_nodes own ac
 
 -- nothing is done, where the same waits in other words
 pub acted_same : (asker : ℕ) (got : List Named) (a b : Keeper) (v w : Work) → HasActed asker got a b v →
-    w.entries.items ≡ v.entries.items → w.notices.items ≡ v.notices.items → w.to_nodes.items ≡ v.to_nodes.items →
-    w.own.items ≡ v.own.items → HasActed asker got a b w
-acted_same asker got a b v w done entries notices to_nodes own = record {
-  sends = done.sends;
-  records = done.records;
-  handled = subst (λ ns. IsHandledSafely fragment (kept_of a) got done.records (kept_of b) (letters_of done.sends) (all_seen ns))
+    w.outputs.items ≡ v.outputs.items → w.notices.items ≡ v.notices.items → w.own.items ≡ v.own.items →
+    HasActed asker got a b w
+acted_same asker got a b v w done outputs notices own = record {
+  wants = done.wants;
+  handled = subst (λ ns. IsHandledSafely fragment (kept_of a) got (left_by done.wants) (kept_of b) (all_seen ns))
       (sym notices) done.handled;
-  entries = entries ∙ done.entries;
+  outputs = outputs ∙ done.outputs;
   read = done.read;
-  to_nodes = to_nodes ∙ done.to_nodes;
-  own = subst (λ xs. AllByRecursion (WasSent done.sends) xs) (sym own) done.own;
+  own = subst (λ xs. AllByRecursion (WasSent (sends_in done.wants)) xs) (sym own) done.own;
   addressed = done.addressed;
   node = done.node;
   digest = done.digest;
@@ -185,29 +185,30 @@ module _ (asker : ℕ) (got : List Named) (first b : Keeper) where
       IsOwnTaken v w (Some it) → Acts number (if_heeded (kept_of b) (named_of it)) b w c x → HasActed asker got first b v →
       HasActed asker got first c x
   own_handled number c v w x it same taken acts done =
-      let all : AllByRecursion (WasSent done.sends) (it ∷ w.own.items) =
-      subst (λ xs. AllByRecursion (WasSent done.sends) xs) taken.own done.own in
-      acted_then asker number got (if_heeded (kept_of b) (named_of it)) first b c v w x done taken.entries taken.notices
-      taken.to_nodes all.1 acts (same ∙ done.node)
-      (λ letter is. sent_one got done.sends it letter all.0 (heeded_is b (named_of it) letter is))
+      let sends = sends_in done.wants in
+      let all : AllByRecursion (WasSent sends) (it ∷ w.own.items) =
+      subst (λ xs. AllByRecursion (WasSent sends) xs) taken.own done.own in
+      acted_then asker number got (if_heeded (kept_of b) (named_of it)) first b c v w x done taken.outputs taken.notices
+      all.1 acts (same ∙ done.node)
+      (λ letter is. sent_one got sends it letter all.0 (heeded_is b (named_of it) letter is))
 
   -- no letter of the node to itself waits, and no connection is due
   none_own : (v u : Work) → IsOwnTaken v u None → HasActed asker got first b v → HasActed asker got first b u
   none_own v u taken done =
-      acted_same asker got first b v u done taken.entries taken.notices taken.to_nodes (taken.own.1 ∙ sym taken.own.0)
+      acted_same asker got first b v u done taken.outputs taken.notices (taken.own.1 ∙ sym taken.own.0)
 
   pub nothing_left : (v u w : Work) → IsOwnTaken v u None → IsDueTaken u w None → HasActed asker got first b v →
       HasActed asker got first b w
   nothing_left v u w own due done =
-      acted_same asker got first b u w (none_own v u own done) due.entries due.notices due.to_nodes due.own
+      acted_same asker got first b u w (none_own v u own done) due.outputs due.notices due.own
 
   -- the next command of a connection is carried out
   pub due_handled : (c : Keeper) (v u w x : Work) (client : ℕ) → IsOwnTaken v u None → IsDueTaken u w (Some client) →
       ((asker : ℕ) → Acts asker [] b w c x) → HasActed asker got first b v → HasActed asker got first c x
   due_handled c v u w x client own due acts done =
       let before = none_own v u own done in
-      acted_then asker first.ids.node got [] first b c u w x before due.entries due.notices due.to_nodes
-      (subst (λ xs. AllByRecursion (WasSent before.sends) xs) (sym due.own) before.own) (acts first.ids.node) refl
+      acted_then asker first.ids.node got [] first b c u w x before due.outputs due.notices
+      (subst (λ xs. AllByRecursion (WasSent (sends_in before.wants)) xs) (sym due.own) before.own) (acts first.ids.node) refl
       (λ letter is. absurd (none is.0 is.1))
     where
       none : {letter : Named} (i : ℕ) → slice_get [] i ≡ Some letter → ⊥
@@ -217,19 +218,17 @@ module _ (asker : ℕ) (got : List Named) (first b : Keeper) where
 pub handles_of : (old new : Node) (frame : Strings) (work : Work) (effects : Effects) →
     HasActed (sender_or old.keeper.ids.node (arrival_at frame)) (letters_in old.keeper frame) old.keeper new.keeper work →
     ServedSince (arrival_at frame) old new work.to_clients.items work.notices.items →
-    effects.entries.items ≡ work.entries.items → effects.frames.items ≡ work.to_nodes.items ++ work.to_clients.items →
+    effects.outputs.items ≡ work.outputs.items → effects.answers.items ≡ work.to_clients.items →
     effects.notices.items ≡ work.notices.items → (NoneWaits old.desk.clients [] → NoneWaits new.desk.clients []) →
     Handles old frame effects new
-handles_of old new frame work effects done served entries frames notices waits = record {
-  sends = done.sends;
-  records = done.records;
-  answers = work.to_clients.items;
-  handled = subst (λ ns. IsHandledSafely fragment (kept_of old.keeper) (letters_in old.keeper frame) done.records
-      (kept_of new.keeper) (letters_of done.sends) (all_seen ns)) (sym notices) done.handled;
-  entries = entries ∙ done.entries;
+handles_of old new frame work effects done served outputs answers notices waits = record {
+  wants = done.wants;
+  handled = subst (λ ns. IsHandledSafely fragment (kept_of old.keeper) (letters_in old.keeper frame) (left_by done.wants)
+      (kept_of new.keeper) (all_seen ns)) (sym notices) done.handled;
+  outputs = outputs ∙ done.outputs;
   read = done.read;
-  frames = frames ∙ ap (λ xs. xs ++ work.to_clients.items) done.to_nodes;
   addressed = done.addressed;
-  served = subst (λ ns. ServedSince (arrival_at frame) old new work.to_clients.items ns) (sym notices) served;
+  served = subst (λ fs. ServedSince (arrival_at frame) old new fs effects.notices.items) (sym answers)
+      (subst (λ ns. ServedSince (arrival_at frame) old new work.to_clients.items ns) (sym notices) served);
   waits = waits;
 }

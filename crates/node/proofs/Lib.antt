@@ -7,3 +7,5 @@ pub mod TickLemmas
 pub mod LeftLemmas
 pub mod ActedLemmas
 pub mod StartLemmas
+pub mod AnewLemmas
+pub mod AnewCopyLemmas

@@ -1,14 +1,17 @@
 -- How a node starts.
-use Rattle.std.proofs.Common.{◌≡◌, ◌<◌, ◌^◌, ℕ, suc, Bool, true, false, List, [], ◌∷◌, ◌++◌, ap, ◌∙◌}
+use Rattle.std.proofs.Common.{◌≡◌, ◌<◌, ◌^◌, ℕ, suc, Bool, true, false, List, [], ◌∷◌, ◌++◌, refl, sym, ap, ◌∙◌}
+use Rattle.std.proofs.lemmas.List.{map-append}
 use Rattle.call_ids.specs.CallId.{with_next_epoch}
 use Rattle.recoveries.specs.Records.{IsStarted}
-use Rattle.node_effects.specs.Work.{IsEmpty, IsGrown, one_entry}
+use Rattle.node_effects.specs.Work.{Growth, IsEmpty, IsGrown, OnlyLogs, entries_in, log_all, no_growth, one_entry}
+use Rattle.node_effects.specs.declared.output.Output.TheVariants as output
 use Rattle.node_effects.specs.declared.work.Work.{Work}
+use Rattle.node_effects.proofs.GrowthLemmas.{entries_all}
 use Rattle.node_keeper.specs.Keeping.{kept_of}
 use Rattle.node_keeper.specs.Logging.{start_entry}
 use Rattle.node_keeper.specs.declared.keeper.Keeper.{Keeper}
 use Rattle.node_keeper.proofs.DoneLemmas.{file_same}
-use Rattle.node.specs.Starts.{growth_unless}
+use Rattle.node.specs.Starts.{cluster_entry, growth_unless}
 
 pub started_of : (old new : Keeper) → suc old.ids.epoch < 2 ^ 24 → new.ids ≡ with_next_epoch old.ids →
     new.objects ≡ old.objects → new.file ≡ old.file → IsStarted (kept_of old) (kept_of new)
@@ -23,28 +26,39 @@ started_of old new more ids objects file = record {
   objects = λ name. ap (λ os. (kept_of (record new { objects = os })).objects name) objects;
 }
 
--- what there is to do as the node starts: the log gets its entries, nothing is sent, and clients see nothing
-pub record OnlyLogs (work : Work) (logged : List (List (List ℕ))) : Type 0 where
-  pub entries : work.entries.items ≡ logged
-  pub to_nodes : work.to_nodes.items ≡ []
-  pub to_clients : work.to_clients.items ≡ []
-  pub notices : work.notices.items ≡ []
+-- what there is to do as the node starts: the log gets these entries, and nothing else is to be done
+pub record Starts (work : Work) (logged : List (List (List ℕ))) : Type 0 where
+  pub only : OnlyLogs work
+  pub entries : entries_in work.outputs.items ≡ logged
 
 grown_from : {A : Type 0} (a b c x y : List A) → a ≡ [] → b ≡ a ++ x → c ≡ b ++ y → c ≡ x ++ y
 grown_from a b c x y none first second = second ∙ ap (λ xs. xs ++ y) (first ∙ ap (λ xs. xs ++ x) none)
 
+starts_by : (growth : Growth) (logged : List (List (List ℕ))) (a b c : Work) → growth.outputs ≡ log_all logged →
+    growth.to_clients ≡ [] → growth.notices ≡ [] → growth.own ≡ [] → growth.due ≡ [] → IsEmpty a → IsGrown a b growth →
+    IsGrown b c (one_entry start_entry) → Starts c (logged ++ start_entry ∷ [])
+starts_by growth logged a b c outputs clients notices own due none first second =
+    let all : c.outputs.items ≡ log_all (logged ++ start_entry ∷ []) =
+    grown_from _ _ _ _ _ none.outputs first.outputs second.outputs
+    ∙ ap (λ xs. xs ++ log_all (start_entry ∷ [])) outputs
+    ∙ sym (map-append (λ (entry : List (List ℕ)). output.Log entry) logged (start_entry ∷ [])) in
+    let entries : entries_in c.outputs.items ≡ logged ++ start_entry ∷ [] =
+    ap entries_in all ∙ entries_all (logged ++ start_entry ∷ []) in record {
+      only = record {
+        outputs = all ∙ ap log_all (sym entries);
+        to_clients = grown_from _ _ _ _ _ none.to_clients first.to_clients second.to_clients ∙ ap (λ xs. xs ++ []) clients;
+        notices = grown_from _ _ _ _ _ none.notices first.notices second.notices ∙ ap (λ xs. xs ++ []) notices;
+        own = grown_from _ _ _ _ _ none.own first.own second.own ∙ ap (λ xs. xs ++ []) own;
+        due = grown_from _ _ _ _ _ none.due first.due second.due ∙ ap (λ xs. xs ++ []) due;
+      };
+      entries = entries;
+    }
+
 pub starts : (is_named : Bool) (digest : List ℕ) (number : ℕ) (a b c : Work) → IsEmpty a →
     IsGrown a b (growth_unless is_named digest number) → IsGrown b c (one_entry start_entry) →
-    OnlyLogs c ((growth_unless is_named digest number).entries ++ start_entry ∷ [])
-starts true digest number a b c none first second = record {
-  entries = grown_from _ _ _ _ _ none.entries first.entries second.entries;
-  to_nodes = grown_from _ _ _ _ _ none.to_nodes first.to_nodes second.to_nodes;
-  to_clients = grown_from _ _ _ _ _ none.to_clients first.to_clients second.to_clients;
-  notices = grown_from _ _ _ _ _ none.notices first.notices second.notices;
-}
-starts false digest number a b c none first second = record {
-  entries = grown_from _ _ _ _ _ none.entries first.entries second.entries;
-  to_nodes = grown_from _ _ _ _ _ none.to_nodes first.to_nodes second.to_nodes;
-  to_clients = grown_from _ _ _ _ _ none.to_clients first.to_clients second.to_clients;
-  notices = grown_from _ _ _ _ _ none.notices first.notices second.notices;
-}
+    Starts c (entries_in (growth_unless is_named digest number).outputs ++ start_entry ∷ [])
+starts true digest number a b c none first second =
+    starts_by no_growth [] a b c refl refl refl refl refl none first second
+starts false digest number a b c none first second =
+    starts_by (one_entry (cluster_entry digest number)) (cluster_entry digest number ∷ []) a b c refl refl refl refl refl none
+    first second

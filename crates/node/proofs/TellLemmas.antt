@@ -14,8 +14,8 @@ pub tells_acts : (asker : ℕ) (got : List Named) (keeper : Keeper) (before afte
     Acts asker got keeper before keeper after
 tells_acts asker got keeper before after tells =
     acts_rest asker got keeper before after (record no_growth { to_clients = tells.frames; due = tells.due }) tells.grown
-    refl refl refl refl
+    refl refl refl
 
 -- a node that does nothing
 pub idle : (asker : ℕ) (got : List Named) (keeper : Keeper) (work : Work) → Acts asker got keeper work keeper work
-idle asker got keeper work = acts_rest asker got keeper work work no_growth (grown_none work) refl refl refl refl
+idle asker got keeper work = acts_rest asker got keeper work work no_growth (grown_none work) refl refl refl

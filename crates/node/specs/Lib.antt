@@ -4,3 +4,4 @@ pub mod Serving
 pub mod Handles
 pub mod Recovering
 pub mod Starts
+pub mod Anew

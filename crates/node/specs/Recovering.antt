@@ -1,5 +1,5 @@
 -- The contracts that docs/trusted.md lists do not depend on this file; other contracts and proofs do.
--- What a node has again from an entry of its log, and which entries it refuses.
+-- What a node carries out again from an entry of its log, and which entries it refuses.
 use Rattle.std.specs.Prelude.{◌≡◌, ◌≢◌, ◌⊎◌, ◌^◌, ⊤, ℕ, suc, nat_lt, Bool, true, false, Option, None, Some, Ok, Err}
 use Rattle.std.specs.Prelude.{Result}
 use Rattle.frames.specs.Frame.{IsFrame}
@@ -34,13 +34,13 @@ abbrev pub IsRead : Result NodeMessage Fault → Type 0
 IsRead (Ok message) = ⊤
 IsRead (Err fault) = ⊥
 
--- the letter that a record has, if it has one, is a message
+-- if a record has a letter, its strings are those of a message
 abbrev pub HasItsLetter : Record → Type 0
 HasItsLetter (record_of.Serve frame) = IsRead (message_from frame)
 HasItsLetter (record_of.Take frame) = IsRead (message_from frame)
 HasItsLetter it = ⊤
 
--- the node's clients are as they were, and so is whether its log is known to be its own
+-- the connections of the node's clients are as they were, and so is whether its log is known to be its own
 pub record KeepsDesk (old new : Node) : Type 0 where
   pub named : new.is_named ≡ old.is_named
   pub clients : new.desk.clients ≡ old.desk.clients
@@ -53,7 +53,7 @@ pub record CarriesOutRecord (old : Node) (it : Record) (new : Node) : Type 0 whe
   pub recovers : Recovers (deeds_of it) (kept_of old.keeper) (kept_of new.keeper)
   pub clients : new.desk.clients ≡ old.desk.clients
 
--- a node carried out an entry of its log again: what the entry records
+-- a node carried out again what an entry of its log records
 pub record CarriesOutEntry (old : Node) (entry : Strings) (new : Node) : Type 0 where
   pub strings : Strings
   pub whole : entry ≡ sealed strings
@@ -73,8 +73,9 @@ abbrev pub RefusesLetter : (frame : Strings) → RecoveryError → Type 0
 RefusesLetter frame error = (error ≡ refusals.Stopped errors.NoMemory)
     ⊎ ((error ≡ refusals.NoEntry) × IsUnread (message_from frame))
 
--- why a node refuses a record of a log that is its own: one more that names a cluster, a start where all epochs have
--- begun, a letter that is none, a move that its object refuses, or there is no memory
+-- why a node refuses a record of a log that is its own: the record names a cluster once more, or is a start although
+-- all epochs have begun, or has a letter that is no message, or is a move that its object refuses; or there is no
+-- memory
 abbrev pub RefusesOwn : Keeper → Record → RecoveryError → Type 0
 RefusesOwn keeper (record_of.Cluster digest number) error = error ≡ refusals.NoEntry
 RefusesOwn keeper record_of.Start error =
@@ -85,14 +86,14 @@ RefusesOwn keeper (record_of.Move id name layout) error = (error ≡ refusals.St
     ⊎ ((why : Refusal) × (move_refusal (objects_of keeper.objects name) id ≡ Some why)
     × (error ≡ refusals.Stopped (errors.Refused why)))
 
--- why a node refuses the first record of a log: it names no cluster, another one, or another node
+-- why a node refuses the first record of a log: the record names no cluster, another cluster, or another node
 abbrev pub RefusesFirst : Keeper → Record → RecoveryError → Type 0
 RefusesFirst keeper (record_of.Cluster digest number) error =
     ((digest ≢ keeper.digest) × (error ≡ refusals.OtherCluster digest))
     ⊎ ((digest ≡ keeper.digest) × (number ≢ keeper.ids.node) × (error ≡ refusals.OtherNode number))
 RefusesFirst keeper it error = error ≡ refusals.NoCluster
 
--- why a node refuses a record, by whether its log is known to be its own
+-- why a node refuses a record; `is_named` says whether its log is known to be its own
 abbrev pub RefusesRecord : (is_named : Bool) → Keeper → Record → RecoveryError → Type 0
 RefusesRecord true keeper it error = RefusesOwn keeper it error
 RefusesRecord false keeper it error = RefusesFirst keeper it error
@@ -107,7 +108,7 @@ abbrev pub RefusesEntry : Node → (entry : Strings) → RecoveryError → Type 
 RefusesEntry old entry error = (strings : Strings) × (entry ≡ sealed strings)
     × (((error ≡ refusals.NoEntry) × (IsFrame strings → ⊥)) ⊎ RefusesStrings old (record_at strings) error)
 
--- a node that was told how long its log is says so from now on, and is else as before
+-- a node has noted the length of its log, and is otherwise as before
 abbrev pub Notes : Node → (bytes : ℕ) → Node → Type 0
 Notes old bytes new =
     new ≡ record old { desk = record old.desk { counts = record old.desk.counts { log_bytes = bytes } } }

@@ -29,22 +29,22 @@ is_node file number = has file.fixed.nodes number || has file.later number
 abbrev pub HasOnlyNodes : FileContents → Layout → Type 0
 HasOnlyNodes file layout = (i : ℕ) → i < length layout.members → is_node file (slice_index layout.members i) ≡ true
 
--- the answer says why an object refuses a call, by what the object has and by the id of the call
+-- the answer is a refusal by some object of a call with some id
 abbrev pub IsRefusedBy : (LocalObject → (id : ℕ) → Option Refusal) → Answer → Type 0
 IsRefusedBy refusal answer =
     (local : LocalObject) × (id : ℕ) × (why : Refusal) × (refusal local id ≡ Some why)
     × (answer ≡ answers.Error (errors.Refused why))
 
--- a move is refused at any node but the one that moves objects, where a member of its layout is no node of the cluster,
--- and where the object refuses it
+-- why a move is refused: this is not the node that moves objects, a member of the layout is no node of the cluster, or
+-- the object refuses the move; and the answer that says so
 abbrev pub IsMoveRefused : (moves : Bool) → FileContents → Layout → Answer → Type 0
 IsMoveRefused false file layout answer = answer ≡ answers.Error errors.NotMover
 IsMoveRefused true file layout answer =
     ((HasOnlyNodes file layout → ⊥) × (answer ≡ answers.Error (errors.Refused BadLayout)))
     ⊎ (HasOnlyNodes file layout × IsRefusedBy move_refusal answer)
 
--- how a command is answered that concerns no name, and is no QUIT: INFO by some lines, and each other one by its only
--- answer; of the other commands nothing is said
+-- how a command that concerns no name, and is no QUIT, is answered: INFO by some lines, and each other one by its only
+-- answer; for any other command this says nothing
 abbrev pub IsPlainReply : (client : ℕ) → Command → Answer → Type 0
 IsPlainReply client ask.Info answer = (lines : List ℕ) × (answer ≡ answers.Value lines)
 IsPlainReply client (ask.Ping None) answer = answer ≡ answers.Pong
@@ -55,8 +55,8 @@ IsPlainReply client ask.ClientId answer = answer ≡ answers.Number client
 IsPlainReply client ask.DescribeClient answer = answer ≡ answers.Ok
 IsPlainReply client command answer = ⊤
 
--- how a command is answered that begins no call: the fault of what is none, why a call was refused, or the plain
--- answer. A QUIT is not answered so.
+-- how a command that begins no call is answered: by the fault of a frame that is no command, by the reason why a call
+-- was refused, or by the plain answer; a QUIT is not answered so
 abbrev pub IsReplyTo : (number : ℕ) → FileContents → (client : ℕ) → Found → Answer → Type 0
 IsReplyTo number file client (Err fault) answer = answer ≡ answers.Error (errors.Fault fault)
 IsReplyTo number file client (Ok (ask.Get name)) answer = IsRefusedBy read_refusal answer
@@ -72,7 +72,7 @@ abbrev pub MayBegin : (number : ℕ) → FileContents → Command → Type 0
 MayBegin number file (ask.Move name layout) = (moves_objects number file ≡ true) × HasOnlyNodes file layout
 MayBegin number file command = ⊤
 
--- what the node of this number does at once with a command is right: the answer that it gives, or that it begins a call
+-- what the node of this number does with a command is right: it may begin the call, or it gives the right answer
 abbrev pub IsRight : (number : ℕ) → FileContents → Service → Type 0
 IsRight number file (Service.Replies client command answer) = IsReplyTo number file client (command_at command) answer
 IsRight number file (Service.Begins client command id) = MayBegin number file command

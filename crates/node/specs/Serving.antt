@@ -27,8 +27,8 @@ use Rattle.node_keeper.specs.declared.delivered.Begun.TheVariants as begun
 use Rattle.node.specs.Replies.{IsRight}
 use Rattle.node.specs.declared.node.Node.{Node}
 
--- what a node does for its clients behind what has come: the next commands of connections are carried out, calls are
--- answered, and letters are dropped that the node does not heed
+-- what a node does for its clients after it has done what has come: it carries out the next commands of connections,
+-- calls are answered, and it drops letters that it does not heed
 abbrev pub FollowsUp : Service → Type 0
 FollowsUp (Service.Begins client command id) = ⊤
 FollowsUp (Service.Replies client command answer) = ⊤
@@ -37,22 +37,22 @@ FollowsUp (Service.Ends name ended told) = ⊤
 FollowsUp Service.Drops = ⊤
 FollowsUp service = ⊥
 
--- the call of this id is older by a tick
+-- the service makes the call of this id older by a tick
 abbrev pub IsTickOf : (id : ℕ) → Service → Type 0
 IsTickOf id (Service.Ages other) = other ≡ id
 IsTickOf id (Service.GivesUp other told) = other ≡ id
 IsTickOf id (Service.Releases other told) = other ≡ id
 IsTickOf id service = ⊥
 
--- each of these calls, one after another, is older by a tick
+-- the services make each of these calls, one after another, older by a tick
 abbrev pub AreTicksOf : (ids : List ℕ) → List Service → Type 0
 AreTicksOf [] [] = ⊤
 AreTicksOf [] (service ∷ services) = ⊥
 AreTicksOf (id ∷ ids) [] = ⊥
 AreTicksOf (id ∷ ids) (service ∷ services) = IsTickOf id service × AreTicksOf ids services
 
--- what has come for the clients of a node: a command, the end of a connection, a tick for each open call, or something
--- that is dropped; a message of a node is nothing that comes for clients
+-- the services for what has come: a command, the end of a connection, a tick for each open call, or something that is
+-- dropped; a message of another node that is not dropped needs none
 abbrev pub IsComing : Desk → Option Arrival → List Service → Type 0
 IsComing desk None services = services ≡ Service.Drops ∷ []
 IsComing desk (Some (came.Command client command)) services = services ≡ Service.Arrives client command ∷ []
@@ -60,9 +60,9 @@ IsComing desk (Some (came.Left client)) services = services ≡ Service.Leaves c
 IsComing desk (Some (came.Message sender frame)) services = services ≡ []
 IsComing desk (Some came.Tick) services = AreTicksOf (keys desk.calls) services
 
--- What the node did for its clients: these things, and nothing else is different at its desk. What there is to do grew
--- by the frames that clients are sent for them, by the connections that are idle again, and by what clients see of
--- them. The cluster file stays.
+-- The node did exactly these services for its clients, and what it did with commands is right. Its work grew by the
+-- frames that clients are sent for them, by the connections that are idle again, and by what clients see of them. The
+-- cluster file and the node's number stay the same.
 pub record ServesClients (old : Node) (before : Work) (services : List Service) (new : Node)
     (after : Work) : Type 0 where
   pub has : HasServed old.keeper.file.ticks old.desk before services new.desk after
@@ -70,13 +70,13 @@ pub record ServesClients (old : Node) (before : Work) (services : List Service) 
   pub file : new.keeper.file ≡ old.keeper.file
   pub number : new.keeper.ids.node ≡ old.keeper.ids.node
 
--- the node did some things that follow up
+-- the node did some services that follow up
 pub record ServesMore (old : Node) (before : Work) (new : Node) (after : Work) : Type 0 where
   pub services : List Service
   pub serves : ServesClients old before services new after
   pub follows : AllByRecursion FollowsUp services
 
--- the node did what came for its clients, and then some things that follow up
+-- the node did the services for what came, and then some that follow up
 pub record ServesArrival (came : Option Arrival) (old : Node) (before : Work) (new : Node) (after : Work) : Type 0 where
   pub coming : List Service
   pub more : List Service
@@ -84,7 +84,8 @@ pub record ServesArrival (came : Option Arrival) (old : Node) (before : Work) (n
   pub follows : AllByRecursion FollowsUp more
   pub serves : ServesClients old before (coming ++ more) new after
 
--- the same since the node was this one, with all frames that clients are sent, and all that they see
+-- the same since the node was `first`, when its work was empty: these are all frames that clients are sent, and all
+-- notices of what they see
 pub record ServedSince (came : Option Arrival) (first now : Node) (frames : List Strings)
     (seen : List Notice) : Type 0 where
   pub coming : List Service
@@ -100,7 +101,7 @@ pub record ServedSince (came : Option Arrival) (first now : Node) (frames : List
 
 -- Commands
 
--- how the desk changes with the command of a client, whose connection is busy with it
+-- how the desk changes when the node carries out a client's command; the client's connection is busy with the command
 abbrev pub IsCommandDone : (old : Desk) → (client : ℕ) → (frame : Strings) → Service → (new : Desk) → Type 0
 IsCommandDone old client frame (Service.Begins other command id) new =
     (other ≡ client) × (command_at frame ≡ Ok command) × IsOpened old (call_begun client command) id new
@@ -110,7 +111,7 @@ IsCommandDone old client frame (Service.Quits other) new =
     (other ≡ client) × (command_at frame ≡ Ok ask.Quit) × HasQuit old client new
 IsCommandDone old client frame service new = ⊥
 
--- the node carried out the command of a client, whose connection is busy with it: one thing happened at its desk
+-- the node carried out a client's command, with which the client's connection is busy: it did one service
 pub record ServesCommand (client : ℕ) (frame : Strings) (old : Node) (before : Work) (new : Node)
     (after : Work) : Type 0 where
   pub service : Service
@@ -122,8 +123,8 @@ pub record ServesCommand (client : ℕ) (frame : Strings) (old : Node) (before :
   pub file : new.keeper.file ≡ old.keeper.file
   pub number : new.keeper.ids.node ≡ old.keeper.ids.node
 
--- what the desk does for a client of whose command this became: the call waits for its answer, or it was refused, and
--- the client is told
+-- what the desk does for a client when its call was to begin: the call began and the client waits for its answer, or
+-- the call was refused and the client is told
 abbrev pub IsAwaited : (old : Desk) → (before : Work) → (client : ℕ) → Option OpenCall → Begun → (new : Desk) →
     (after : Work) → Type 0
 IsAwaited old before client call (begun.Open id) new after = IsOpened old call id new × (after ≡ before)

@@ -2,10 +2,10 @@
 -- What the log of a node gets when the node starts.
 use Rattle.std.specs.Prelude.{◌^◌, ◌<◌, ⊤, suc, ℕ, Bool, if◌then◌else◌, List, [], ◌∷◌, ◌++◌}
 use Rattle.call_ids.specs.CallId.{CallIds}
-use Rattle.node_log.specs.Entry.{IsEntry, sealed}
+use Rattle.node_log.specs.Entry.{IsEntry}
 use Rattle.node_strings.specs.Record.{record_strings}
 use Rattle.node_strings.specs.declared.record.Record.TheVariants as record_of
-use Rattle.node_effects.specs.Work.{Growth, no_growth, one_entry}
+use Rattle.node_effects.specs.Work.{Growth, entries_in, no_growth, one_entry}
 use Rattle.node_effects.specs.declared.error.NodeError.{NodeError}
 use Rattle.node_effects.specs.declared.error.NodeError.TheVariants as errors
 use Rattle.node_keeper.specs.Logging.{start_entry}
@@ -17,7 +17,7 @@ cluster_strings digest number = record_strings (record_of.Cluster digest number)
 
 -- the entry that names the cluster and the node
 abbrev pub cluster_entry : (digest : List ℕ) → (number : ℕ) → List (List ℕ)
-cluster_entry digest number = sealed (cluster_strings digest number)
+cluster_entry digest number = cluster_strings digest number
 
 -- the entry that names the cluster and the node, if the log has none yet
 abbrev pub growth_unless : (is_named : Bool) → (digest : List ℕ) → (number : ℕ) → Growth
@@ -30,7 +30,7 @@ name_growth node = growth_unless node.is_named node.keeper.digest node.keeper.id
 -- what the log gets when the node starts: the entry that names the cluster and the node, if it has none yet, and the
 -- entry of a new epoch
 abbrev pub start_entries : Node → List (List (List ℕ))
-start_entries node = (name_growth node).entries ++ start_entry ∷ []
+start_entries node = entries_in (name_growth node).outputs ++ start_entry ∷ []
 
 -- why a node of this number, with the cluster file of this digest, does not start: there is no memory, it has begun all
 -- epochs, or the entry that names the cluster and the node is too long

@@ -22,8 +22,9 @@ ghost use Rattle.node.specs.Starts.{IsNotStarted, cluster_strings, name_growth, 
 use cluster_file::ClusterFile;
 use frames::Frame;
 use node_clients::Desk;
-use node_effects::{Effects, NodeError, Work};
+use node_effects::{NodeError, Work};
 use node_keeper::Keeper;
+use node_log::Entry;
 use node_strings::{Arrival, Record, read_arrival};
 use std::alloc::Global;
 
@@ -32,6 +33,7 @@ mod info;
 mod machine;
 mod messages;
 mod recovery;
+mod rewriting;
 mod ticks;
 
 /// A node of a cluster: what it keeps of each object, the calls that it carries out, and its clients.
@@ -47,8 +49,8 @@ pub struct Node {
 }
 
 impl Node {
-    /// The node with this number, which keeps nothing and whose log is empty. The cluster file should have a node of
-    /// this number.
+    /// Makes the node with this number, which keeps nothing yet and whose log is empty. The cluster file should have a
+    /// node of this number.
     pub fn new(alloc: Global, file: ClusterFile, number: u8) -> Node
         ensures kept { kept_of result.keeper ≡ new_node (names_of file) number }
         ensures digest { result.keeper.digest ≡ fixed_digest file.fixed }
@@ -61,22 +63,20 @@ impl Node {
         }
     }
 
-    /// Starts the node, after it has carried out its log again: the ids of its calls begin a new epoch. It sends
-    /// nothing.
+    /// Starts the node, after it has carried out its log again: the ids of its calls begin a new epoch. Returns the
+    /// entries that its log gets. It sends nothing, and its clients see nothing.
     ///
     /// `NoMoreIds` if all epochs have begun, and `NoMemory`.
-    pub fn start(&mut self) -> Result<Effects, NodeError>
+    pub fn start(&mut self) -> Result<Vec<Entry>, NodeError>
         ensures started { OnOk result (IsStarted (kept_of self.old.keeper) (kept_of self.new.keeper)) }
-        ensures entries { IfOk result (λ effects. effects.entries.items ≡ start_entries self.old) }
-        ensures frames { IfOk result (λ effects. effects.frames.items ≡ []) }
-        ensures notices { IfOk result (λ effects. effects.notices.items ≡ []) }
+        ensures entries { IfOk result (λ entries. entries.items ≡ start_entries self.old) }
         ensures refused { IfErr result (IsNotStarted self.old.keeper.digest self.old.keeper.ids) }
     {
         let mut work = Work::new(self.alloc);
         self.name_log(&mut work)?;
         self.keeper.begin_epoch(&mut work)?;
-        let effects = work.into_effects()?;
-        Ok(effects)
+        let entries = work.into_entries()?;
+        Ok(entries)
     }
 
     // A new log gets the entry that names the cluster and the node.
@@ -93,13 +93,9 @@ impl Node {
             digest: self.keeper.digest,
             node: self.keeper.number(),
         };
-        match work.log(&it) {
-            Ok(()) => {
-                self.is_named = true;
-                Ok(())
-            }
-            Err(error) => Err(error),
-        }
+        work.log(&it)?;
+        self.is_named = true;
+        Ok(())
     }
 
     // What the node does with a frame. Its letters to itself wait.
@@ -151,6 +147,7 @@ impl Node {
             → ServedSince came first self.old work.old.to_clients.items work.old.notices.items
             → ServedSince came first self.new work.new.to_clients.items work.new.notices.items) }
         ensures own { OnOk result (work.new.own.items ≡ []) }
+        ensures due { OnOk result (work.new.due.items ≡ []) }
         ensures waits { OnOk result (NoneWaits self.old.desk.clients work.old.due.items
             → NoneWaits self.new.desk.clients []) }
     {

@@ -1,6 +1,6 @@
 -- What the loop read: frames, and what stands behind them.
 use Rattle.std.proofs.Common.{◌≡◌, ℕ, Bool, true, false, List, ◌++◌, Option, Some, None, Err, MatchOption}
-use Rattle.std.proofs.Common.{sym, ap, subst, ◌∙◌, inr, append_assoc}
+use Rattle.std.proofs.Common.{sym, ap, subst, ◌∙◌, inl, inr, append_assoc}
 use Rattle.std.specs.List.{flat_map}
 use Rattle.std.specs.Io.KnownBytes.{Consumes, IsAtEnd}
 use Rattle.std.proofs.lemmas.Grind.{flat_map-append}
@@ -57,6 +57,16 @@ pub found_frame : (had left : Known) (found : Found) (frame : List (List ℕ)) �
     → MatchOption found (IsAtEnd had) (λ strings. Consumes had left (frame_bytes strings)) → Consumes had left (frame_bytes frame)
 found_frame had left found frame same p =
     subst (λ (o : Found). MatchOption o (IsAtEnd had) (λ strings. Consumes had left (frame_bytes strings))) same p
+
+-- no frame is left
+pub none_left : (had left : Known) (found : Found) → found ≡ None
+    → MatchOption found (IsAtEnd had) (λ strings. Consumes had left (frame_bytes strings)) → HadLeft IsInputEnd had
+none_left had left found none p =
+    go had (subst (λ (o : Found). MatchOption o (IsAtEnd had) (λ strings. Consumes had left (frame_bytes strings))) none p)
+  where
+    go : (had : Known) → IsAtEnd had → HadLeft IsInputEnd had
+    go None end = tt
+    go (Some bytes) end = inl end
 
 fault_at : (had left : Known) (fault : Fault) → Returns frame_at had left (fails Found (errors.Fault fault))
     → HadLeft (λ bytes. (rest : List ℕ) × (frame_at bytes ≡ Err (fault, rest))) had

@@ -1,5 +1,7 @@
 pub mod GrowthLemmas
 pub mod RecoveryLemmas
+pub mod RewritingLemmas
 pub mod FrameReadingLemmas
+pub mod OutputLemmas
 pub mod ServingLemmas
 pub mod CutLogLemmas

@@ -2,7 +2,7 @@
 use Rattle.std.proofs.Common.{◌≡◌, ℕ, ◌+◌, ◌<◌, ◌≤◌, ◌^◌, List, [], ◌∷◌, ◌++◌, length, Option, Some, None, Ok, Err}
 use Rattle.std.proofs.Common.{sym, ap, subst, ◌∙◌, refl, arith, length-append}
 use Rattle.std.specs.List.{FoldsTo, AllByRecursion}
-use Rattle.std.specs.Io.KnownBytes.{Appends, Consumes}
+use Rattle.std.specs.Io.KnownBytes.{Consumes}
 use Rattle.node_log.specs.Entry.{entry_bytes}
 use Rattle.node_log.specs.Reading.{HadLeft, IsEnd}
 use Rattle.node_store.specs.Recovery.{IsWholeEntry, log_bytes, IsRefusedAt, IsEntryAt, StopsFor}
@@ -34,14 +34,6 @@ refused_stops at faults.TooLong entry had left whole refused took =
 refused_stops at faults.NoMemory entry None left whole refused took = tt
 refused_stops at faults.NoMemory entry (Some xs) left whole refused took = tt
 refused_stops at (faults.Failed error) entry had left whole refused took = absurd refused
-
--- what is kept of the entries that were written to memory first
-pub kept_entries : (kept keeps : Known) (written bytes begun : List ℕ) (entries : List (List (List ℕ))) (count : ℕ)
-    → written ≡ bytes → bytes ≡ begun ++ log_bytes entries → begun ≡ [] → Appends kept keeps written
-    → count ≡ length bytes → Appends kept keeps (log_bytes entries) × (count ≡ length (log_bytes entries))
-kept_entries kept keeps written bytes begun entries count same made none appends counted =
-    let all : bytes ≡ log_bytes entries = made ∙ ap (λ (t : List ℕ). t ++ log_bytes entries) none in
-    (subst (Appends kept keeps) (same ∙ all) appends, counted ∙ ap length all)
 
 module _ {M : Type 0} (carries_out : M → List (List ℕ) → M → Type 0) where
   -- the entries that the machine has carried out so far

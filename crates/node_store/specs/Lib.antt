@@ -1,4 +1,6 @@
 pub mod Logs
 pub mod Recovery
+pub mod Outputs
 pub mod Serving
 pub mod Laws
+pub mod Rewriting

@@ -3,6 +3,6 @@
 use Rattle.std.specs.Prelude.{ℕ, List, Option}
 use Rattle.std.specs.Io.KnownBytes.{Appends}
 
--- known bytes grow by some bytes
+-- if the bytes are known before and after, those after are those before, followed by some bytes
 abbrev pub Grows : Option (List ℕ) → Option (List ℕ) → Type 0
 Grows old new = (more : List ℕ) × Appends old new more

@@ -1,65 +1,98 @@
 //! What a node wants done after the frames that have arrived.
-ghost use Rattle.std.specs.Prelude.{◌≡◌, ◌++◌, [], OnOk};
-ghost use Rattle.std.specs.List.{flat_map};
-ghost use Rattle.frames.specs.Frame.{frame_bytes};
-ghost use Rattle.node_store.specs.Serving.{IsPushed};
+ghost use Rattle.std.specs.Prelude.{◌∷◌, [], OnOk};
+ghost use Rattle.node_effects.specs.Work.{send_all};
+ghost use Rattle.node_effects.specs.declared.output.Output.TheVariants.{Send};
+ghost use Rattle.node_store.specs.Outputs.{Gathers, HasGathered, outputs_of};
 
-use crate::writing::push_entries;
 use frames::{Frame, write_frame};
-use node_effects::Effects;
+use node_effects::{Effects, Output};
+use node_log::write_entry;
 use std::alloc::Global;
 use std::io;
 
 // So many bytes wait at most before they are written, but for those of one frame.
 const MOST_BYTES: usize = 1_048_576;
 
-/// The bytes for the log, and those for the output.
+/// Bytes that wait to be written, in this order: frames that depend on none of the entries, entries for the log, and
+/// frames that may depend on entries.
 #[derive(Drop)]
 pub(crate) struct Batch {
+    pub early: Vec<u8>,
     pub log: Vec<u8>,
     pub output: Vec<u8>,
 }
 
 impl Batch {
-    /// No bytes.
+    /// Makes a batch without bytes.
     pub fn new(alloc: Global) -> Batch
-        ensures log { result.log.items ≡ [] }
-        ensures output { result.output.items ≡ [] }
+        ensures { HasGathered result [] }
     {
         Batch {
+            early: Vec::new(alloc),
             log: Vec::new(alloc),
             output: Vec::new(alloc),
         }
     }
 
-    /// Whether so many bytes wait that they are to be written.
+    /// Returns whether so many bytes wait that they are to be written now.
     pub fn is_full(&self) -> bool {
-        self.log.len() >= MOST_BYTES || self.output.len() >= MOST_BYTES
+        self.early.len() >= MOST_BYTES
+            || self.log.len() >= MOST_BYTES
+            || self.output.len() >= MOST_BYTES
     }
 
-    /// Adds the bytes of what a machine wants done. It fails only where memory is refused.
+    /// Adds the bytes of what a machine wants done. Fails only if memory is refused.
     pub fn push(&mut self, effects: &Effects) -> io::Result<()>
-        ensures { OnOk result (IsPushed self.old self.new effects.now) }
+        ensures { OnOk result (Gathers self.old self.new (outputs_of effects.now)) }
     {
-        push_entries(&mut self.log, &effects.entries)?;
-        push_frames(&mut self.output, &effects.frames)
+        self.push_outputs(&effects.outputs)?;
+        self.push_frames(&effects.answers)
     }
 
-    /// Drops all bytes, which were written.
-    pub fn clear(&mut self)
-        ensures log { self.new.log.items ≡ [] }
-        ensures output { self.new.output.items ≡ [] }
+    fn push_outputs(&mut self, outputs: &[Output]) -> io::Result<()>
+        ensures { OnOk result (Gathers self.old self.new outputs.now) }
     {
+        for output in outputs {
+            self.push_output(output)?;
+        }
+        Ok(())
+    }
+
+    fn push_frames(&mut self, frames: &[Frame]) -> io::Result<()>
+        ensures { OnOk result (Gathers self.old self.new (send_all frames.now)) }
+    {
+        for frame in frames {
+            self.push_frame(frame)?;
+        }
+        Ok(())
+    }
+
+    fn push_output(&mut self, output: &Output) -> io::Result<()>
+        ensures { OnOk result (Gathers self.old self.new (output.now ∷ [])) }
+    {
+        match output {
+            Output::Log(entry) => write_entry(&mut self.log, entry),
+            Output::Send(frame) => self.push_frame(frame),
+        }
+    }
+
+    // A frame that no entry precedes may go out at once. Any other frame waits until the log is synced.
+    fn push_frame(&mut self, frame: &Frame) -> io::Result<()>
+        ensures { OnOk result (Gathers self.old self.new (Send frame.now ∷ [])) }
+    {
+        if self.log.is_empty() {
+            write_frame(&mut self.early, frame)
+        } else {
+            write_frame(&mut self.output, frame)
+        }
+    }
+
+    /// Drops all bytes, after they were written.
+    pub fn clear(&mut self)
+        ensures { HasGathered self.new [] }
+    {
+        self.early.clear();
         self.log.clear();
         self.output.clear();
     }
-}
-
-fn push_frames(bytes: &mut Vec<u8>, frames: &[Frame]) -> io::Result<()>
-    ensures { OnOk result (bytes.new.items ≡ bytes.old.items ++ flat_map frame_bytes frames.now) }
-{
-    for frame in frames {
-        write_frame(bytes, frame)?;
-    }
-    Ok(())
 }

@@ -13,7 +13,7 @@ pub enum StoreFault {
     /// The machine cannot carry out the entry again.
     #[error("{0}")]
     NotCarriedOut(RecoveryError),
-    /// The entry ends behind byte 2^64 - 1.
+    /// The bytes up to the end of the entry are more than 2^64 - 1.
     #[error("the log is too long")]
     TooLong,
     /// Memory is refused.
@@ -24,11 +24,11 @@ pub enum StoreFault {
     Failed(io::Error),
 }
 
-/// Why a log was not read to its end, and where the entry begins of which this is said.
+/// Why a log was not read to its end, and where the entry with this fault begins.
 #[derive(Debug, Drop, Error)]
 #[error("the log, from byte {at}: {fault}")]
 pub struct StoreError {
-    /// How many bytes stand before the entry.
+    /// How many bytes of the log come before the entry.
     pub at: u64,
     /// What is wrong.
     pub fault: StoreFault,

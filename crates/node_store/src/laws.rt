@@ -1,18 +1,18 @@
-//! What holds of every log.
+//! What holds for every log.
 ghost use Rattle.node_store.specs.Laws.{CutLogIsFront, LogIsReadOnce};
 
 use node_log::entries_are_read_back;
 
-/// A law: a log that is cut at any byte, also with zeros behind the cut, gives back its first entries, and ends behind
-/// them.
+/// A law: a log that is cut at any byte still gives back its first entries and ends after them, also if zeros follow
+/// the cut.
 pub fn cut_logs_are_fronts()
     ensures { CutLogIsFront }
 {
     entries_are_read_back();
 }
 
-/// A law: where two lists of entries stand at the front of the same bytes, and no further entry stands behind either,
-/// they are the same entries, and the same bytes stand behind them. No entry stands where the log ends or is damaged.
+/// A law: if the same bytes begin with two lists of entries, and no further entry follows either list, both are the
+/// same entries, and the same bytes follow them. Where a log ends or is damaged, no entry stands.
 pub fn logs_are_read_once()
     ensures { LogIsReadOnce }
 {

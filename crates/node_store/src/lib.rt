@@ -1,10 +1,13 @@
-//! The file of a node's log: reading it at the node's start, and appending to it; and the loop over frames.
+//! The file of a node's log: reading it at the node's start, appending to it, and writing it anew; and the loop over
+//! frames.
 #![tactic(auto)]
 
 pub use error::{StoreError, StoreFault};
 pub use laws::{cut_logs_are_fronts, logs_are_read_once};
 pub use log::{Log, LogFile};
 pub use reading::recover_machine;
+pub use rewriting::{Rewriting, is_worth_rewriting, rewrite_log};
+pub use second::RewritableLog;
 pub use serving::serve_frames;
 pub use stop::ServeError;
 pub use writing::{append_bytes, append_entries, push_entries};
@@ -13,8 +16,9 @@ mod batch;
 mod error;
 mod laws;
 mod log;
-mod output;
 mod reading;
+mod rewriting;
+mod second;
 mod serving;
 mod stop;
 mod writing;

@@ -3,12 +3,12 @@ ghost use Rattle.std.specs.Prelude.{OnOk};
 ghost use Rattle.std.specs.Io.KnownBytes.{Appends};
 ghost use Rattle.frames.specs.Writing.{Writes};
 
-use crate::output::write_bytes;
+use frames::write_bytes;
 use std::fs::OpenFile;
 use std::io;
 use std::io::Write;
 
-/// Bytes to which others are appended, and which are there after the machine stops once they are synced.
+/// A log: bytes can be appended to it, and bytes that are synced are still there after the computer stops.
 pub trait Log {
     ghost use Rattle.std.specs.Prelude.{◌≡◌, ℕ, List, Option, None, OnOk};
     ghost use Rattle.std.specs.Io.KnownBytes.{Appends, Keeps};
@@ -25,7 +25,7 @@ pub trait Log {
         ensures written { OnOk result (Appends (written self.old) (written self.new) bytes.now) }
         ensures kept { Grows (kept self.old) (kept self.new) };
 
-    /// Has all bytes kept that were appended.
+    /// Makes the log keep all bytes that were appended.
     fn sync(&mut self) -> io::Result<()>
         ensures written { Keeps (written self.old) (written self.new) }
         ensures kept { Grows (kept self.old) (kept self.new) }
@@ -35,7 +35,7 @@ pub trait Log {
 /// A file that is a log, written at its end.
 #[derive(Drop)]
 pub struct LogFile<F> {
-    /// The file, in which the place to write is its end.
+    /// The file. The next byte is written at its end.
     pub file: F,
 }
 

@@ -13,11 +13,12 @@ use std::io::Read;
 /// Has the machine carry out each entry of the log again, one after another, and returns how many bytes the entries
 /// have.
 ///
-/// Behind these bytes the log ends, or it has an entry that is cut short, maybe with zeros behind the cut: the process
-/// or the machine stopped while that entry was written, and nothing that depends on it was sent. Whoever calls this
-/// cuts the file there. Any other bytes are damage.
-/// Then, and where memory is refused, reading fails, or the machine cannot carry out an entry, the error says at
-/// which byte.
+/// After these bytes the log ends, or it has an entry that is cut short, maybe with zeros after the cut: the process
+/// or the computer stopped while that entry was written, and nothing that depends on it was sent. The caller cuts the
+/// file there.
+///
+/// Fails if any other bytes follow, which are damage, if memory is refused, if reading fails, or if the machine
+/// cannot carry out an entry. The error says at which byte.
 pub fn recover_machine<R: Read, M: Machine>(
     alloc: Global,
     reader: &mut R,

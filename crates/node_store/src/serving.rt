@@ -1,15 +1,16 @@
 //! The loop of a node: frames in, entries to the log, frames out.
-ghost use Rattle.std.specs.Prelude.{◌≡◌, [], OnOk, IfOk};
+ghost use Rattle.std.specs.Prelude.{◌≡◌, [], List, OnOk, IfOk};
 ghost use Rattle.std.specs.Io.Buffered.{reader_remaining};
 ghost use Rattle.frames.specs.Writing.{Writes};
-ghost use Rattle.node_store.specs.Serving.{ServesAll, ServesSome, HandlesArrived, IsFrameHandled};
+ghost use Rattle.node_effects.specs.declared.output.Output.{Output};
+ghost use Rattle.node_store.specs.Outputs.{HasGathered};
+ghost use Rattle.node_store.specs.Serving.{ServesAll, ServesSome, HandlesArrived, IsFrameHandled, WritesOutputs};
 
 use crate::batch::Batch;
 use crate::log::Log;
-use crate::output::write_bytes;
 use crate::stop::ServeError;
 use crate::writing::append_bytes;
-use frames::{Fault, Frame, FrameError, read_frame};
+use frames::{Fault, Frame, FrameError, read_frame, write_bytes};
 use node_effects::{Machine, NodeError};
 use std::alloc::Global;
 use std::io;
@@ -18,11 +19,12 @@ use std::io::{BufReader, ErrorKind, Read, Write};
 // How many frames are handled before the log is synced, at most.
 const MOST_AT_ONCE: u16 = 1024;
 
-/// Handles the frames of the input, until it ends. All frames that have arrived are handled one after another. Their
-/// entries are appended to the log, which is synced once, and only then are the frames written that go out.
+/// Handles the frames of the input, until it ends. All frames that have arrived are handled one after another. Then the
+/// frames are written that were wanted before any entry. After that the entries are appended to the log, which is
+/// synced once, and only then are the other frames written.
 ///
-/// `length` is that of the log, which is synced. An input that ends within a frame ends there. After 2^64 - 1 times
-/// that frames arrived, the error is `NoInput` with `TimedOut`.
+/// `length` is the length of the log, which is synced. An input that ends within a frame counts as ended there. After
+/// 2^64 - 1 rounds the error is `NoInput` with `TimedOut`.
 pub fn serve_frames<M: Machine, I: Read + Drop, O: Write, L: Log>(
     alloc: Global,
     machine: &mut M,
@@ -57,8 +59,7 @@ fn serve_arrived<M: Machine, I: Read + Drop, O: Write, L: Log>(
     log: &mut L,
     batch: &mut Batch,
 ) -> Result<bool, ServeError>
-    requires empty_log { batch.old.log.items ≡ [] }
-    requires empty_output { batch.old.output.items ≡ [] }
+    requires empty { HasGathered batch.old [] }
     requires synced { L.kept log.old ≡ L.written log.old }
     ensures serves { ServesSome M.handles M.notes machine.old machine.new
         (reader_remaining I.remaining input.old) (reader_remaining I.remaining input.new)
@@ -66,11 +67,30 @@ fn serve_arrived<M: Machine, I: Read + Drop, O: Write, L: Log>(
     ensures synced { OnOk result (L.kept log.new ≡ L.written log.new) }
 {
     let goes_on = handle_arrived(alloc, machine, input, batch)?;
+    write_batch(output, log, batch)?;
+    Ok(goes_on)
+}
+
+// Writes what waits: first the frames that depend on no entry, then the entries, after which the log is synced, and
+// only then the other frames.
+fn write_batch<O: Write, L: Log>(
+    output: &mut O,
+    log: &mut L,
+    batch: &Batch,
+) -> Result<(), ServeError>
+    requires { L.kept log.old ≡ L.written log.old }
+    ensures writes { (outputs : List Output) → HasGathered batch.now outputs → WritesOutputs (L.kept log.old)
+        (L.kept log.new) (O.contents output.old) (O.contents output.new) outputs result }
+    ensures synced { OnOk result (L.kept log.new ≡ L.written log.new) }
+{
+    if let Err(error) = write_out(output, &batch.early) {
+        return Err(ServeError::OutputLost(error));
+    }
     if let Err(error) = append_bytes(log, &batch.log) {
         return Err(ServeError::LogLost(error));
     }
     match write_out(output, &batch.output) {
-        Ok(()) => Ok(goes_on),
+        Ok(()) => Ok(()),
         Err(error) => Err(ServeError::OutputLost(error)),
     }
 }
@@ -128,12 +148,10 @@ fn handle_next<M: Machine, I: Read + Drop>(
 fn handle<M: Machine>(machine: &mut M, frame: Frame, batch: &mut Batch) -> Result<(), NodeError>
     ensures { OnOk result (IsFrameHandled M.handles M.notes machine.old machine.new frame batch.old batch.new) }
 {
-    match machine.handle(frame) {
-        Ok(effects) => match batch.push(&effects) {
-            Ok(()) => Ok(()),
-            Err(_) => Err(NodeError::NoMemory),
-        },
-        Err(error) => Err(error),
+    let effects = machine.handle(frame)?;
+    match batch.push(&effects) {
+        Ok(()) => Ok(()),
+        Err(_) => Err(NodeError::NoMemory),
     }
 }
 

@@ -4,11 +4,11 @@ use node_effects::NodeError;
 use std::io;
 use thiserror::Error;
 
-/// Why a node's loop ended before its input did. The frames that were handled last may have had no effect.
+/// Why a node's loop ended before its input did. The effects of the frames that were handled last may be lost.
 #[derive(Debug, Drop, Error)]
 pub enum ServeError {
-    /// What came in is no frame. The fault is never `UnexpectedEnd`, because an input that ends within a frame ends
-    /// there.
+    /// What came in is no frame. The fault is never `UnexpectedEnd`, because an input that ends within a frame counts
+    /// as ended there.
     #[error("the input is no frame: {0}")]
     NoFrame(Fault),
     /// The input cannot be read.

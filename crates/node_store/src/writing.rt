@@ -9,7 +9,7 @@ use node_log::{Entry, write_entry};
 use std::alloc::Global;
 use std::io;
 
-/// Appends the bytes of entries to those that wait to be written to the log. It fails only where memory is refused.
+/// Appends the bytes of entries to bytes that wait to be written to the log. Fails only if memory is refused.
 pub fn push_entries(bytes: &mut Vec<u8>, entries: &[Entry]) -> io::Result<()>
     ensures { OnOk result (bytes.new.items ≡ bytes.old.items ++ log_bytes entries.now) }
 {
@@ -19,8 +19,8 @@ pub fn push_entries(bytes: &mut Vec<u8>, entries: &[Entry]) -> io::Result<()>
     Ok(())
 }
 
-/// Appends bytes to a log that is synced, and syncs it again. Where there are no bytes, it does nothing. Where it
-/// fails, some of the bytes may be kept.
+/// Appends bytes to a log that is synced, and syncs it again. Does nothing if there are no bytes. If it fails, the log
+/// may keep some of the bytes.
 pub fn append_bytes<L: Log>(log: &mut L, bytes: &[u8]) -> io::Result<()>
     requires { L.kept log.old ≡ L.written log.old }
     ensures kept { OnOk result (Appends (L.kept log.old) (L.kept log.new) bytes.now) }
@@ -34,8 +34,8 @@ pub fn append_bytes<L: Log>(log: &mut L, bytes: &[u8]) -> io::Result<()>
     log.sync()
 }
 
-/// Appends entries to a log that is synced, and syncs it again. Returns how many bytes they have. Where it fails,
-/// also for want of memory, some of the bytes may be kept.
+/// Appends entries to a log that is synced, and syncs it again. Returns how many bytes they have. If it fails, also
+/// for want of memory, the log may keep some of the bytes.
 pub fn append_entries<L: Log>(alloc: Global, log: &mut L, entries: &[Entry]) -> io::Result<u64>
     requires { L.kept log.old ≡ L.written log.old }
     ensures kept { IfOk result (λ bytes. Appends (L.kept log.old) (L.kept log.new) (log_bytes entries.now)
@@ -43,11 +43,7 @@ pub fn append_entries<L: Log>(alloc: Global, log: &mut L, entries: &[Entry]) -> 
     ensures synced { OnOk result (L.kept log.new ≡ L.written log.new) }
 {
     let mut bytes = Vec::new(alloc);
-    match push_entries(&mut bytes, entries) {
-        Ok(()) => match append_bytes(log, &bytes) {
-            Ok(()) => Ok(bytes.len() as u64),
-            Err(error) => Err(error),
-        },
-        Err(error) => Err(error),
-    }
+    push_entries(&mut bytes, entries)?;
+    append_bytes(log, &bytes)?;
+    Ok(bytes.len() as u64)
 }

@@ -24,11 +24,10 @@ pub(crate) fn new_node(rt: &impl Abort, alloc: Global) -> Node {
     Node::new(alloc, file, 1)
 }
 
-/// The entries of a node that has started with an empty log.
+/// The entries that a new log gets.
 pub(crate) fn new_log(rt: &impl Abort, alloc: Global) -> Vec<Entry> {
     let mut node = new_node(rt, alloc);
-    let started = node.start().expect(rt, "a start");
-    started.entries
+    node.start().expect(rt, "a start")
 }
 
 /// The strings as a frame.
@@ -42,10 +41,20 @@ pub(crate) fn frame(rt: &impl Abort, alloc: Global, words: &[&str]) -> Frame {
 }
 
 impl Alone {
-    /// A node that has started with an empty log.
+    /// A node with an empty log, which has started.
     pub(crate) fn new(rt: &impl Abort, alloc: Global) -> Alone {
-        let mut node = new_node(rt, alloc);
-        let last = node.start().expect(rt, "a start");
+        Alone::with(rt, alloc, new_node(rt, alloc))
+    }
+
+    /// A node that has its log again, and starts.
+    pub(crate) fn with(rt: &impl Abort, alloc: Global, node: Node) -> Alone {
+        let mut node = node;
+        let _entries = node.start().expect(rt, "a start");
+        let last = Effects {
+            outputs: Vec::new(alloc),
+            answers: Vec::new(alloc),
+            notices: Vec::new(alloc),
+        };
         Alone { alloc, node, last }
     }
 
@@ -55,9 +64,9 @@ impl Alone {
         self.last = self.node.handle(frame).expect(rt, "effects");
     }
 
-    /// Whether the frames that went out last are this one alone.
-    pub(crate) fn has_sent(&self, words: &[&str]) -> bool {
-        match self.last.frames.as_slice() {
+    /// Whether this was answered last, and nothing else.
+    pub(crate) fn has_answered(&self, words: &[&str]) -> bool {
+        match self.last.answers.as_slice() {
             [frame] => is_frame(frame.strings(), words),
             _ => false,
         }

@@ -5,4 +5,8 @@
 #[cfg(test)]
 mod alone;
 #[cfg(test)]
+mod anew;
+#[cfg(test)]
 mod commands;
+#[cfg(test)]
+mod order;

@@ -1,4 +1,4 @@
-//! Commands of clients.
+//! What a node does with the commands of its clients.
 ghost use Rattle.std.specs.Prelude.{◌≡◌, ◌∷◌, [], ℕ, List, false, nat_eq, true, IfOk, OnOk, Ok, Some};
 ghost use Rattle.indexmap.specs.IndexMap.{get};
 ghost use Rattle.connections.specs.Connections.{doing};

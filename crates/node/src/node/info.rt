@@ -5,7 +5,7 @@ use node_effects::NodeError;
 use std::fmt::Write;
 
 impl Node {
-    /// The lines of `INFO`, each with a key and a value.
+    /// Returns the lines of `INFO`, each with a key and a value.
     pub(super) fn info(&self) -> Result<Bytes, NodeError> {
         let mut text = String::new(self.alloc);
         write!(text, "program:casd\r\n")?;

@@ -1,4 +1,4 @@
-//! A node as a machine over frames, with a log.
+//! A node as a machine that handles frames and has a log.
 use super::Node;
 use frames::Frame;
 use node_effects::{Effects, Machine, NodeError, RecoveryError, Work};
@@ -19,10 +19,12 @@ impl Machine for Node {
     /// Carries out the next entry of the node's log again, and sends nothing.
     ///
     /// After all entries, the node has its banks and its open moves again, and none of its reads and writes. It may
-    /// have forgotten layouts of which only letters told it that are not in the log; the mover has forgotten none.
+    /// have forgotten layouts of which it heard only from letters that are not in the log. The node that moves objects
+    /// has forgotten none.
     ///
-    /// `NoCluster` if the first entry names no cluster, `OtherCluster` or `OtherNode` if it names another one,
-    /// `NoEntry` if no node writes such an entry, and `Stopped` with `NoMemory`, `NoMoreIds` or the refusal of a move.
+    /// Fails with `NoCluster` if the first entry names no cluster, with `OtherCluster` or `OtherNode` if it names
+    /// another cluster or another node, with `NoEntry` if no node makes such an entry, and with `Stopped` for
+    /// `NoMemory`, `NoMoreIds` or the refusal of a move.
     fn recover(&mut self, entry: Entry) -> Result<(), RecoveryError>
         ensures carried_out { OnOk result (CarriesOutEntry self.old entry self.new) }
         ensures refused { IfErr result (RefusesEntry self.old entry) }
@@ -39,14 +41,14 @@ impl Machine for Node {
     /// Handles a frame that has come, whose first string is its address. The node handles its letters to itself before
     /// this returns.
     ///
-    /// `NoMemory`, or `NoMoreIds` if there is no id for a call. Any other error is a fault of this program.
+    /// Fails with `NoMemory`, or with `NoMoreIds` if there is no id for a call. Any other error is a fault of this
+    /// program.
     fn handle(&mut self, frame: Frame) -> Result<Effects, NodeError> {
         let number = self.keeper.number();
         let mut work = Work::new(self.alloc);
         self.take_frame(frame, &mut work)?;
         self.finish(number, &mut work)?;
-        let effects = work.into_effects()?;
-        Ok(effects)
+        Ok(work.into_effects())
     }
 
     /// Notes the length of the log, in bytes, for `INFO`.

@@ -1,4 +1,4 @@
-//! Messages between nodes.
+//! What a node does with messages of other nodes and with its letters to itself.
 ghost use Rattle.std.specs.Prelude.{◌≡◌, OnOk};
 ghost use Rattle.node_keeper.specs.Acts.{Acts};
 ghost use Rattle.node_messages.specs.Reading.{message_from};
@@ -14,8 +14,8 @@ use node_keeper::{Delivered, letter_of};
 use node_messages::{MessageError, NodeMessage, read_message};
 
 impl Node {
-    /// Handles a frame that another node sent. The node drops and counts what is no message, what comes from no node of
-    /// the cluster, and what a node with another cluster file sent.
+    /// Handles a frame that another node sent. The node drops and counts a frame that is no message, that no node of
+    /// the cluster sent, or that a node with another cluster file sent.
     pub(super) fn receive(
         &mut self,
         sender: u8,

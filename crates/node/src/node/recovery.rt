@@ -1,4 +1,4 @@
-//! What a node gets back from its log.
+//! How a node carries out the entries of its log again.
 ghost use Rattle.std.specs.Prelude.{◌≡◌, ◌∷◌, [], true, IfErr, IfOk, OnOk};
 ghost use Rattle.local_object.specs.Doing.{serve_events};
 ghost use Rattle.local_object.specs.Events.{LocalEvent};
@@ -67,14 +67,14 @@ impl Node {
         match it {
             Record::Cluster { digest: _, node: _ } => Err(RecoveryError::NoEntry),
             Record::Start => self.recover_start(),
-            Record::Serve(frame) => match self.recover_letter(frame) {
-                Ok(it) => self.serve_again(it),
-                Err(error) => Err(error),
-            },
-            Record::Take(frame) => match self.recover_letter(frame) {
-                Ok(it) => self.take_again(it),
-                Err(error) => Err(error),
-            },
+            Record::Serve(frame) => {
+                let it = self.recover_letter(frame)?;
+                self.serve_again(it)
+            }
+            Record::Take(frame) => {
+                let it = self.recover_letter(frame)?;
+                self.take_again(it)
+            }
             Record::Move { id, name, layout } => self.recover_move(id, name, layout),
         }
     }

@@ -10,8 +10,9 @@ use node_effects::{NodeError, Work};
 use tag::CallId;
 
 impl Node {
-    /// Time has passed. Open calls ask again those that have not replied, ever more rarely. A read or a write is given
-    /// up after the cluster file's number of ticks. A move goes on, but its client is told that no quorum has answered.
+    /// Does what is due after a tick. Open calls send their requests again to the members that have not replied, ever
+    /// more rarely. A read or a write that is older than the cluster file's number of ticks is given up. A move that is
+    /// as old goes on, but its client is told that no quorum has answered.
     pub(super) fn tick(&mut self, work: &mut Work) -> Result<(), NodeError>
         ensures acts { OnOk result ((asker : ℕ) → Acts asker [] self.old.keeper work.old self.new.keeper work.new) }
         ensures serves { OnOk result (ServesTicks (keys self.old.desk.calls) self.old work.old self.new work.new) }

@@ -1,8 +1,13 @@
 use Rattle.std.proofs.Common.{rules, true, false}
 use Rattle.std.specs.Io.Buffered.{reader_remaining}
 use Rattle.std.proofs.lemmas.Result.{err_from_is_err_and}
-use Rattle.node_store.proofs.ServingLemmas.{arrived_then, arrived_as, going, stopped}
+use Rattle.node_store.proofs.ServingLemmas.{arrived_none, arrived_then, arrived_as, going, stopped}
 use Rattle.node_store.proofs.serving.handle_arrived.Goals as goal
+
+pub loop-init : goal.loop-init
+loop-init g c =
+    arrived_none g.M.Machine.handles g.M.Machine.notes c.args.machine.now
+    (reader_remaining g.I.Read.remaining c.args.input.now) c.args.batch.now
 
 pub returns-in_err-handle_next : goal.returns-in_err-handle_next
 returns-in_err-handle_next g c =

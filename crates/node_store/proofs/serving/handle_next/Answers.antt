@@ -2,7 +2,7 @@ use Rattle.std.proofs.Common.{◌≡◌, rules}
 use Rattle.std.specs.Io.Buffered.{reader_remaining}
 use Rattle.frames.specs.declared.error.Fault.TheVariants.{UnexpectedEnd}
 use Rattle.node_store.specs.declared.stop.ServeError.TheVariants.{NoFrame}
-use Rattle.node_store.proofs.FrameReadingLemmas.{found_frame, end_from, no_frame_from}
+use Rattle.node_store.proofs.FrameReadingLemmas.{found_frame, end_from, no_frame_from, none_left}
 use Rattle.node_store.proofs.ServingLemmas.{arrived_one, arrived_end, arrived_stop}
 use Rattle.node_store.proofs.serving.handle_next.Goals as goal
 
@@ -13,6 +13,13 @@ returns-in-Ok g c =
     arrived_one g.M.Machine.handles g.M.Machine.notes c.args.machine.now c.handle.new.machine c.in-Ok-Some.frame had left
     c.args.batch.now c.handle.new.batch
     (found_frame had left c.in-Ok-Some.field-0 c.in-Ok-Some.frame c.in-Ok-Some.field-0-is c.in-Ok-Some.ensures.found) c.in-Ok.ensures
+
+pub returns-in-Ok-None : goal.returns-in-Ok-None
+returns-in-Ok-None g c =
+    let had = reader_remaining g.I.Read.remaining c.args.input.now in
+    let left = reader_remaining g.I.Read.remaining c.read_frame.new.reader in
+    arrived_end g.M.Machine.handles g.M.Machine.notes c.args.machine.now had left c.args.batch.now
+    (none_left had left c.in-Ok-None.field-0 c.in-Ok-None.field-0-is c.in-Ok-None.ensures.found)
 
 pub returns-in-Err-Fault-UnexpectedEnd : goal.returns-in-Err-Fault-UnexpectedEnd
 returns-in-Err-Fault-UnexpectedEnd g c =

@@ -2,7 +2,7 @@ use Rattle.std.proofs.Common.{rules, true, false, List, ℕ}
 use Rattle.std.specs.Io.Buffered.{reader_remaining}
 use Rattle.std.proofs.lemmas.Result.{err_from_is_err_and}
 use Rattle.node_store.specs.declared.stop.ServeError.TheVariants.{NoInput}
-use Rattle.node_store.proofs.ServingLemmas.{serves_none, serves_more, serves_as, serves_idle, going, stopped}
+use Rattle.node_store.proofs.ServingLemmas.{serves_more, serves_as, serves_idle, going, stopped}
 use Rattle.node_store.proofs.serving.serve_frames.Goals as goal
 
 pub returns-in_err-serve_arrived : goal.returns-in_err-serve_arrived
@@ -50,8 +50,7 @@ loop-preserved g c =
           (held c.loop.output) (held c.serve_arrived.new.output) c.in_ok-serve_arrived.field-0 true (search rules)
           c.in_ok-serve_arrived.ensures.serves),
       c.in_ok-serve_arrived.ensures.synced,
-      c.clear.ensures.log,
-      c.clear.ensures.output,
+      c.clear.ensures,
     )
 
 pub returns : goal.returns

@@ -1,6 +1,7 @@
 -- The frames so far were handled, and what the machine wanted done for them is done.
 use Rattle.std.proofs.Common.{◌≡◌, [], true, Ok}
 use Rattle.std.specs.Io.Buffered.{reader_remaining}
+use Rattle.node_store.specs.Outputs.{HasGathered}
 use Rattle.node_store.specs.Serving.{ServesSome}
 use Rattle.node_store.proofs.serving.serve_frames.Given as goal
 
@@ -8,4 +9,4 @@ abbrev pub invariant-loop : goal.invariant-loop
 invariant-loop g l = ServesSome g.M.Machine.handles g.M.Machine.notes l.fn.machine l.machine
     (reader_remaining g.I.Read.remaining l.fn.input) (reader_remaining g.I.Read.remaining l.input)
     (g.L.Log.kept l.fn.log) (g.L.Log.kept l.log) (g.O.Write.contents l.fn.output) (g.O.Write.contents l.output) (Ok true)
-    × (g.L.Log.kept l.log ≡ g.L.Log.written l.log) × (l.batch.log.items ≡ []) × (l.batch.output.items ≡ [])
+    × (g.L.Log.kept l.log ≡ g.L.Log.written l.log) × HasGathered l.batch []

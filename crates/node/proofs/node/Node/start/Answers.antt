@@ -1,8 +1,14 @@
-use Rattle.std.proofs.Common.{◌++◌, ap, subst, ◌∙◌}
+use Rattle.std.proofs.Common.{◌∙◌, subst}
 use Rattle.recoveries.specs.Records.{IsStarted}
 use Rattle.node_keeper.specs.Keeping.{kept_of}
 use Rattle.node.proofs.StartLemmas.{started_of, starts}
 use Rattle.node.proofs.node.Node.start.Goals as goal
+
+pub into_entries-requires : goal.into_entries-requires
+into_entries-requires c =
+    let old = c.args.self.now in
+    (starts old.is_named old.keeper.digest old.keeper.ids.node c.new-work.result c.name_log.new.work
+    c.begin_epoch.new.work c.new-work.ensures c.in_ok-name_log.ensures.grown c.in_ok-begin_epoch.ensures.entry).only
 
 pub returns : goal.returns
 returns c =
@@ -12,9 +18,6 @@ returns c =
       started = subst (λ k. IsStarted (kept_of k) (kept_of c.begin_epoch.new.self)) c.name_log.ensures.keeper
           (started_of c.name_log.new.self.keeper c.begin_epoch.new.self c.in_ok-begin_epoch.ensures.more
           c.in_ok-begin_epoch.ensures.ids c.in_ok-begin_epoch.ensures.objects c.in_ok-begin_epoch.ensures.file);
-      entries = c.in_ok-effects.ensures.entries ∙ done.entries;
-      frames = c.in_ok-effects.ensures.frames ∙ ap (λ xs. xs ++ c.begin_epoch.new.work.to_clients.items) done.to_nodes
-          ∙ done.to_clients;
-      notices = c.in_ok-effects.ensures.notices ∙ done.notices;
+      entries = c.in_ok-entries.ensures.entries ∙ done.entries;
       refused = tt;
     }

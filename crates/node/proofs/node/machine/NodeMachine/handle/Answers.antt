@@ -14,13 +14,13 @@ returns c =
     let got = letters_in old.keeper c.args.frame in
     let empty = c.new-work.result in
     let taken = c.take_frame.new.work in
-    handles_of old c.finish.new.self c.args.frame c.finish.new.work c.in_ok-effects.effects
+    handles_of old c.finish.new.self c.args.frame c.finish.new.work c.into_effects.result
     (c.in_ok-finish.ensures.acted asker got old.keeper
     (acted_first asker got old.keeper c.take_frame.new.self.keeper empty taken c.number-number.ensures.within
     c.new-work.ensures c.in_ok-take_frame.ensures.acts))
     (c.in_ok-finish.ensures.served came old
     (since_first came old c.take_frame.new.self empty taken c.new-work.ensures.to_clients c.new-work.ensures.notices
     c.in_ok-take_frame.ensures.serves))
-    c.in_ok-effects.ensures.entries c.in_ok-effects.ensures.frames c.in_ok-effects.ensures.notices
+    c.into_effects.ensures.outputs c.into_effects.ensures.answers c.into_effects.ensures.notices
     (λ waits. c.in_ok-finish.ensures.waits (c.in_ok-take_frame.ensures.waits
     (subst (λ xs. NoneWaits old.desk.clients xs) (sym c.new-work.ensures.due) waits)))

@@ -1,0 +1,54 @@
+//! The node's log, written anew.
+ghost use Rattle.std.specs.Prelude.{◌≡◌, ◌∷◌, ◌++◌, [], IfErr, IfOk, MatchOption, OnOk};
+ghost use Rattle.node_log.specs.Entry.{IsEntry};
+ghost use Rattle.rewritten_logs.specs.Sound.{CanBeWrittenAnew};
+ghost use Rattle.node_effects.specs.Errors.{IsUnwritten, WritesOrFails};
+ghost use Rattle.node_keeper.specs.Keeping.{kept_of};
+ghost use Rattle.node.specs.Anew.{AreAnew, CanHoldAnew};
+ghost use Rattle.node.specs.Starts.{cluster_entry, cluster_strings};
+
+use super::Node;
+use node_effects::NodeError;
+use node_keeper::push_entry;
+use node_log::Entry;
+use node_strings::Record;
+
+impl Node {
+    /// The entries of a log that is written anew, which gives back what the node keeps now. None if the log may not be
+    /// written anew now: a move is open here, or this node moves objects and has heard of a position behind the first.
+    ///
+    /// `NoMemory`. `Unwritable` if an entry is too long, which none is that a node makes.
+    pub fn entries_anew(&self) -> Result<Option<Vec<Entry>>, NodeError>
+        ensures anew { IfOk result (λ entries. MatchOption entries (CanBeWrittenAnew (kept_of self.now.keeper) → ⊥)
+            (λ them. AreAnew self.now them.items)) }
+        ensures refused { IfErr result (IsUnwritten (CanHoldAnew self.now)) }
+    {
+        if !self.keeper.may_rewrite() {
+            return Ok(None);
+        }
+        let mut entries = Vec::new(self.alloc);
+        self.push_cluster(&mut entries)?;
+        self.keeper.log_anew(&mut entries)?;
+        Ok(Some(entries))
+    }
+
+    /// About how many bytes a log would have that is written anew. This is an estimate, by which a host may decide when
+    /// to write the log anew; no promise depends on it. It takes time linear in the number of tags.
+    pub fn needed_bytes(&self) -> u64 {
+        self.keeper.needed_bytes()
+    }
+
+    // Appends the entry that names the cluster and the node.
+    fn push_cluster(&self, entries: &mut Vec<Entry>) -> Result<(), NodeError>
+        ensures appended { OnOk result (entries.new.items
+            ≡ entries.old.items ++ cluster_entry self.now.keeper.digest self.now.keeper.ids.node ∷ []) }
+        ensures writes { WritesOrFails
+            (IsEntry (cluster_strings self.now.keeper.digest self.now.keeper.ids.node)) result }
+    {
+        let it = Record::Cluster {
+            digest: self.keeper.digest,
+            node: self.keeper.number(),
+        };
+        push_entry(self.alloc, entries, &it)
+    }
+}

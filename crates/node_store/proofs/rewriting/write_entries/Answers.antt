@@ -1,0 +1,18 @@
+use Rattle.std.proofs.Common.{ap, ℕ, Vec, Global, arith}
+use Rattle.node_store.proofs.RewritingLemmas.{one_waits, part_written, same_written}
+use Rattle.node_store.proofs.rewriting.write_entries.Goals.{then-len-ge-PART_BYTES+in_ok-length, else-len-ge-PART_BYTES}
+use Rattle.node_store.proofs.rewriting.write_entries.Goals as goal
+
+pub loop-entry-preserved : goal.loop-entry-preserved
+loop-entry-preserved g c =
+    let waits = one_waits _ _ c.loop-entry.part.items c.write_entry.new.writer.items c.loop-entry.length c.args.entries.now
+    c.loop-entry.entry-index c.entry-item.result c.entry-item.result c.loop-entry-test.true c.entry-item.is
+    c.in_ok-write_entry.ensures c.loop-entry.invariant in
+    elim c.if-len-ge-PART_BYTES.branch [
+      | then-len-ge-PART_BYTES+in_ok-length w ↦ same_written _ _ _ _ _ _ _ _ (ap g.L.Log.written w.log-is)
+          (ap (λ (v : Vec ℕ Global). v.items) w.part-is) w.length-is
+          (part_written _ _ _ c.write_entry.new.writer.items _ _ _ _ waits w.in_ok-length.ensures.written w.in_ok-length.ensures.empty
+          (omega (arith, w.in_ok-length.ensures.length, c.write_entry.new.writer.ok.0)))
+      | else-len-ge-PART_BYTES w ↦ same_written _ _ _ _ _ _ _ _ (ap g.L.Log.written w.log-is)
+          (ap (λ (v : Vec ℕ Global). v.items) w.part-is) w.length-is waits
+    ]

@@ -1,0 +1,26 @@
+-- The contracts that docs/trusted.md lists do not depend on this file; other contracts and proofs do.
+-- What a log has after it was written anew.
+use Rattle.std.specs.Prelude.{◌≡◌, ◌⊎◌, ℕ, List, length, Option, Some, None, Result, Ok, Err, ⊤}
+use Rattle.std.specs.Io.KnownBytes.{Keeps}
+use Rattle.node_store.specs.declared.rewriting.Rewriting.{Rewriting}
+use Rattle.node_store.specs.declared.rewriting.Rewriting.TheVariants as ends
+
+-- where the bytes of a log are known, those of the second one are these
+abbrev pub IsBeside : Option (List ℕ) → (second : Option (List ℕ)) → List ℕ → Type 0
+IsBeside None second bytes = ⊤
+IsBeside (Some log) second bytes = second ≡ Some bytes
+
+-- known bytes are replaced by those of a second log
+abbrev pub Becomes : Option (List ℕ) → Option (List ℕ) → Option (List ℕ) → Type 0
+Becomes None new second = ⊤
+Becomes (Some bytes) new second = new ≡ second
+
+-- known bytes stay as they are, or are replaced by those of a second log
+abbrev pub KeepsOrBecomes : Option (List ℕ) → Option (List ℕ) → Option (List ℕ) → Type 0
+KeepsOrBecomes old new second = Keeps old new ⊎ Becomes old new second
+
+-- what the log keeps after it was to be written anew, of these bytes: these; or what it kept before; or one of the two
+abbrev pub HasRewritten : {E : Type 0} → (old new : Option (List ℕ)) → List ℕ → Result Rewriting E → Type 0
+HasRewritten old new bytes (Ok (ends.Done count)) = Becomes old new (Some bytes) × (count ≡ length bytes)
+HasRewritten old new bytes (Ok (ends.GivenUp error)) = Keeps old new
+HasRewritten old new bytes (Err error) = KeepsOrBecomes old new (Some bytes)

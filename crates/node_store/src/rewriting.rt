@@ -1,0 +1,118 @@
+//! Writing a log anew.
+ghost use Rattle.std.specs.Prelude.{◌≡◌, ◌↔◌, ◌+◌, ◌*◌, ◌≤◌, [], IsTrue, OnOk, IfOk, length, vec_len};
+ghost use Rattle.std.specs.Io.KnownBytes.{Appends};
+ghost use Rattle.node_store.specs.Recovery.{log_bytes};
+ghost use Rattle.node_store.specs.Rewriting.{HasRewritten, IsBeside};
+
+use crate::log::Log;
+use crate::second::RewritableLog;
+use node_log::{Entry, write_entry};
+use std::alloc::Global;
+use std::io;
+use std::io::ErrorKind;
+
+// So many bytes wait at most before they are written to the second log, but for those of one entry.
+const PART_BYTES: usize = 1_048_576;
+
+// A log is not written anew for fewer bytes than these.
+const SPARED_BYTES: u64 = 16_777_216;
+
+/// What came of writing a log anew, where the log can still be used.
+#[derive(Debug, Drop)]
+pub enum Rewriting {
+    /// The log has the new entries, and so many bytes.
+    Done(u64),
+    /// The log is as it was, because the second one could not be written.
+    GivenUp(io::Error),
+}
+
+/// Whether it is worth writing a log of `length` bytes anew, of which about `needed` would be left: whether it has at
+/// least twice as many bytes, and 16 MiB more.
+pub fn is_worth_rewriting(length: u64, needed: u64) -> bool
+    ensures { IsTrue result ↔ (2 * needed + 16_777_216 ≤ length) }
+{
+    length >= SPARED_BYTES && (length - SPARED_BYTES) / 2 >= needed
+}
+
+/// Writes a log anew, so that it has these entries and no others. It writes them to a second log and syncs that, puts
+/// the second log in the place of the log, and syncs the place.
+///
+/// If the second log cannot be written, the log stays as it was, and the result is `GivenUp`. If a later step fails,
+/// the log may keep what it had, or the new entries, and nothing may be appended to it.
+pub fn rewrite_log<L: RewritableLog>(
+    alloc: Global,
+    log: &mut L,
+    entries: &[Entry],
+) -> io::Result<Rewriting>
+    requires { L.kept log.old ≡ L.written log.old }
+    ensures kept { HasRewritten (L.kept log.old) (L.kept log.new) (log_bytes entries.now) result }
+    ensures synced { OnOk result (L.kept log.new ≡ L.written log.new) }
+{
+    match write_second(alloc, log, entries) {
+        Ok((second, length)) => {
+            log.put_second(second)?;
+            log.sync_place()?;
+            Ok(Rewriting::Done(length))
+        }
+        Err(error) => Ok(Rewriting::GivenUp(error)),
+    }
+}
+
+// Writes entries to a second log, which is then synced, and returns how many bytes they have. Where this fails, the
+// second log is removed. The log stays as it is.
+fn write_second<L: RewritableLog>(
+    alloc: Global,
+    log: &mut L,
+    entries: &[Entry],
+) -> io::Result<(L::Second, u64)>
+    ensures written { L.written log.new ≡ L.written log.old }
+    ensures kept { L.kept log.new ≡ L.kept log.old }
+    ensures second { IfOk result (λ done.
+        IsBeside (L.written log.old) (L.Second.written done.0) (log_bytes entries.now)) }
+
+    ensures synced { IfOk result (λ done. L.Second.kept done.0 ≡ L.Second.written done.0) }
+    ensures length { IfOk result (λ done. done.1 ≡ length (log_bytes entries.now)) }
+{
+    let mut second = log.begin_second()?;
+    match write_entries(alloc, &mut second, entries) {
+        Ok(length) => Ok((second, length)),
+        Err(error) => {
+            let _ = log.remove_second();
+            Err(error)
+        }
+    }
+}
+
+// Appends entries to a log, in parts, and syncs it. Returns how many bytes they have.
+fn write_entries<L: Log>(alloc: Global, log: &mut L, entries: &[Entry]) -> io::Result<u64>
+    ensures written { OnOk result (Appends (L.written log.old) (L.written log.new) (log_bytes entries.now)) }
+    ensures synced { OnOk result (L.kept log.new ≡ L.written log.new) }
+    ensures length { IfOk result (λ bytes. bytes ≡ length (log_bytes entries.now)) }
+{
+    let mut part = Vec::new(alloc);
+    let mut length = 0u64;
+    for entry in entries {
+        write_entry(&mut part, entry)?;
+        if part.len() >= PART_BYTES {
+            length = write_part(log, &mut part, length)?;
+        }
+    }
+    length = write_part(log, &mut part, length)?;
+    log.sync()?;
+    Ok(length)
+}
+
+// Appends these bytes to a log, and drops them. `length` is the number of bytes that were written before them, and the
+// result that with them.
+fn write_part<L: Log>(log: &mut L, part: &mut Vec<u8>, length: u64) -> io::Result<u64>
+    ensures written { OnOk result (Appends (L.written log.old) (L.written log.new) part.old.items) }
+    ensures empty { OnOk result (part.new.items ≡ []) }
+    ensures length { IfOk result (λ end. end ≡ length + vec_len part.old) }
+{
+    let Some(end) = length.checked_add(part.len() as u64) else {
+        return Err(io::Error::from(ErrorKind::FileTooLarge));
+    };
+    log.append(part)?;
+    part.clear();
+    Ok(end)
+}

@@ -1,0 +1,37 @@
+//! A log that can be written anew.
+use crate::log::Log;
+use std::io;
+
+/// A log beside which a second one can be written, which then takes its place.
+pub trait RewritableLog: Log {
+    ghost use Rattle.std.specs.Prelude.{◌≡◌, [], OnOk, IfOk};
+    ghost use Rattle.node_store.specs.Rewriting.{IsBeside, Becomes, KeepsOrBecomes};
+
+    /// The second log.
+    type Second: Log + Drop;
+
+    /// Begins a second log, which is empty. If there is one already, its bytes are gone.
+    fn begin_second(&mut self) -> io::Result<Self::Second>
+        ensures written { Self.written self.new ≡ Self.written self.old }
+        ensures kept { Self.kept self.new ≡ Self.kept self.old }
+        ensures empty { IfOk result (λ second. IsBeside (Self.written self.old) (Self.Second.written second) []) };
+
+    /// Removes the second log, if there is one.
+    fn remove_second(&mut self) -> io::Result<()>
+        ensures written { Self.written self.new ≡ Self.written self.old }
+        ensures kept { Self.kept self.new ≡ Self.kept self.old };
+
+    /// Puts the second log in the place of this one. Until the place is synced, the machine may stop and then have
+    /// either of the two, also if this fails.
+    fn put_second(&mut self, second: Self::Second) -> io::Result<()>
+        requires { Self.Second.kept second ≡ Self.Second.written second }
+        ensures written { OnOk result (Becomes (Self.written self.old) (Self.written self.new)
+            (Self.Second.written second)) }
+        ensures kept { KeepsOrBecomes (Self.kept self.old) (Self.kept self.new) (Self.Second.kept second) };
+
+    /// Has the log that was put here last kept in this place.
+    fn sync_place(&mut self) -> io::Result<()>
+        ensures written { Self.written self.new ≡ Self.written self.old }
+        ensures kept { KeepsOrBecomes (Self.kept self.old) (Self.kept self.new) (Self.written self.old) }
+        ensures all { OnOk result (Self.kept self.new ≡ Self.written self.new) };
+}
