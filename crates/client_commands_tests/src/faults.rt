@@ -1,5 +1,5 @@
 //! Frames that ask for no command, and why.
-use crate::samples::{asked, asked_by, text};
+use crate::samples::{asked_by, assert_asks, assert_fault, assert_sent, text};
 use client_commands::{Command, CommandFault, CommandName};
 use std::alloc::Global;
 use std::process::Abort;
@@ -67,7 +67,7 @@ static FAULTS: [(&[&[u8]], CommandFault); 22] = [
 fn faults(rt: HostRuntime) {
     let alloc = rt.alloc();
     for &(strings, fault) in &FAULTS {
-        assert!(rt; asked_by(&rt, alloc, strings) == Err(fault));
+        assert_fault(&rt, alloc, strings, fault);
     }
 }
 
@@ -75,39 +75,38 @@ fn faults(rt: HostRuntime) {
 #[test]
 fn long_names(rt: HostRuntime) {
     let alloc = rt.alloc();
-    let longest = text(&rt, alloc, &[b'n'; 255]);
-    assert!(rt; asked_by(&rt, alloc, &[b"GET", &[b'n'; 255]]) == Ok(Command::Get(longest)));
+    let longest: &[u8] = &[b'n'; 255];
+    let wanted = Command::Get(text(&rt, alloc, longest));
+    assert_asks(&rt, alloc, &[b"GET", longest], wanted);
     let long: &[u8] = &[b'n'; 256];
-    assert!(rt; asked_by(&rt, alloc, &[b"GET", long]) == Err(CommandFault::NameTooLong));
-    let command = asked_by(&rt, alloc, &[b"SET", long, b"hello"]);
-    assert!(rt; command == Err(CommandFault::NameTooLong));
-    let command = asked_by(&rt, alloc, &[b"MOVE", long, b"x", b"3"]);
-    assert!(rt; command == Err(CommandFault::NameTooLong));
+    let fault = CommandFault::NameTooLong;
+    assert_fault(&rt, alloc, &[b"GET", long], fault);
+    assert_fault(&rt, alloc, &[b"SET", long, b"hello"], fault);
+    assert_fault(&rt, alloc, &[b"MOVE", long, b"x", b"3"], fault);
 }
 
-fn set_of<R: Abort>(
-    rt: &R,
-    alloc: Global,
-    name: &[u8],
-    len: usize,
-) -> Result<Command, CommandFault> {
+// A value of so many bytes is too long for a command with this name, or the name is, as the fault says.
+fn assert_long<R: Abort>(rt: &R, alloc: Global, name: &[u8], len: usize, fault: CommandFault) {
     let value = vec![in alloc; b'v'; len].expect(rt, "memory");
-    asked_by(rt, alloc, &[b"SET", name, &value])
+    assert_fault(rt, alloc, &[b"SET", name, &value], fault);
 }
 
-/// A value of 16 MiB is short enough, and a byte more is not.
+/// A value of 16 MiB is short enough.
+#[test]
+fn longest_value(rt: HostRuntime) {
+    let alloc = rt.alloc();
+    let value = vec![in alloc; b'v'; 16_777_216].expect(&rt, "memory");
+    let command = asked_by(&rt, alloc, &[b"SET", b"photo", &value]);
+    assert!(rt; matches!(command, Ok(Command::Set { .. })));
+}
+
+/// A byte more is not. A name that is too long comes first.
 #[test]
 fn long_values(rt: HostRuntime) {
     let alloc = rt.alloc();
-    assert!(rt;
-        matches!(
-            set_of(&rt, alloc, b"photo", 16_777_216),
-            Ok(Command::Set { .. })
-        )
-    );
-    assert!(rt; set_of(&rt, alloc, b"photo", 16_777_217) == Err(CommandFault::ValueTooLong));
+    assert_long(&rt, alloc, b"photo", 16_777_217, CommandFault::ValueTooLong);
     let long: &[u8] = &[b'n'; 256];
-    assert!(rt; set_of(&rt, alloc, long, 16_777_217) == Err(CommandFault::NameTooLong));
+    assert_long(&rt, alloc, long, 16_777_217, CommandFault::NameTooLong);
 }
 
 /// A `MOVE` has from 1 to 255 nodes, whatever they are.
@@ -120,15 +119,15 @@ fn many_nodes(rt: HostRuntime) {
     for _ in 0..256 {
         strings.push(b"1").expect(&rt, "memory");
     }
-    assert!(rt; asked_by(&rt, alloc, &strings) == Err(CommandFault::BadLayout));
+    assert_fault(&rt, alloc, &strings, CommandFault::BadLayout);
     strings.push(b"x").expect(&rt, "memory");
     let fault = CommandFault::WrongCount(CommandName::Move);
-    assert!(rt; asked_by(&rt, alloc, &strings) == Err(fault));
+    assert_fault(&rt, alloc, &strings, fault);
 }
 
 /// An inline command of Redis is no frame at all; an array without strings asks for nothing.
 #[test]
 fn no_strings(rt: HostRuntime) {
-    let command = asked(&rt, rt.alloc(), b"*0\r\n");
-    assert!(rt; command == Err(CommandFault::UnknownCommand));
+    let alloc = rt.alloc();
+    assert_sent(&rt, alloc, b"*0\r\n", Err(CommandFault::UnknownCommand));
 }

@@ -13,10 +13,19 @@ fn is_text(string: &[u8], text: &[u8]) -> bool {
     string == text
 }
 
-/// What these bytes of a client ask.
-pub(crate) fn asked<R: Abort>(rt: &R, alloc: Global, sent: &[u8]) -> Result<Command, CommandFault> {
+/// The frame that these bytes of a client are.
+fn frame_in<R: Abort>(rt: &R, alloc: Global, sent: &[u8]) -> Frame {
     let frame = read_frame(alloc, &mut &*sent).expect(rt, "no fault");
-    read_command(frame.expect(rt, "a frame"))
+    frame.expect(rt, "a frame")
+}
+
+/// The frame of these strings.
+fn frame_of<R: Abort>(rt: &R, alloc: Global, strings: &[&[u8]]) -> Frame {
+    let mut list = Vec::new(alloc);
+    for string in strings {
+        list.push(text(rt, alloc, string)).expect(rt, "memory");
+    }
+    Frame::new(list).expect(rt, "a frame")
 }
 
 /// What the frame of these strings asks.
@@ -25,11 +34,32 @@ pub(crate) fn asked_by<R: Abort>(
     alloc: Global,
     strings: &[&[u8]],
 ) -> Result<Command, CommandFault> {
-    let mut list = Vec::new(alloc);
-    for string in strings {
-        list.push(text(rt, alloc, string)).expect(rt, "memory");
-    }
-    read_command(Frame::new(list).expect(rt, "a frame"))
+    read_command(frame_of(rt, alloc, strings))
+}
+
+/// These bytes of a client ask for this, or for nothing by this fault.
+pub(crate) fn assert_sent<R: Abort>(
+    rt: &R,
+    alloc: Global,
+    sent: &[u8],
+    wanted: Result<Command, CommandFault>,
+) {
+    assert!(rt; read_command(frame_in(rt, alloc, sent)) == wanted);
+}
+
+/// The frame of these strings asks for this command.
+pub(crate) fn assert_asks<R: Abort>(rt: &R, alloc: Global, strings: &[&[u8]], wanted: Command) {
+    assert!(rt; asked_by(rt, alloc, strings) == Ok(wanted));
+}
+
+/// The frame of these strings has this fault.
+pub(crate) fn assert_fault<R: Abort>(
+    rt: &R,
+    alloc: Global,
+    strings: &[&[u8]],
+    wanted: CommandFault,
+) {
+    assert!(rt; asked_by(rt, alloc, strings) == Err(wanted));
 }
 
 /// The frame with an address and this answer has these bytes behind the address, in so many strings.
