@@ -5,7 +5,7 @@ import subprocess
 import tempfile
 from dataclasses import dataclass, replace
 
-from copies import Copy, copies_of, copy_proofs, leave_open, without_bodies
+from copies import Copy, copies_of, copy_proofs, is_bare, leave_open, without_bodies
 from edits import edited_texts, read
 from kit import ABOVE, rtlib, words_above
 from verdicts import Report, Verdict
@@ -106,7 +106,7 @@ class Trial:
             return [], edits
         results, alone = [], []
         for edit in edits:
-            verdict = report.verdict(edit)
+            verdict = report.verdict_of_bare(edit) if is_bare(edit) else report.verdict(edit)
             if verdict is Verdict.REFUSED:
                 results.append(self.refused(report, edit))
             elif verdict is Verdict.PASSES:
@@ -119,8 +119,7 @@ class Trial:
         """Tries by one check the edits of the first batch in place, and further ones in copies. Returns the results,
         those of the first batch that have to be tried alone, and those that it could not tell."""
         results, alone = self.try_batch([*first, *copies_of(self.crate.folder, further)])
-        proved = [it.edit for it in results if it.verdict is Verdict.PASSES]
-        good = {it.of for it in proved if isinstance(it, Copy) and it.original is None}
+        good = {it.edit.of for it in results if is_bare(it.edit) and it.verdict is Verdict.PASSES}
         told = [it for it in results if not isinstance(it.edit, Copy)]
         in_copies = [it for it in results if isinstance(it.edit, Copy) and it.edit.original and it.edit.of in good]
         told += [replace(it, edit=it.edit.original) for it in in_copies]

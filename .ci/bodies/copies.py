@@ -23,6 +23,11 @@ class Copy(Edit):
     of: object = None  # the function
 
 
+def is_bare(edit):
+    """Whether it is a copy of a function without an edit."""
+    return isinstance(edit, Copy) and edit.original is None
+
+
 def without_bodies(folder, functions):
     """An edit that takes away the bodies of these functions and keeps their lines. What a derive writes has no text."""
     changes = {}

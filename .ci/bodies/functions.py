@@ -111,6 +111,20 @@ def without_brackets(words, opens="<", closes=">"):
     return kept
 
 
+def joined_paths(words):
+    """The words, with each path as one: its last name, behind the one before it. `io::Error` gives IoError."""
+    joined, at = [], 0
+    while at < len(words):
+        names = [words[at]]
+        while words[at + 1 : at + 3] == [":", ":"]:
+            at += 3
+            names.append(words[at])
+        before = "".join(it.capitalize() for it in "".join(names[-2:-1]).split("_"))
+        joined.append(before + names[-1])
+        at += 1
+    return joined
+
+
 def owner_of(words):
     """The owner that an impl's head names: `impl<T> From<Failed<T>> for Fault` gives FaultFromFailed."""
     parameters = []
@@ -129,7 +143,8 @@ def owner_of(words):
     owner = [it for it in without_brackets(words[cut + 1 :]) if re.fullmatch(r"\w+", it)][-1]
     names = without_brackets(words[:cut])
     trait = [it for it in names if re.fullmatch(r"\w+", it)][-1]
-    arguments = [it for it in words[:cut][len(names) :] if re.fullmatch(r"[A-Za-z]\w+", it) and it not in parameters]
+    behind = joined_paths(words[:cut][len(names) :])
+    arguments = [it for it in behind if re.fullmatch(r"[A-Za-z]\w+", it) and it not in parameters]
     return owner + trait + "".join(arguments)
 
 
@@ -206,7 +221,9 @@ def derived_in(path, tokens):
             at = end
         elif text in ("struct", "enum"):
             name = tokens[at + 1].text
-            methods = [(it, method) for it in traits for method in DERIVED.get(it, ())]
+            # What is copied bit by bit needs no method to clone it.
+            writing = [it for it in traits if it != "Clone" or "Copy" not in traits]
+            methods = [(it, method) for it in writing for method in DERIVED.get(it, ())]
             found += [Function(path, 0, 0, 0, 0, module_of(path), name + it, method) for it, method in methods]
             traits = []
         at += 1

@@ -104,6 +104,12 @@ class Report:
             return Verdict.REFUSED
         return Verdict.PASSES if kinds == {Line.PROVED} else None
 
+    def verdict_of_bare(self, copy):
+        """Whether a copy of a function without an edit passes: all that it has to prove itself is proved. It may call a
+        function whose edit stands in the same check, which says nothing of its own proof."""
+        kinds = self.kinds_of(copy)
+        return Verdict.PASSES if kinds and kinds <= {Line.PROVED, Line.CALLS} else Verdict.REFUSED
+
     def verdict_of_all(self, texts):
         """What a check of the whole crate says of the one edit that its text has."""
         if not self.reached_the_prover() or self.unread(texts):
