@@ -6,14 +6,18 @@
 #include <stdio.h>
 #include <string.h>
 #include <sys/eventfd.h>
+#include <time.h>
 #include <unistd.h>
 
 enum {
     MOST_UNSENT = 32 << 20,       /* with so many bytes waiting for NATS, frames to nodes are dropped */
     MOST_FOR_CHILD = 32 << 20,    /* with so many bytes waiting for the child, frames from nodes are dropped */
     FULL_BUNDLE = 64 << 10,       /* with so many bytes for a node, they are sent */
+    FULL_SPENT = 1 << 20,         /* with so many bytes in spent messages, they are freed */
     LONGEST_SUBJECT = 128,
-    READ_SIZE = 256 << 10
+    READ_SIZE = 256 << 10,
+    MOST_TRIES = 20,              /* a first connection that the library gave up is tried so often again */
+    TRY_WAIT = 200                /* milliseconds before each of these tries */
 };
 
 /* Wakes the loop, where another thread calls this. */
@@ -72,8 +76,11 @@ static const char *place_of(const char *url) {
 }
 
 static void connected(natsConnection *connection, void *user) {
+    struct bus *bus = user;
     char url[256] = "";
-    (void)user;
+    pthread_mutex_lock(&bus->lock);
+    bus->was_connected = true;
+    pthread_mutex_unlock(&bus->lock);
     natsConnection_GetConnectedUrl(connection, url, sizeof url);
     say("connected to NATS at %s", place_of(url));
 }
@@ -84,21 +91,12 @@ static void disconnected(natsConnection *connection, void *user) {
     say("the connection to NATS is lost; trying again");
 }
 
-/* Whether it was set before. */
-static bool set_closed(struct bus *bus) {
-    pthread_mutex_lock(&bus->lock);
-    bool before = bus->closed;
-    bus->closed = true;
-    pthread_mutex_unlock(&bus->lock);
-    return before;
-}
-
 static void closed(natsConnection *connection, void *user) {
     struct bus *bus = user;
-    const char *reason = "";
-    natsConnection_GetLastError(connection, &reason);
-    if (!set_closed(bus))
-        say("the connection to NATS is closed: %s", reason);
+    (void)connection;
+    pthread_mutex_lock(&bus->lock);
+    bus->closed = true;
+    pthread_mutex_unlock(&bus->lock);
     wake(bus);
 }
 
@@ -155,8 +153,27 @@ static natsStatus set_options(struct bus *bus, const struct bus_options *from) {
     return status == NATS_OK ? secure(to, from) : status;
 }
 
-bool bus_open(struct bus *bus, const struct bus_options *options, const char *node) {
+/* Connects and subscribes, or goes on trying in the background. False where an option is refused. A connection that is
+ * closed before it has a subscription is opened again by the loop. */
+static bool open_connection(struct bus *bus) {
     char subject[LONGEST_SUBJECT];
+    natsStatus status = natsConnection_Connect(&bus->connection, bus->options);
+    if (status == NATS_OK)
+        connected(bus->connection, bus);
+    else if (status == NATS_NOT_YET_CONNECTED && bus->tries == 0)
+        say("NATS at %s does not answer yet, or refuses this node; trying again", place_of(bus->url));
+    if (status == NATS_OK || status == NATS_NOT_YET_CONNECTED) {
+        snprintf(subject, sizeof subject, "%s.*.%s", bus->prefix, bus->node);
+        status = natsConnection_SubscribeSync(&bus->subscription, bus->connection, subject);
+    }
+    if (status == NATS_OK || status == NATS_CONNECTION_CLOSED)
+        return true;
+    say("cannot use NATS at %s: %s", place_of(bus->url), nats_GetLastError(NULL));
+    return false;
+}
+
+bool bus_open(struct bus *bus, const struct bus_options *options, const char *node) {
+    bus->url = options->url;
     bus->prefix = options->prefix;
     bus->node = node;
     bus->socket = -1;
@@ -167,18 +184,37 @@ bool bus_open(struct bus *bus, const struct bus_options *options, const char *no
     if (status == NATS_OK)
         status = set_options(bus, options);
     if (status == NATS_OK)
-        status = natsConnection_Connect(&bus->connection, bus->options);
-    if (status == NATS_OK)
-        connected(bus->connection, bus);
-    else if (status == NATS_NOT_YET_CONNECTED)
-        say("NATS at %s does not answer yet, or refuses this node; trying again", place_of(options->url));
-    if (status == NATS_OK || status == NATS_NOT_YET_CONNECTED) {
-        snprintf(subject, sizeof subject, "%s.*.%s", bus->prefix, node);
-        status = natsConnection_SubscribeSync(&bus->subscription, bus->connection, subject);
+        return open_connection(bus);
+    say("cannot use NATS at %s: %s", place_of(options->url), nats_GetLastError(NULL));
+    return false;
+}
+
+static void drop_connection(struct bus *bus) {
+    natsSubscription_Destroy(bus->subscription);
+    natsConnection_Destroy(bus->connection);
+    bus->subscription = NULL;
+    bus->connection = NULL;
+}
+
+/*
+ * The connection is closed for good. The library closes a first connection where the server refuses the node, and often
+ * also where a busy server takes the connection and does not answer soon; it gives the same reason for both. So the host
+ * opens a connection that never stood some times again, and then ends.
+ */
+static bool open_again(struct bus *bus) {
+    const char *reason = "";
+    natsConnection_GetLastError(bus->connection, &reason);
+    pthread_mutex_lock(&bus->lock);
+    bool ends = bus->was_connected || ++bus->tries > MOST_TRIES;
+    bus->closed = ends;
+    pthread_mutex_unlock(&bus->lock);
+    if (ends) {
+        say("the connection to NATS is closed: %s", reason);
+        return false;
     }
-    if (status != NATS_OK)
-        say("cannot use NATS at %s: %s", place_of(options->url), nats_GetLastError(NULL));
-    return status == NATS_OK;
+    drop_connection(bus);
+    nanosleep(&(struct timespec){.tv_nsec = TRY_WAIT * 1000000L}, NULL);
+    return open_connection(bus);
 }
 
 void bus_poll(struct bus *bus, struct pollfd *polled) {
@@ -212,6 +248,21 @@ static bool take_message(struct bus *bus, natsMsg *message, struct child *child)
     return true;
 }
 
+static void free_spent(struct bus *bus) {
+    for (size_t place = 0; place < bus->spent_count; place++)
+        natsMsg_Destroy(bus->spent[place]);
+    bus->spent_count = bus->spent_bytes = 0;
+}
+
+/* Has a message freed with others. The library frees messages in a thread of its own. If messages were destroyed one by
+ * one, it would wake this thread for each of them. */
+static void free_later(struct bus *bus, natsMsg *message) {
+    bus->spent[bus->spent_count++] = message;
+    bus->spent_bytes += (size_t)natsMsg_GetDataLength(message);
+    if (bus->spent_count == MOST_SPENT || bus->spent_bytes >= FULL_SPENT)
+        free_spent(bus);
+}
+
 static bool has_unsent(struct bus *bus) {
     pthread_mutex_lock(&bus->lock);
     bool writes = bus->writes;
@@ -231,12 +282,12 @@ bool bus_serve(struct bus *bus, struct child *child, const struct pollfd *polled
         natsConnection_ProcessWriteEvent(bus->connection);
     while (taken && natsSubscription_NextMsg(&message, bus->subscription, 0) == NATS_OK) {
         taken = take_message(bus, message, child);
-        natsMsg_Destroy(message);
+        free_later(bus, message);
     }
     pthread_mutex_lock(&bus->lock);
     bool open = !bus->closed;
     pthread_mutex_unlock(&bus->lock);
-    return taken && open;
+    return taken && (open || open_again(bus));
 }
 
 /* Sends the frames that wait for a node as one message, or drops them. */
@@ -298,9 +349,8 @@ void bus_report(struct bus *bus) {
 
 void bus_close(struct bus *bus) {
     bus_report(bus);
-    set_closed(bus);
-    natsSubscription_Destroy(bus->subscription);
-    natsConnection_Destroy(bus->connection);
+    free_spent(bus);
+    drop_connection(bus);
     natsOptions_Destroy(bus->options);
     nats_CloseAndWait(1000);
     for (size_t place = 0; place < MOST_BUNDLES; place++)

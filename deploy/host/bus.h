@@ -15,7 +15,7 @@ struct bus_options {
     const char *url, *prefix, *credentials, *authority, *certificate, *key;
 };
 
-enum { MOST_BUNDLES = 16 };
+enum { MOST_BUNDLES = 16, MOST_SPENT = 256 };
 
 /* Frames that wait to be sent to a node as one message. */
 struct bundle {
@@ -27,14 +27,17 @@ struct bus {
     natsOptions *options;
     natsConnection *connection;
     natsSubscription *subscription;
-    const char *prefix, *node;
+    const char *url, *prefix, *node;
+    unsigned tries;             /* how often a first connection was opened again */
     struct bundle bundles[MOST_BUNDLES];
+    natsMsg *spent[MOST_SPENT];  /* messages whose frames the child has, and which wait to be freed */
+    size_t spent_count, spent_bytes;
     pthread_t loop;             /* the thread of the loop */
     uint64_t lost, lost_said;   /* frames that were dropped, and how many of them were reported */
     pthread_mutex_t lock;       /* of all below, which the library changes from threads of its own */
     int wake;                   /* an event descriptor that is written at each change */
     int socket;                 /* -1 while there is no connection */
-    bool reads, writes, closed;
+    bool reads, writes, was_connected, closed;
 };
 
 /* Connects, or goes on trying in the background. False where an option is refused. */

@@ -5,6 +5,7 @@
 #include <errno.h>
 #include <fcntl.h>
 #include <signal.h>
+#include <stdlib.h>
 #include <string.h>
 #include <sys/file.h>
 #include <sys/ioctl.h>
@@ -30,7 +31,10 @@ static bool lock_folder(const char *folder) {
     return true;
 }
 
-/* In the child: becomes the node program, which ends where the host ends. */
+/*
+ * In the child: becomes the node program, which ends where the host ends. For each frame it takes and frees many small
+ * pieces of memory. This takes less time if the C library keeps up to 200 free pieces of each size at hand, instead of 7.
+ */
 static void become(int input, int output, pid_t host, char *const arguments[]) {
     sigset_t none;
     sigemptyset(&none);
@@ -41,6 +45,7 @@ static void become(int input, int output, pid_t host, char *const arguments[]) {
         _exit(1);
     dup2(input, STDIN_FILENO);
     dup2(output, STDOUT_FILENO);
+    setenv("GLIBC_TUNABLES", "glibc.malloc.tcache_count=200", false);
     execvp(arguments[0], arguments);
     say("cannot start %s: %s", arguments[0], strerror(errno));
     _exit(127);

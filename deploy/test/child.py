@@ -3,9 +3,10 @@
 
 echo     answers each frame of a client with its last string as a bulk string
 keep     the same, and writes each frame that it gets, a tick too, as a line into FOLDER/frames
-late     the same, but begins to read after two seconds
+late     the same, but begins to read once there is a file FOLDER/go
 quits    answers a command as echo does, closes the connection, and answers once more
 big      answers each frame of a client with a bulk string of 1 MiB
+relay    writes the last string of each frame of a client as it is, by one write
 deaf     reads nothing
 status   ends at once with status 3
 signal   ends at once by SIGKILL
@@ -35,9 +36,17 @@ def at_once(kind):
         time.sleep(600)
 
 
+def answer_to(kind, frame):
+    """What the child writes for a frame of a client."""
+    value = bytes(1 << 20) if kind == "big" else frame[-1]
+    answer = encode([frame[0], b"$%d\r\n" % len(value), value, b"\r\n"])
+    return answer + encode([frame[0]]) + answer if kind == "quits" else answer
+
+
 def serve(kind, folder):
     if kind == "late":
-        time.sleep(2)
+        while not os.path.exists(os.path.join(folder, "go")):
+            time.sleep(0.02)
     frames = Frames()
     log = open(os.path.join(folder, "frames"), "ab", buffering=0)
     while data := os.read(0, 1 << 20):
@@ -46,9 +55,7 @@ def serve(kind, folder):
                 log.write(b" ".join(frame) + b"\n")
             if not frame[0].startswith(b"client ") or len(frame) == 1:
                 continue
-            value = bytes(1 << 20) if kind == "big" else frame[-1]
-            answer = encode([frame[0], b"$%d\r\n" % len(value), value, b"\r\n"])
-            view = memoryview(answer + encode([frame[0]]) + answer if kind == "quits" else answer)
+            view = memoryview(frame[-1] if kind == "relay" else answer_to(kind, frame))
             while view:
                 view = view[os.write(1, view):]
 

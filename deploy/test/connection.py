@@ -4,7 +4,7 @@ import struct
 
 from frames import encode
 
-PATIENCE = 30
+PATIENCE = 300  # seconds, which only a test that fails waits in full
 
 
 class Connection:

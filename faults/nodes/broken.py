@@ -21,10 +21,14 @@ sys.dont_write_bytecode = True
 
 from frames import Frames, encode, frame_at  # noqa: E402
 
+# The bytes before each frame of a log.
+HEAD = 16
+
+
 def forget(log):
     """Leaves only the entries of starts in the log, and the one that names the cluster: no request that was served."""
     data, kept, place = log.read_bytes() if log.exists() else b"", [], 0
-    while place < len(data) and (entry := frame_at(data, place)) is not None:
+    while place < len(data) and (entry := frame_at(data, place + HEAD)) is not None:
         if entry[0][0] in (b"cluster", b"start"):
             kept.append(data[place:entry[1]])
         place = entry[1]

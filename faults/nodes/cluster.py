@@ -19,17 +19,29 @@ class NodeEnded(Exception):
     """A node program ended by itself, wrote what is no frame, or did not answer in time."""
 
 
+def library_in(folder):
+    """The library that is loaded into node programs whose computers stop at a sync, built in this folder."""
+    library, source = Path(folder) / "lost_sync.so", Path(__file__).resolve().parent / "lost_sync.c"
+    subprocess.run(["cc", "-O1", "-shared", "-fPIC", "-o", library, source, "-ldl"], check=True)
+    return library
+
+
 class Node:
     """One node program. After each frame it is sent a PING, whose answer says that it has handled the frame."""
 
-    def __init__(self, words, number, folder, file):
+    def __init__(self, words, number, folder, file, library=None):
         self.words, self.number, self.folder, self.file = words, number, folder, file
+        self.mark, self.library = Path(folder) / "lost-sync", library
         self.process = None
 
     def start(self):
         arguments = [*self.words, str(self.file), str(self.number), str(self.folder)]
+        around = dict(os.environ)
+        if self.library is not None:
+            around.update(LD_PRELOAD=str(self.library), LOST_SYNC=str(self.mark))
         try:
-            self.process = subprocess.Popen(arguments, stdin=subprocess.PIPE, stdout=subprocess.PIPE, bufsize=0)
+            self.process = subprocess.Popen(arguments, stdin=subprocess.PIPE, stdout=subprocess.PIPE, bufsize=0,
+                                            env=around)
         except OSError as fault:
             raise NodeEnded(f"node {self.number} does not start: {fault}") from None
         self.frames = Frames()
@@ -50,6 +62,25 @@ class Node:
         while not any(frame[0] == BARRIER for frame in written):
             written += self.frames.take(self.read())
         return [frame for frame in written if frame[0] != BARRIER]
+
+    def stop_at_sync(self, frame):
+        """Gives the node a frame; when it is to sync its log, its computer stops, and what was not synced is lost.
+        Returns whether it stopped so, and the frames that it wrote. A frame may need no sync."""
+        self.mark.touch()
+        self.write(encode(frame) + encode([BARRIER, b"PING"]))
+        written, ended = [], False
+        while not ended and not any(frame[0] == BARRIER for frame in written):
+            try:
+                written += self.frames.take(self.read())
+            except NodeEnded as fault:
+                try:
+                    ended = self.process.wait(PATIENCE) == 0
+                except subprocess.TimeoutExpired:
+                    raise fault from None
+                if not ended:
+                    raise
+        self.mark.unlink()
+        return ended, [frame for frame in written if frame[0] != BARRIER]
 
     def write(self, data):
         """Writes while the node reads: a frame can be longer than the pipe, but the node reads it whole."""
@@ -72,7 +103,7 @@ class Node:
 class Cluster:
     """`due` gives the step from which on a frame that is sent may arrive; calls are given up after some ticks."""
 
-    def __init__(self, words, count, ticks, folder, history, due):
+    def __init__(self, words, count, ticks, folder, history, due, library=None):
         self.file = file = Path(folder) / "cluster"
         with open(file, "wb") as output:
             subprocess.run([CLUSTER_FILE, str(count), str(ticks)], check=True, stdout=output)
@@ -83,7 +114,7 @@ class Cluster:
         self.connections = 0
         for number in range(1, count + 1):
             (Path(folder) / str(number)).mkdir()
-            self.nodes[number] = Node(words, number, Path(folder) / str(number), file)
+            self.nodes[number] = Node(words, number, Path(folder) / str(number), file, library)
 
     def set_needed(self, needed):
         """Before the first start: so many fragments give a value back."""
@@ -119,6 +150,17 @@ class Cluster:
         """Gives a node a frame, and kills it at once. What it wrote meanwhile is lost with it."""
         self.nodes[number].write(encode([b"node %d" % flying.sender, *flying.strings]))
         self.kill(number)
+
+    def stop_at_sync(self, number, waiting):
+        """Gives a node the frames that wait for it, until it is to sync its log. Then its computer stops. What the node
+        wrote before goes out. Returns whether there was a sync."""
+        ended = False
+        while waiting and not ended:
+            self.flying.remove(flying := waiting.pop())
+            ended, written = self.nodes[number].stop_at_sync([b"node %d" % flying.sender, *flying.strings])
+            self.route(number, written)
+        self.kill(number)
+        return ended
 
     def deliver(self, flying):
         if self.nodes[flying.to].process is not None:

@@ -3,7 +3,6 @@ import fcntl
 import os
 import shutil
 import signal
-import socket
 import subprocess
 import sys
 import time
@@ -13,9 +12,9 @@ TOP = Path(__file__).resolve().parent.parent.parent
 sys.path.append(str(TOP / "deploy" / "test"))
 
 from connection import Connection  # noqa: E402
+from ports import LOOPBACK, free_ports  # noqa: E402
 
-PATIENCE = 60
-LOOPBACK = "127.0.0.1"
+PATIENCE = 180
 
 SERVER = """server_name: nats{number}
 host: {address}
@@ -40,15 +39,6 @@ class Broken(Exception):
     """A process did what no fault of the test explains."""
 
 
-def free_ports(count):
-    """Ports of the loopback address that nobody uses now."""
-    taken = [socket.create_server((LOOPBACK, 0)) for _ in range(count)]
-    ports = [one.getsockname()[1] for one in taken]
-    for one in taken:
-        one.close()
-    return ports
-
-
 class Process:
     """A process that can be started again; what it says goes to the end of a file."""
 
@@ -62,8 +52,15 @@ class Process:
     def end(self, number=signal.SIGKILL):
         if self.child is not None:
             self.child.send_signal(number)
-            self.child.wait(PATIENCE)
+            self.wait()
             self.child = None
+
+    def wait(self):
+        """Waits until the process has ended."""
+        try:
+            self.child.wait(PATIENCE)
+        except subprocess.TimeoutExpired:
+            raise Broken(f"{Path(self.words[0]).name} has not ended within {PATIENCE} s") from None
 
     def runs(self):
         return self.child is not None and self.child.poll() is None
@@ -81,8 +78,8 @@ class LiveCluster:
         with open(self.file, "wb") as output:
             subprocess.run([TOP / "deploy" / "cluster-file", str(self.count), str(ticks)], check=True, stdout=output)
         if network is None:
-            self.nats_ports = free_ports(1)
-            self.ports = dict(zip(self.numbers, free_ports(self.count)))
+            *ports, nats_port = free_ports(self.count + 1)
+            self.nats_ports, self.ports = [nats_port], dict(zip(self.numbers, ports))
         else:
             self.nats_ports = [4222] * self.count
             self.ports = dict.fromkeys(self.numbers, 7000)
@@ -139,7 +136,7 @@ class LiveCluster:
         children = Path(f"/proc/{host.pid}/task/{host.pid}/children").read_text().split()
         for child in children:
             os.kill(int(child), signal.SIGKILL)
-        host.wait(PATIENCE)
+        self.nodes[number].wait()
         self.kill(number)
 
     def start_node(self, number):

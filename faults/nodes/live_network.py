@@ -1,7 +1,7 @@
 """Machines of a test as network namespaces: each has one node and one NATS server, and each two of them a link.
 
-The namespaces, the links and what is mounted belong to the test's own namespaces, which `enter` makes: nothing outside
-sees them, and they are gone when the test ends, however it ends.
+The namespaces, the links and what is mounted belong to the story's own namespaces: nothing outside sees them, and they
+are gone when the story ends, however it ends. All processes of the story end with them.
 """
 import json
 import os
@@ -9,30 +9,30 @@ import shutil
 import subprocess
 import sys
 
-CLIENTS = "clients"
 ENTERED = "LIVE_TEST_HAS_NAMESPACES"
 
 
-def enter():
-    """Starts this program again in namespaces of its own. Where that is not allowed, says why and returns False."""
-    if os.environ.get(ENTERED):
-        run("mount", "-t", "tmpfs", "none", "/run")
-        os.makedirs("/run/netns")
-        run("ip", "link", "set", "lo", "up")
-        return True
+def words_to_enter():
+    """The words in front of a command that is to run in namespaces of its own, or None where that is not allowed."""
     words = ["unshare", *([] if os.getuid() == 0 else ["--user", "--map-root-user"]), "--net", "--mount", "--pid",
              "--fork", "--kill-child", "--mount-proc"]
     if shutil.which("unshare") is None or shutil.which("ip") is None:
         print("live: unshare or ip is missing; install them by: apt-get install util-linux iproute2", file=sys.stderr)
-        return False
-    tried = subprocess.run([*words, "sh", "-c", "mount -t tmpfs none /run && mkdir /run/netns && ip netns add tried"],
-                           capture_output=True, text=True, check=False)
+        return None
+    tried = subprocess.run([*words, "sh", "-c", "mount -t tmpfs none /run && mkdir /run/netns && ip netns add tried && "
+                            "ip link add one type veth peer name two"], capture_output=True, text=True, check=False)
     if tried.returncode != 0:
         print(f"live: no namespaces can be made here: {tried.stderr.strip()}", file=sys.stderr)
-        return False
-    os.environ[ENTERED] = "yes"
-    os.execvp(words[0], [*words, sys.executable, *sys.argv])
-    return False
+        return None
+    return ["env", f"{ENTERED}=yes", *words]
+
+
+def prepare():
+    """Makes ready the namespaces in which this program was started, if it was."""
+    if os.environ.get(ENTERED):
+        run("mount", "-t", "tmpfs", "none", "/run")
+        os.makedirs("/run/netns")
+        run("ip", "link", "set", "lo", "up")
 
 
 def run(*words):
@@ -119,8 +119,3 @@ class Network:
             said = subprocess.run(words, check=True, stdout=subprocess.PIPE).stdout
             lost += sum(one.get("drops", 0) for one in json.loads(said) if one.get("kind") in ("netem", "tbf"))
         return lost
-
-    def remove(self):
-        for number in range(1, self.count + 1):
-            run("ip", "netns", "delete", self.name(number))
-        run("ip", "address", "del", f"{self.address_of(0)}/32", "dev", "lo")

@@ -12,8 +12,6 @@ from live_cluster import Broken
 sys.path.append(str(Path(__file__).resolve().parent.parent.parent / "deploy" / "test"))
 from frames import encode  # noqa: E402
 
-SKIPPED = "SKIPPED"
-
 
 def restart(test, node):
     """A killed node comes back with its log."""
@@ -191,8 +189,12 @@ def move_objects(test):
         members = sorted(source.sample(numbers, source.randint(1, len(numbers))))
         words = [b"MOVE", source.choice(test.names.all()).encode(), b"%d" % source.randint(1, len(members)),
                  *(b"%d" % member for member in members)]
-        with test.cluster.connect(1) as client:
-            answer = client.ask(*words)
+        try:
+            with test.cluster.connect(1) as client:
+                answer = client.ask(*words)
+        except OSError as fault:
+            test.history.fault(f"a move was not answered: {fault}")
+            return
         test.count("moves", answer == b"+OK")
         if answer is None or not answer.startswith((b"+OK", b"-ERR refused: 11 MovePending", b"-ERR no quorum")):
             test.history.fault(f"unexpected answer to a move: {answer}")
@@ -223,6 +225,7 @@ def noise(test):
         raise Broken(f"{test.history.lost} calls of other clients lost their connections")
 
 
-# The stories that need machines of their own, and all others. The last ones run in the gate.
+# The stories in which each node has a machine of its own, and those in which all nodes have loopback addresses.
 ON_MACHINES = {"cuts": cuts, "delays": delays}
 ON_LOOPBACK = {"kills": kills, "nats": nats, "relays": relays, "disk": disk, "moves": moves, "noise": noise}
+NEED_NAMESPACES = {"cuts", "delays", "disk"}

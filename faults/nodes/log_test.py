@@ -59,10 +59,10 @@ class Logs(unittest.TestCase):
         self.places = places(self.whole)
         self.assertEqual(self.places[-1], len(self.whole))
 
-    def read(self, log):
-        """What a node with this log answers, and its log afterwards."""
+    def read(self, log, cut=0):
+        """What a node with this log answers, and its log afterwards. So many bytes are cut off."""
         self.node.log.write_bytes(log)
-        return self.node.answers(QUESTIONS), self.node.log.read_bytes()
+        return self.node.answers(QUESTIONS, cut=cut), self.node.log.read_bytes()
 
     def last_entries(self):
         """Where each of the last three entries begins and ends."""
@@ -80,7 +80,7 @@ class Logs(unittest.TestCase):
             start = after[begin:]
             for cut in range(begin, end, self.every):
                 for zeros in (0, 1, end - cut, 5000):
-                    found, now = self.read(self.whole[:cut] + bytes(zeros))
+                    found, now = self.read(self.whole[:cut] + bytes(zeros), cut - begin + zeros)
                     self.assertEqual((found, now[:begin]), (answers, self.whole[:begin]), (cut, zeros))
                     self.assertEqual(len(now), begin + len(start), (cut, zeros))
                     cuts += 1

@@ -38,9 +38,11 @@ class OneNode:
                                check=False, **options)
         return ended.returncode, ended.stdout, ended.stderr.decode()
 
-    def answers(self, *frames):
-        """What the program answers to frames of clients, each as the bytes that a client gets."""
+    def answers(self, *frames, cut=0):
+        """What the program answers to frames of clients, each as the bytes that a client gets. It has to say that it cut
+        so many bytes off its log, and nothing else."""
+        says = f"casd: the log's last entry was cut short; {cut} bytes were cut off\n" if cut else ""
         status, written, text = self.run(b"".join(frames))
-        if (status, text) != (0, ""):
+        if (status, text) != (0, says):
             raise AssertionError(f"status {status}: {text}")
         return [b"".join(strings[1:]) for strings in Frames().take(written)]
