@@ -28,7 +28,16 @@ fn frame_of<R: Abort>(rt: &R, alloc: Global, strings: &[&[u8]]) -> Frame {
     Frame::new(list).expect(rt, "a frame")
 }
 
-/// What the frame of these strings asks.
+/// The frame of these strings.
+fn frame_of<R: Abort>(rt: &R, alloc: Global, strings: &[&[u8]]) -> Frame {
+    let mut list = Vec::new(alloc);
+    for string in strings {
+        list.push(text(rt, alloc, string)).expect(rt, "memory");
+    }
+    Frame::new(list).expect(rt, "a frame")
+}
+
+/// Returns what the frame of these strings asks.
 pub(crate) fn asked_by<R: Abort>(
     rt: &R,
     alloc: Global,

@@ -20,7 +20,7 @@ use Rattle.record.specs.Records.{Object}
 use Rattle.register.specs.View.{bank_there, phases_at, value_at}
 use Rattle.costs.specs.declared.cost.Cost.{Cost}
 
--- how many bytes a fragment of the value has under this layout; 0 where the value or the layout is absent
+-- how many bytes a fragment of the value has under this layout; 0 if the value or the layout is absent
 abbrev pub fragment_of : Option (List ℕ) → Option Layout → ℕ
 fragment_of None layout = 0
 fragment_of (Some value) None = 0
@@ -30,16 +30,16 @@ fragment_of (Some value) (Some layout) = fragment_len layout.k (length value)
 abbrev pub fragment_at : Object → (call position : ℕ) → ℕ
 fragment_at object call position = fragment_of (value_at object call) (slice_get object.layouts position)
 
--- the bytes of a fragment, where this row of a bank is for this tag and a fragment came for it; otherwise 0
+-- the bytes of a fragment, if this row of a bank is for this tag and a fragment came for it; otherwise 0
 abbrev pub bytes_for : (fragment : ℕ) → Tag → Tag × Row → ℕ
 bytes_for fragment tag entry = if tag_eq entry.0 tag && is_some entry.1.arrival then fragment else 0
 
--- the bytes of a fragment, where one came to this bank for this tag, even if the bank dropped it since; otherwise 0
+-- the bytes of a fragment, if one came to this bank for this tag, even if the bank dropped it since; otherwise 0
 abbrev pub came_bytes : (fragment : ℕ) → Tag → Option Bank → ℕ
 came_bytes fragment tag None = 0
 came_bytes fragment tag (Some bank) = sum_by (bytes_for fragment tag) (map.entries bank.rows)
 
--- the bytes of a fragment, where one came to this member of this position for this tag; otherwise 0
+-- the bytes of a fragment, if one came to this member of this position for this tag; otherwise 0
 abbrev pub came_at : Object → (fragment : ℕ) → Tag → (position member : ℕ) → ℕ
 came_at object fragment tag position member = came_bytes fragment tag (bank_there object position member)
 

@@ -11,7 +11,7 @@ use phase::{Phase, Taken};
 use register::Register;
 use tag::{CallId, Tag};
 
-/// The number of requests of the call: one to each member that a phase asks.
+/// Returns the number of requests of the call: one to each member that a phase asks.
 pub fn requests(register: &Register, call: CallId) -> u64
     ensures { result ≡ u64_saturate (sum_by (λ p. p.members) (phases_at register.now.object call)) }
 {
@@ -23,7 +23,7 @@ pub fn requests(register: &Register, call: CallId) -> u64
     total
 }
 
-/// The number of replies that the call took.
+/// Returns the number of replies that the call took.
 pub fn replies(register: &Register, call: CallId) -> u64
     ensures { result ≡ u64_saturate (sum_by (λ p. length p.replies) (phases_at register.now.object call)) }
 {
@@ -35,7 +35,7 @@ pub fn replies(register: &Register, call: CallId) -> u64
     total
 }
 
-/// The bytes of the fragments in the replies that the call took.
+/// Returns the bytes of the fragments in the replies that the call took.
 pub fn returned(register: &Register, call: CallId) -> u64
     ensures { result ≡ u64_saturate (sum_by returned_in (phases_at register.now.object call)) }
 {
@@ -89,7 +89,7 @@ fn bytes_of(replies: &[Taken]) -> u64
     total
 }
 
-/// The bytes of the fragments that the pre-writes of the call send.
+/// Returns the bytes of the fragments that the pre-writes of the call send.
 pub fn sent(register: &Register, call: CallId) -> u64
     ensures { result ≡ u64_saturate (sum_by (sent_in register.now.object call) (phases_at register.now.object call)) }
 {

@@ -10,7 +10,7 @@ use std::alloc::Global;
 use std::io;
 use std::io::{ErrorKind, Read};
 
-/// One byte.
+/// Reads one byte.
 pub(crate) fn read_byte<R: Read>(reader: &mut R) -> Result<u8, FrameError>
     ensures { Returns byte_at (R.remaining reader.old) (R.remaining reader.new) result }
 {
@@ -21,7 +21,7 @@ pub(crate) fn read_byte<R: Read>(reader: &mut R) -> Result<u8, FrameError>
     }
 }
 
-/// This byte, or this fault at another.
+/// Reads this byte, or fails with this fault at another byte.
 pub(crate) fn read_expected<R: Read>(
     reader: &mut R,
     expected: u8,
@@ -44,7 +44,7 @@ pub(crate) fn read_line_end<R: Read>(reader: &mut R) -> Result<u8, FrameError>
     read_expected(reader, b'\n', Fault::NoLineEnd)
 }
 
-/// The next byte, or none at the end of the input.
+/// Reads the next byte, or returns none at the end of the input.
 pub(crate) fn next_byte<R: Read>(reader: &mut R) -> io::Result<Option<u8>>
     ensures { IfOk result (λ found. MatchOption found
         (IsAtEnd (R.remaining reader.old) × Keeps (R.remaining reader.old) (R.remaining reader.new))

@@ -10,6 +10,7 @@ use Rattle.encoder.specs.Fragment.{fragment}
 use Rattle.layout.specs.Layout.{Layout}
 use Rattle.mail.specs.declared.message.Body.{Body}
 use Rattle.mail.specs.declared.message.Body.TheVariants as body
+use Rattle.mail.specs.Message.{is_request}
 use Rattle.record.specs.Legal.{is_move}
 use Rattle.network.specs.Worlds.{NodeCall, open_call}
 use Rattle.local_object.specs.declared.letter.Letter.{Letter}

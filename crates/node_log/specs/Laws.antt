@@ -17,7 +17,7 @@ abbrev pub CutIsEnd : Type 0
 CutIsEnd = (strings : List (List ℕ)) (front back : List ℕ) (zeros : ℕ) → IsFrame strings
     → entry_bytes strings ≡ front ++ back → (back ≡ [] → ⊥) → IsEnd (front ++ replicate zeros 0)
 
--- where two entries begin the same bytes, they are the same entry, and the same bytes are left behind both
+-- if the same bytes begin with two entries, these are the same entry, and the same bytes follow
 abbrev pub BeginsOneEntry : Type 0
 BeginsOneEntry = (e f : List (List ℕ)) (x y : List ℕ) → IsFrame e → IsFrame f
     → entry_bytes e ++ x ≡ entry_bytes f ++ y → (e ≡ f) × (x ≡ y)

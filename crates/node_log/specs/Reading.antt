@@ -61,13 +61,13 @@ IsDamaged bytes NoFrame =
     HasHead bytes × (digest_of (body_at bytes) ≡ digest_in (take 16 bytes)) × IsNoBody (body_at bytes)
     × (StopsInBody bytes → ⊥)
 
--- If it is known what a reader had left, this holds of it.
+-- If it is known what a reader had left, this holds for it.
 abbrev pub HadLeft : (List ℕ → Type 0) → Option (List ℕ) → Type 0
 HadLeft P None = ⊤
 HadLeft P (Some bytes) = P bytes
 
--- What was read: an entry that stood at the front, and nothing else was taken; or none, at the end of the log; or
--- damage. Where memory was refused or the reader failed, nothing is said.
+-- What was read: an entry with which the bytes began, and nothing else was taken; or none, at the end of the log; or
+-- damage. If memory was refused or the reader failed, this says nothing.
 abbrev pub ReadsEntry : Option (List ℕ) → Option (List ℕ) → Result (Option (List (List ℕ))) LogError → Type 0
 ReadsEntry old new (Ok (Some strings)) = IsFrame strings × Consumes old new (entry_bytes strings)
 ReadsEntry old new (Ok None) = HadLeft IsEnd old

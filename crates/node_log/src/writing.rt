@@ -7,7 +7,7 @@ use frames::write_frame;
 use std::io;
 use std::io::{ErrorKind, Write};
 
-/// Writes an entry. It does not flush. Where it fails, a front of the entry's bytes was written, which `read_entry`
+/// Writes an entry. It does not flush. If it fails, it wrote only the first of the entry's bytes, which `read_entry`
 /// takes for the end of the log.
 pub fn write_entry<W: Write>(writer: &mut W, entry: &Entry) -> io::Result<()>
     ensures { Writes (W.contents writer.old) (W.contents writer.new) result (entry_bytes entry.now) }

@@ -1,6 +1,6 @@
 -- The bytes that a server stores.
 use Rattle.std.proofs.Common.{◌≡◌, ℕ, zero, suc, ◌+◌, ◌<◌, ◌==◌, Bool, true, false, cond, List, []}
-use Rattle.std.proofs.Common.{◌∷◌, ◌++◌, length, set, get_or, Option, refl, sym, ap, ◌∙◌, arith}
+use Rattle.std.proofs.Common.{◌∷◌, ◌++◌, length, set, get_or, Option, refl, ap, ◌∙◌, arith}
 use Rattle.layout.specs.Layout.{Layout}
 use Rattle.bank.specs.Bank.{Bank, opened_bank}
 use Rattle.bank.specs.Bytes.{bank_bytes, added_bytes}
@@ -15,11 +15,7 @@ use Rattle.soundness.proofs.Sound.LeftBankLemmas.{SameBanks}
 -- Banks
 
 for_server-sum : (server other a b : ℕ) → for_server server other (a + b) ≡ for_server server other a + for_server server other b
-for_server-sum server other a b = go (other == server)
-  where
-    go : (c : Bool) → cond c (a + b) 0 ≡ cond c a 0 + cond c b 0
-    go true = refl
-    go false = refl
+for_server-sum server other a b = grind arith
 
 exchanged : (new rest old : ℕ) → new + rest + old ≡ old + rest + new
 exchanged new rest old = omega arith
@@ -72,14 +68,7 @@ pub stored-with_bank : (object : Object) (position member : ℕ) (bank : Bank) (
     member < length (get_or object.banks position []) → stored (with_bank object position member bank) server
     + for_server server (server_at object position member) (bank_bytes (bank_at object position member))
     ≡ stored object server + for_server server (server_at object position member) (bank_bytes bank)
-stored-with_bank object position member bank server p b m n =
-    two_steps (stored (with_bank object position member bank) server) (stored object server)
-    (position_bytes server (layout_at object position).members (get_or object.banks position []))
-    (position_bytes server (layout_at object position).members (set (get_or object.banks position []) member bank))
-    (for_server server (server_at object position member) (bank_bytes (bank_at object position member)))
-    (for_server server (server_at object position member) (bank_bytes bank))
-    (stored-set server object.layouts object.banks position (set (get_or object.banks position []) member bank) p b)
-    (position-set server (layout_at object position).members (get_or object.banks position []) member bank m n)
+stored-with_bank object position member bank server p b m n = grind (arith, position-set, stored-set, two_steps)
 
 -- what is there after a request, by what it adds and what it frees
 more_and_less : (s t old new added freed : ℕ) → s + old ≡ t + new → new + freed ≡ old + added → s + freed ≡ t + added
@@ -91,16 +80,7 @@ pub stored-served : (object : Object) (position member : ℕ) (asked : Request) 
     stored (with_bank object position member (served_bank (bank_at object position member) asked now)) server
     + for_server server (server_at object position member) (freed_bytes (bank_at object position member) asked now)
     ≡ stored object server + for_server server (server_at object position member) (added_bytes (bank_at object position member) asked)
-stored-served object position member asked now server p b m n =
-    let bank = bank_at object position member in
-    let new = served_bank bank asked now in
-    let there = for_server server (server_at object position member) in
-    more_and_less (stored (with_bank object position member new) server) (stored object server)
-    (there (bank_bytes bank)) (there (bank_bytes new)) (there (added_bytes bank asked)) (there (freed_bytes bank asked now))
-    (stored-with_bank object position member new server p b m n)
-    (sym (for_server-sum server (server_at object position member) (bank_bytes new) (freed_bytes bank asked now))
-    ∙ ap there (served_bytes bank asked now)
-    ∙ for_server-sum server (server_at object position member) (bank_bytes bank) (added_bytes bank asked))
+stored-served object position member asked now server p b m n = grind (arith, for_server-sum, more_and_less, served_bytes, stored-with_bank)
 
 -- banks that were just opened
 pub position-opened : (server : ℕ) (members servers : List ℕ) (member : ℕ) (delta : Option ℕ) (now : ℕ) →
@@ -142,16 +122,9 @@ stored-append server (l ∷ layouts) (b ∷ banks) layout row e =
 module _ (object : Object) (server : ℕ) where
   -- where layouts and banks are left as they are
   pub stored-left : (new : Object) → SameBanks object new → stored new server ≡ stored object server
-  stored-left new same =
-      ap (λ l. stored_bytes server l new.banks) same.0 ∙ ap (λ b. stored_bytes server object.layouts b) same.1
+  stored-left new same = grind arith
 
   -- a call of a move appends a position, whose banks store nothing
   pub stored-moving : (id : ℕ) (layout : Layout) (now : ℕ) → length object.banks ≡ length object.layouts →
       stored (moving_object object id layout now) server ≡ stored object server
-  stored-moving id layout now e =
-      stored-append server object.layouts object.banks layout (opened_banks layout.members 0 object.delta now) e
-      ∙ more (stored object server) (position_bytes server layout.members (opened_banks layout.members 0 object.delta now))
-      (position-opened server layout.members layout.members 0 object.delta now)
-    where
-      more : (a b : ℕ) → b ≡ 0 → a + b ≡ a
-      more a b e = omega arith
+  stored-moving id layout now e = grind (arith, position-opened, stored-append)

@@ -33,8 +33,7 @@ numbered_push call number (phase ∷ phases) next numbered c n =
     (numbered.0, numbered.1, numbered_push call (suc number) phases next numbered.2 c (let m = n in omega arith))
 
 pub begins_push : (phases : List Phase) (next : Phase) (step : ℕ) → BeginsAt phases step → BeginsAt (phases ++ next ∷ []) step
-begins_push [] next step begins = absurd begins
-begins_push (phase ∷ phases) next step begins = begins
+begins_push phases next step begins = grind arith
 
 -- the last phase is changed
 
@@ -78,9 +77,7 @@ numbered_set call number (phase ∷ phases) (suc place) old new numbered at c n 
 
 pub begins_set : (phases : List Phase) (place step : ℕ) (old new : Phase) → BeginsAt phases step →
     slice_get phases place ≡ Some old → new.start ≡ old.start → BeginsAt (set phases place new) step
-begins_set [] place step old new begins at s = absurd begins
-begins_set (phase ∷ phases) zero step old new begins at s = s ∙ sym (ap (λ (q : Phase). q.start) (same_Some phase old at)) ∙ begins
-begins_set (phase ∷ phases) (suc place) step old new begins at s = begins
+begins_set phases place step old new begins at s = grind arith
 
 pub last_ended : (phases : List Phase) (step place : ℕ) (phase : Phase) → EndsBefore phases step →
     slice_get phases place ≡ Some phase → suc place ≡ length phases → (end : ℕ) × (phase.end ≡ Some end)

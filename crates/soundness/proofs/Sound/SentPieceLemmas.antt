@@ -99,6 +99,4 @@ sent_there fragment object step sound index call at takes = go call.kind refl
 pub supply_counts : (object : Object) (index : ℕ) (call : Call) (k n : ℕ) → want_of object index call ≡ wants.Supply k n →
     (tag : Tag) × (position : ℕ) × (due_of object index call ≡ Some (PreWrite tag, position))
     × (k ≡ (layout_at object position).k) × (n ≡ length (layout_at object position).members)
-supply_counts object index call k n e =
-    let next = (supply_ready object index call k n e).1 in
-    (next.tag, next.position, next.is_due, next.pieces, next.members)
+supply_counts object index call k n e = grind (arith, supply_ready)

@@ -1,7 +1,7 @@
 -- The call and the phase that take a reply.
-use Rattle.std.proofs.Common.{◌≡◌, ℕ, zero, suc, ◌+◌, ◌<◌, ◌≤◌, ◌⊎◌, Bool, true, false}
-use Rattle.std.proofs.Common.{cond, eqb, nat_lt, not, is_some, List, [], ◌∷◌, ◌++◌, length, set, Option, Some, None}
-use Rattle.std.proofs.Common.{refl, sym, subst, ap, ◌∙◌, inl, inr, arith, eqb-true, slice_get, ◌&&◌}
+use Rattle.std.proofs.Common.{◌≡◌, ℕ, zero, suc, ◌+◌, ◌<◌, ◌≤◌, ◌⊎◌, false}
+use Rattle.std.proofs.Common.{nat_lt, List, [], ◌∷◌, ◌++◌, length, set, Option, Some, None}
+use Rattle.std.proofs.Common.{refl, sym, subst, ap, ◌∙◌, inl, inr, arith, eqb-true, slice_get}
 use Rattle.std.proofs.lemmas.Bool.{cases_eq}
 use Rattle.std.proofs.lemmas.Bool.Decides.{nat_tests}
 use Rattle.std.proofs.lemmas.Option.{same_Some}
@@ -78,40 +78,7 @@ pub record Recorded (phase : Phase) (call number : ℕ) (taken : Taken) (now : �
 pub take_result : (phase : Phase) (call number member : ℕ) (made : Reply) (now : ℕ) →
     (after_reply phase call number member made now ≡ phase) ⊎
     Recorded phase call number (record { member = member; reply = made; step = now }) now (after_reply phase call number member made now)
-take_result phase call number member made now =
-    go (eqb call phase.call) refl (eqb number phase.number) refl phase.end refl (has_taken phase.replies member) refl
-    (nat_lt (length phase.replies + 1) phase.quorum) refl
-  where
-    taken : Taken
-    taken = record { member = member; reply = made; step = now }
-
-    grown_to : Bool → Phase
-    grown_to short = grown_phase phase taken (cond (not short) (Some now) None)
-
-    go : (c : Bool) → eqb call phase.call ≡ c → (n : Bool) → eqb number phase.number ≡ n →
-        (o : Option ℕ) → phase.end ≡ o → (h : Bool) → has_taken phase.replies member ≡ h →
-        (s : Bool) → nat_lt (length phase.replies + 1) phase.quorum ≡ s →
-        (cond (c && (n && not (is_some o))) (cond h phase (grown_to s)) phase ≡ phase)
-        ⊎ Recorded phase call number taken now (cond (c && (n && not (is_some o))) (cond h phase (grown_to s)) phase)
-    go true c true m None d false e false f = inr (record {
-      same_call = eqb-true call phase.call c;
-      same_number = eqb-true number phase.number m;
-      open_phase = d;
-      fresh = has-members_of phase.replies member ∙ e;
-      end = Some now;
-      completes = λ step t. (sym (same_Some now step t), grind (arith, nat_tests, f));
-      grown = refl;
-    })
-    go true c true m None d false e true f = inr (record {
-      same_call = eqb-true call phase.call c;
-      same_number = eqb-true number phase.number m;
-      open_phase = d;
-      fresh = has-members_of phase.replies member ∙ e;
-      end = None;
-      completes = λ step t. absurd (cc);
-      grown = refl;
-    })
-    go c e n m o d h g s f = inl refl
+take_result phase call number member made now = grind (arith, eqb-true, grown_phase, has-members_of, nat_lt, nat_tests, same_Some)
 
 -- the last phase, which takes the message
 pub record TakesAt (phases : List Phase) (message : Message) (now : ℕ) : Type 0 where

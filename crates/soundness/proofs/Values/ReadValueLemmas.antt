@@ -152,8 +152,7 @@ settled_journaled fragment object determines legal values coded index call at va
         subst (λ v. IsJournaled object tag v) same first.journaled
 
 some_value : (o : Option (List ℕ)) → IsSome o → (value : List ℕ) × (o ≡ Some value)
-some_value None h = absurd (cc)
-some_value (Some value) h = (value, refl)
+some_value o h = grind arith
 
 pub reads_journaled : (fragment : Code) (object : Object) → Determines fragment → IsLegal object → AreValues object →
     AreCoded fragment object → AreSettled fragment object → ReadsJournaled object

@@ -48,27 +48,28 @@ invariant_of-self-in-Err c =
     c.requires.placed c.index_mut-register.ensures.value in
     refused_counted c.self.invariant at c.in-Err.ensures.unchanged
 
-pub returns-in-Ok-clause-step : goal.returns-in-Ok-clause-step
-returns-in-Ok-clause-step c =
+pub returns-in-Ok : goal.returns-in-Ok
+returns-in-Ok c =
     let at = object_is_at c.self.inside.objects.entries c.args.name.now c.args.object c.self.view_is c.index_mut-register.result.now
     c.requires.placed c.index_mut-register.ensures.value in
-    stepped_at c.self.view_is at (step_of (next_id c.index_mut-register.result.now.object) c.args.act) c.in-Ok.ensures.step
-    ∙ ap (λ n. with_step c.args.self.now c.args.name.now (step_of n c.args.act)) (sym (next_id_at c.self.view_is at))
-
-pub returns-in-Ok-clause-may : goal.returns-in-Ok-clause-may
-returns-in-Ok-clause-may c =
-    let at = object_is_at c.self.inside.objects.entries c.args.name.now c.args.object c.self.view_is c.index_mut-register.result.now
-    c.requires.placed c.index_mut-register.ensures.value in
-    subst (λ n. MayMake c.args.self.now c.args.name.now (step_of n c.args.act)) (sym (next_id_at c.self.view_is at))
-    (may_at c.self.view_is at (step_of (next_id c.index_mut-register.result.now.object) c.args.act)
-    (c.allowed_steps_may_be_made.ensures.acts c.args.act (c.self.inside.counter + 1) c.values_are_lawful.ensures
-    (act_none c.in-Ok.answered c.args.act c.in-Ok.ensures.cause)))
-
-pub returns-in-Ok-clause-cause : goal.returns-in-Ok-clause-cause
-returns-in-Ok-clause-cause c =
-    let at = object_is_at c.self.inside.objects.entries c.args.name.now c.args.object c.self.view_is c.index_mut-register.result.now
-    c.requires.placed c.index_mut-register.ensures.value in
-    act_by (Ok c.in-Ok.answered) c.args.act (cause_at c.self.view_is at (act_cause c.args.act)) c.in-Ok.ensures.cause
+    let now = c.args.self.now in
+    let name = c.args.name.now in
+    let old = c.index_mut-register.result.now.object in
+    let here : place_of now.objects name ≡ c.args.object = c.requires.placed.0 in
+    record {
+      step = stepped_at c.self.view_is at (step_of (next_id c.index_mut-register.result.now.object) c.args.act) c.in-Ok.ensures.step
+          ∙ ap (λ n. with_step c.args.self.now c.args.name.now (step_of n c.args.act)) (sym (next_id_at c.self.view_is at));
+      may = subst (λ n. MayMake c.args.self.now c.args.name.now (step_of n c.args.act)) (sym (next_id_at c.self.view_is at))
+          (may_at c.self.view_is at (step_of (next_id c.index_mut-register.result.now.object) c.args.act)
+          (c.allowed_steps_may_be_made.ensures.acts c.args.act (c.self.inside.counter + 1) c.values_are_lawful.ensures
+          (act_none c.in-Ok.answered c.args.act c.in-Ok.ensures.cause)));
+      cause = act_by (Ok c.in-Ok.answered) c.args.act (cause_at c.self.view_is at (act_cause c.args.act)) c.in-Ok.ensures.cause;
+      answered = read_at c.self.view_is at (answered_by c.args.act (place_of now.objects name) (next now))
+          ∙ ap (λ p. answered_by c.args.act p (next now) old) here
+          ∙ ap (λ n. answered_by c.args.act c.args.object n old) (next_is c.self.view_is)
+          ∙ c.in-Ok.ensures.answered;
+      unchanged = tt;
+    }
 
 pub returns-in-Err-clause-cause : goal.returns-in-Err-clause-cause
 returns-in-Err-clause-cause c =
@@ -81,19 +82,6 @@ returns-in-Err-clause-unchanged c =
     let at = object_is_at c.self.inside.objects.entries c.args.name.now c.args.object c.self.view_is c.index_mut-register.result.now
     c.requires.placed c.index_mut-register.ensures.value in
     unchanged_at at c.in-Err.ensures.unchanged ∙ c.self.view_is
-
-pub returns-in-Ok-clause-answered : goal.returns-in-Ok-clause-answered
-returns-in-Ok-clause-answered c =
-    let at = object_is_at c.self.inside.objects.entries c.args.name.now c.args.object c.self.view_is c.index_mut-register.result.now
-    c.requires.placed c.index_mut-register.ensures.value in
-    let now = c.args.self.now in
-    let name = c.args.name.now in
-    let old = c.index_mut-register.result.now.object in
-    let here : place_of now.objects name ≡ c.args.object = c.requires.placed.0 in
-    read_at c.self.view_is at (answered_by c.args.act (place_of now.objects name) (next now))
-    ∙ ap (λ p. answered_by c.args.act p (next now) old) here
-    ∙ ap (λ n. answered_by c.args.act c.args.object n old) (next_is c.self.view_is)
-    ∙ c.in-Ok.ensures.answered
 
 pub exchanged-self-inside-requires : goal.exchanged-self-inside-requires
 exchanged-self-inside-requires c =
