@@ -1,5 +1,5 @@
 -- How a request changes the bytes of a bank.
-use Rattle.std.proofs.Common.{◌≡◌, ℕ, ◌+◌, Bool, ◌∷◌, [], length, map, true, false, cond, Option, Some, None, is_some, option_map, sum_by}
+use Rattle.std.proofs.Common.{◌≡◌, ℕ, ◌+◌, Bool, ◌∷◌, [], length, map, true, false, cond, Option, Some, is_some, sum_by}
 use Rattle.std.proofs.Common.{sym}
 use Rattle.std.proofs.Common.{ap, ◌∙◌, refl, arith}
 use Rattle.std.specs.FinMap as map
@@ -16,7 +16,7 @@ use Rattle.bank.specs.declared.row.Row.{Row}
 use Rattle.bank.specs.declared.row.Arrival.{Arrival}
 use Rattle.bank.specs.declared.request.Request.{Request}
 use Rattle.bank.specs.declared.request.Request.TheVariants as request
-use Rattle.bank.specs.Bank.{Bank, opening_row, opened_bank, filled_arrival, row_after_pre_write, row_after_finalize, pre_written, finalized}
+use Rattle.bank.specs.Bank.{Bank, opening_row, opened_bank, row_after_pre_write, row_after_finalize, pre_written, finalized}
 use Rattle.bank.specs.Bytes.{arrival_bytes, row_bytes, row_piece_bytes, entry_bytes, bank_bytes, added_bytes}
 use Rattle.bank.specs.Collect.{emptied_arrival, emptied_row, kept_entry, collected, dropped_bytes}
 use Rattle.bank.specs.Knowledge.{row_arrived, is_dropped}
@@ -70,17 +70,10 @@ with_row_bytes b tag f more is = let all = insert_bytes b.rows tag (f (map.get b
 
 pre_write_bytes : (o : Option Row) (p : Piece) (now : ℕ)
     → row_bytes (row_after_pre_write o p now) ≡ row_piece_bytes o + (cond (is_some (row_arrived o)) 0 (length p.bytes))
-pre_write_bytes None p now = omega arith
-pre_write_bytes (Some r) p now = arrival r.arrival
-  where
-    arrival : (a : Option Arrival) → arrival_bytes (filled_arrival a p now)
-        ≡ arrival_bytes a + (cond (is_some (option_map (λ a. a.step) a)) 0 (length p.bytes))
-    arrival None = omega arith
-    arrival (Some a) = omega arith
+pre_write_bytes o p now = grind arith
 
 finalize_bytes : (o : Option Row) (now : ℕ) → row_bytes (row_after_finalize o now) ≡ row_piece_bytes o + 0
-finalize_bytes None now = omega arith
-finalize_bytes (Some r) now = omega arith
+finalize_bytes o now = grind arith
 
 -- a request to pre-write adds the bytes of a piece that it brings, one to finalize adds none
 pub pre_written_bytes : (b : Bank) (tag : Tag) (p : Piece) (now : ℕ)
@@ -94,8 +87,7 @@ finalized_bytes b tag now = with_row_bytes b tag (λ o. row_after_finalize o now
 
 -- what is dropped takes off its bytes
 pub emptied_bytes : (a : Option Arrival) → arrival_bytes (emptied_arrival a) ≡ 0
-emptied_bytes None = refl
-emptied_bytes (Some a) = refl
+emptied_bytes a = grind arith
 
 kept_bytes : (u : Bank) (es : Rows) → sum_by entry_bytes (map (kept_entry u) es)
     + sum_by (λ (e : Tag × Row). cond (is_dropped u e.0) (entry_bytes e) 0) es ≡ sum_by entry_bytes es
@@ -117,10 +109,7 @@ kept_bytes u (e ∷ es) =
     either false = omega arith
 
 pub collected_bytes : (u : Bank) → bank_bytes (collected u) + dropped_bytes u ≡ bank_bytes u
-collected_bytes u =
-    let entries = ap (sum_by entry_bytes) (entries-collected u) in
-    let all = kept_bytes u (map.entries u.rows) in
-    omega (arith, entries, all)
+collected_bytes u = grind (arith, entries-collected, kept_bytes)
 
 -- a request adds the bytes of a piece that it brings, and takes off those of the pieces that are no longer kept
 pub served_bytes : (b : Bank) (q : Request) (now : ℕ)

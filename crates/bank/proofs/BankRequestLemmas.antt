@@ -3,6 +3,7 @@ use Rattle.std.proofs.Common.{◌≡◌, ℕ, ◌+◌, ◌-◌, ◌%◌, ◌^◌
 use Rattle.std.proofs.Common.{length, Option, Some, None, IsSome, is_some, option_map, sym, ap, ◌∙◌, subst, refl, arith}
 use Rattle.std.specs.FinMap as map
 use Rattle.std.specs.BTreeMap.{is_at}
+use Rattle.std.proofs.lemmas.Bool.{or_left, or_right, or_cases}
 use Rattle.tag.specs.declared.tag.Tag.{Tag}
 use Rattle.tag.specs.Tag.{tag_cmp, later_tag, opening_tag}
 use Rattle.piece.specs.declared.piece.Piece.{Piece}
@@ -36,9 +37,7 @@ changed b tag f = with_rows b (map.insert b.rows tag (f (map.get b.rows tag)))
 bank_of-changed : (es fs : Rows) (p : Pointer) (w : Option Window) (r : Option ℕ) (tag : Tag) (f : Option Row → Row) → Rise es → Rise fs
     → ((q : Tag) → found_in fs q ≡ cond (is_at (tag_cmp tag) q) (Some (f (found_in es tag))) (found_in es q))
     → bank_of fs p w r ≡ changed (bank_of es p w r) tag f
-bank_of-changed es fs p w r tag f rise risen updates =
-    ap (with_rows (bank_of es p w r)) (insert-rise es fs rise risen tag (f (found_in es tag)) updates
-    ∙ ap (λ o. map.insert (map.from_sorted es) tag (f o)) (sym (get-rise es rise tag)))
+bank_of-changed es fs p w r tag f rise risen updates = grind (arith, get-rise, insert-rise)
 
 -- a word that counts an addition and a fall
 counted : (n old added one freed new total : ℕ) → n ≡ old % 2 ^ 64 → one ≡ (n + added) % 2 ^ 64 → freed < 2 ^ 64
@@ -49,18 +48,6 @@ counted n old added one freed new total is first fits second same = omega (arith
 pub not_known : (es : Rows) (p : Pointer) (w : Option Window) (r : Option ℕ) (tag : Tag) → Rise es → found_in es tag ≡ None
     → (b : Bank) → bank_of es p w r ≡ b → knows b tag ≡ false
 not_known es p w r tag rise none b view = ap (λ b. knows b tag) (sym view) ∙ ap is_some (get-rise es rise tag ∙ none)
-
-either : (r out fin : Bool) → (r || (out && fin)) ≡ true → (r ≡ true) ⊎ ((out && fin) ≡ true)
-either true out fin is = inl refl
-either false out fin is = inr is
-
-or_left : (r b : Bool) → r ≡ true → (r || b) ≡ true
-or_left true b is = refl
-or_left false b is = absurd (cc)
-
-or_right : (r b : Bool) → b ≡ true → (r || b) ≡ true
-or_right true b is = refl
-or_right false b is = is
 
 module _ (es fs gs : Rows) (p : Pointer) (w : Option Window) (r : Option ℕ) (g : Tag) (n : ℕ) (kept : IsKeptBank es p w r g n)
     (risen : Rise fs) (rests : Rise gs) (tag : Tag) (now : ℕ) where
@@ -110,15 +97,7 @@ module _ (es fs gs : Rows) (p : Pointer) (w : Option Window) (r : Option ℕ) (g
     late t = dropped_is fs risen p w r t windowed_pre_written
 
     gone_late : (t : Tag) → late_tag w r fs tag ≡ Some t → is_dropped (bank_of fs p w r) t ≡ true
-    gone_late t e = late t ∙ pick (is_some r || (is_excluded w tag && is_final_in fs tag)) refl e
-      where
-        some_inj : (a b : Tag) → Some a ≡ Some b → a ≡ b
-        some_inj a b same = cc
-
-        pick : (c : Bool) → (is_some r || (is_excluded w tag && is_final_in fs tag)) ≡ c → cond c (Some tag) None ≡ Some t
-            → (is_some r || (is_excluded w t && is_final_in fs t)) ≡ true
-        pick true is e = subst (λ t. (is_some r || (is_excluded w t && is_final_in fs t)) ≡ true) (some_inj tag t e) is
-        pick false is e = absurd (cc)
+    gone_late t e = grind (arith, is_final_in, late)
 
     only_late : (t : Tag) → is_dropped (bank_of fs p w r) t ≡ true → (late_tag w r fs tag ≡ Some t) ⊎ (piece_of_row (found_in fs t) ≡ None)
     only_late t dropped = pick (is_at (tag_cmp tag) t) refl
@@ -179,7 +158,7 @@ module _ (es fs gs : Rows) (p : Pointer) (w : Option Window) (r : Option ℕ) (g
     gone_fallen t e = fallen t ∙ or_right (is_some r) (is_excluded new t && is_final_in fs t) (made.gone t e)
 
     only_fallen : (t : Tag) → is_dropped (bank_of fs p new r) t ≡ true → (x ≡ Some t) ⊎ (piece_of_row (found_in fs t) ≡ None)
-    only_fallen t dropped = pick (either (is_some r) (is_excluded new t) (is_final_in fs t) (sym (fallen t) ∙ dropped))
+    only_fallen t dropped = pick (or_cases (is_some r) (is_excluded new t && is_final_in fs t) (sym (fallen t) ∙ dropped))
       where
         before : (is_some r || (is_excluded w t && is_final_in es t)) ≡ true → piece_of_row (found_in fs t) ≡ None
         before e =

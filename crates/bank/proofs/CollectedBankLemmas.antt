@@ -1,19 +1,18 @@
 -- What is left where a bank drops the pieces that are not kept.
-use Rattle.std.proofs.Common.{◌≡◌, ℕ, ◌+◌, Bool, true, false, cond, ◌&&◌, ◌||◌, [], ◌∷◌, map, T, Option, Some, None, is_some, option_map}
-use Rattle.std.proofs.Common.{◌↔◌, sym, ap, ◌∙◌, subst, refl}
+use Rattle.std.proofs.Common.{◌≡◌, ℕ, ◌+◌, Bool, true, false, cond, ◌&&◌, [], ◌∷◌, map, T, Option, Some, None, option_map}
+use Rattle.std.proofs.Common.{◌↔◌, sym, ap, ◌∙◌, subst, refl, arith}
 use Rattle.std.specs.FinMap as map
 use Rattle.std.specs.FinMap.Entries.{below_all}
 use Rattle.std.specs.Ordering.{eq_by_cmp, is_lt}
 use Rattle.tag.specs.declared.tag.Tag.{Tag}
 use Rattle.tag.specs.Tag.{tag_cmp, tag_lt}
 use Rattle.tag.proofs.TagOrderLemmas.{tag_cmp_total, tag_cmp-IsAntisymmetric, eq_by_cmp-tag, tag_eq-true}
-use Rattle.bank.specs.declared.row.Arrival.{Arrival}
 use Rattle.bank.specs.declared.row.Label.{Label}
 use Rattle.bank.specs.declared.row.Row.{Row}
-use Rattle.bank.specs.Bank.{Bank, with_rows, piece_of, piece_of_row, piece_that_came}
-use Rattle.bank.specs.Knowledge.{came_by, final_step, row_finalized, row_arrived, finalized_at, arrived_at, count_above, finals_above}
-use Rattle.bank.specs.Knowledge.{finals_above_at, exceeds, is_dropped, is_dropped_at, HadPiece, HoldsPiece}
-use Rattle.bank.specs.Collect.{emptied_arrival, emptied_row, kept_row, kept_entry, collected, KeepsAll, fetched_piece}
+use Rattle.bank.specs.Bank.{Bank, with_rows, piece_of, piece_of_row}
+use Rattle.bank.specs.Knowledge.{row_finalized, row_arrived, finalized_at, arrived_at, count_above}
+use Rattle.bank.specs.Knowledge.{is_dropped, is_dropped_at, HadPiece, HoldsPiece}
+use Rattle.bank.specs.Collect.{emptied_row, kept_row, kept_entry, collected, KeepsAll, fetched_piece}
 use Rattle.bank.proofs.EntryCountLemmas.{one_if}
 use Rattle.bank.proofs.EntryOrderLemmas.{Rows}
 
@@ -48,43 +47,20 @@ module _ (drops : Bool) where
   rest r = cond drops (emptied_row r) r
 
 label-rest : (drops : Bool) (r : Row) → (rest drops r).label ≡ r.label
-label-rest true r = refl
-label-rest false r = refl
+label-rest drops r = grind arith
 
 finalized-rest : (drops : Bool) (o : Option Row) → row_finalized (option_map (rest drops) o) ≡ row_finalized o
-finalized-rest drops None = refl
-finalized-rest true (Some r) = refl
-finalized-rest false (Some r) = refl
+finalized-rest drops o = grind arith
 
 arrived-rest : (drops : Bool) (o : Option Row) → row_arrived (option_map (rest drops) o) ≡ row_arrived o
-arrived-rest drops None = refl
-arrived-rest false (Some r) = refl
-arrived-rest true (Some r) = arrival r.arrival
-  where
-    arrival : (a : Option Arrival) → option_map (λ (a : Arrival). a.step) (emptied_arrival a) ≡ option_map (λ a. a.step) a
-    arrival None = refl
-    arrival (Some a) = refl
+arrived-rest drops o = grind arith
 
 piece-rest : (drops : Bool) (o : Option Row) → piece_of_row (option_map (rest drops) o) ≡ cond drops None (piece_of_row o)
-piece-rest true None = refl
-piece-rest false None = refl
-piece-rest false (Some r) = refl
-piece-rest true (Some r) = arrival r.arrival
-  where
-    arrival : (a : Option Arrival) → piece_that_came (emptied_arrival a) ≡ None
-    arrival None = refl
-    arrival (Some a) = refl
+piece-rest drops o = grind arith
 
 -- a row without a piece loses none
 pub empty-emptied : (o : Option Row) → piece_of_row o ≡ None → option_map emptied_row o ≡ o
-empty-emptied None none = refl
-empty-emptied (Some r) none = arrival r.arrival refl none
-  where
-    arrival : (a : Option Arrival) → r.arrival ≡ a → piece_that_came a ≡ None → Some (emptied_row r) ≡ Some r
-    arrival None is none = ap (λ a. let o : Row = record { label = r.label; arrival = a } in Some o) (ap emptied_arrival is ∙ sym is)
-    arrival (Some a) is none =
-        ap (λ a. let o : Row = record { label = r.label; arrival = a } in Some o)
-        (ap emptied_arrival is ∙ ap (λ p. let c : Arrival = record { piece = p; step = a.step } in Some c) (sym none) ∙ sym is)
+empty-emptied o none = grind arith
 
 -- A bank and what it keeps
 
@@ -121,16 +97,10 @@ module _ (b : Bank) where
   count-collected test t = ap (count_above test t) entries-collected ∙ count-kept test t (map.entries b.rows)
 
   pub is_dropped-collected : (t : Tag) → is_dropped (collected b) t ≡ is_dropped b t
-  is_dropped-collected t =
-      ap (λ o. is_some b.retired || (is_some o && exceeds b.delta (finals_above (collected b) t))) (finalized_at-collected t)
-      ∙ ap (λ n. is_some b.retired || (is_some (finalized_at b t) && exceeds b.delta n)) (count-collected (λ l. is_some (final_step l)) t)
+  is_dropped-collected t = grind (arith, count-collected, finalized_at-collected)
 
   pub is_dropped_at-collected : (t : Tag) (step : ℕ) → is_dropped_at (collected b) t step ≡ is_dropped_at b t step
-  is_dropped_at-collected t step =
-      ap (λ o. came_by b.retired step || (came_by o step && exceeds b.delta (finals_above_at (collected b) t step)))
-      (finalized_at-collected t)
-      ∙ ap (λ n. came_by b.retired step || (came_by (finalized_at b t) step && exceeds b.delta n))
-      (count-collected (λ l. came_by (final_step l) step) t)
+  is_dropped_at-collected t step = grind (arith, count-collected, finalized_at-collected)
 
   -- rows that have of each tag what is kept are those of the bank
   pub collected_is : (rows : map.FinMap tag_cmp Row)
@@ -143,23 +113,10 @@ module _ (b : Bank) where
 
 module _ (b : Bank) (keeps : KeepsAll b) where
   pub none_dropped : (t : Tag) → is_dropped b t ≡ false
-  none_dropped t =
-      ap (λ o. is_some o || (is_some (finalized_at b t) && exceeds b.delta (finals_above b t))) keeps.1
-      ∙ ap (λ d. is_some (finalized_at b t) && exceeds d (finals_above b t)) keeps.0 ∙ never (is_some (finalized_at b t))
-    where
-      never : (c : Bool) → (c && false) ≡ false
-      never true = refl
-      never false = refl
+  none_dropped t = grind arith
 
   pub none_dropped_at : (t : Tag) (step : ℕ) → is_dropped_at b t step ≡ false
-  none_dropped_at t step =
-      ap (λ o. came_by o step || (came_by (finalized_at b t) step && exceeds b.delta (finals_above_at b t step))) keeps.1
-      ∙ ap (λ d. came_by (finalized_at b t) step && exceeds d (finals_above_at b t step)) keeps.0
-      ∙ never (came_by (finalized_at b t) step)
-    where
-      never : (c : Bool) → (c && false) ≡ false
-      never true = refl
-      never false = refl
+  none_dropped_at t step = grind arith
 
   pub collected-keeps_all : collected b ≡ b
   collected-keeps_all = sym (collected_is b b.rows (λ t. all (map.get b.rows t)
@@ -170,9 +127,7 @@ module _ (b : Bank) (keeps : KeepsAll b) where
       all (Some r) = refl
 
   pub fetched_piece-keeps_all : (t : Tag) → fetched_piece b t ≡ piece_of b t
-  fetched_piece-keeps_all t =
-      ap (λ o. cond (is_some o || exceeds b.delta (finals_above b t)) None (piece_of b t)) keeps.1
-      ∙ ap (λ d. cond (exceeds d (finals_above b t)) None (piece_of b t)) keeps.0
+  fetched_piece-keeps_all t = cc
 
   pub holds-keeps_all : (t : Tag) (step : ℕ) → HoldsPiece b t step ↔ HadPiece b t step
   holds-keeps_all t step = (λ h. h.0, λ h. (h, none_dropped_at t step))

@@ -17,7 +17,7 @@ use Rattle.bank.specs.Knowledge.{is_dropped}
 use Rattle.bank.specs.Window.{found_in, without_piece, piece_bytes_at}
 use Rattle.bank.proofs.EntryOrderLemmas.{Rows, Rise, get-rise, insert-rise}
 use Rattle.bank.proofs.BankBytesLemmas.{insert_bytes, emptied_bytes}
-use Rattle.bank.proofs.CollectedBankLemmas.{empty-emptied, collected_is}
+use Rattle.bank.proofs.CollectedBankLemmas.{collected_is}
 
 pub at_itself : (t : Tag) → is_at (tag_cmp t) t ≡ true
 at_itself t = eq_by_cmp-tag t t ∙ tag_eq-same t
@@ -27,21 +27,11 @@ at_true s t at = tag_eq-true s t (sym (eq_by_cmp-tag s t) ∙ at)
 
 -- a piece that is not there can't be dropped
 without_none : (x : Option Tag) (t : Tag) (o : Option Row) → piece_of_row o ≡ None → without_piece x t o ≡ option_map emptied_row o
-without_none None t o none = sym (empty-emptied o none)
-without_none (Some y) t o none = pick (is_at (tag_cmp y) t)
-  where
-    pick : (c : Bool) → cond c (option_map emptied_row o) o ≡ option_map emptied_row o
-    pick true = refl
-    pick false = sym (empty-emptied o none)
+without_none x t o none = grind arith
 
 -- another tag keeps its piece
 without_other : (x : Option Tag) (t : Tag) (o : Option Row) → (x ≡ Some t → ⊥) → without_piece x t o ≡ o
-without_other None t o other = refl
-without_other (Some y) t o other = pick (is_at (tag_cmp y) t) refl
-  where
-    pick : (c : Bool) → is_at (tag_cmp y) t ≡ c → cond c (option_map emptied_row o) o ≡ o
-    pick true at = absurd (other (ap (λ s. Some s) (at_true y t at)))
-    pick false at = refl
+without_other x t o other = grind arith
 
 without_it : (x : Option Tag) (t : Tag) (o : Option Row) → x ≡ Some t → without_piece x t o ≡ option_map emptied_row o
 without_it x t o is = ap (λ x. without_piece x t o) is ∙ ap (λ c. cond c (option_map emptied_row o) o) (at_itself t)

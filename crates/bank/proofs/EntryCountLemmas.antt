@@ -1,6 +1,6 @@
 -- How many of the entries above a tag pass a test.
 use Rattle.std.proofs.Common.{◌≡◌, ℕ, suc, ◌+◌, ◌<◌, Bool, true, false, cond, ◌&&◌, [], ◌∷◌, length, get_or, Option, Some, None}
-use Rattle.std.proofs.Common.{sym, ap, ◌∙◌, refl, arith}
+use Rattle.std.proofs.Common.{sym, ap, refl, arith}
 use Rattle.std.specs.FinMap as map
 use Rattle.std.specs.FinMap.Entries.{below_all, by_order}
 use Rattle.std.specs.declared.cmp.Ordering.TheVariants.{Less, Equal, Greater}
@@ -74,29 +74,17 @@ count_same test other tag (e ∷ es) each =
 
 module _ (h : Option ℕ → Bool) (none : h None ≡ false) (tag : Tag) where
   counted_by : (k : Tag) (o : Option Row) → counted (λ l. h (final_step l)) tag k o ≡ one_if (tag_lt tag k && h (row_finalized o))
-  counted_by k None = sym (ap (λ b. one_if (tag_lt tag k && b)) none ∙ nought (tag_lt tag k))
-    where
-      nought : (c : Bool) → one_if (c && false) ≡ 0
-      nought true = refl
-      nought false = refl
-  counted_by k (Some r) = refl
+  counted_by k o = grind arith
 
   -- the count after the row of a tag changes
   pub changed_count : (rows : map.FinMap tag_cmp Row) (k : Tag) (v : Row)
       → count_above (λ l. h (final_step l)) tag (map.entries (map.insert rows k v))
       + one_if (tag_lt tag k && h (row_finalized (map.get rows k)))
       ≡ one_if (tag_lt tag k && h (final_step v.label)) + count_above (λ l. h (final_step l)) tag (map.entries rows)
-  changed_count rows k v =
-      let all = insert_count (λ l. h (final_step l)) tag rows k v in
-      let old = counted_by k (map.get rows k) in
-      omega (arith, all, old)
+  changed_count rows k v = grind (arith, counted_by, insert_count)
 
   -- it stays where the test says the same
   pub same_count : (rows : map.FinMap tag_cmp Row) (k : Tag) (v : Row) → h (final_step v.label) ≡ h (row_finalized (map.get rows k))
       → count_above (λ l. h (final_step l)) tag (map.entries (map.insert rows k v))
       ≡ count_above (λ l. h (final_step l)) tag (map.entries rows)
-  same_count rows k v same =
-      let all = changed_count rows k v in
-      let alike : one_if (tag_lt tag k && h (final_step v.label)) ≡ one_if (tag_lt tag k && h (row_finalized (map.get rows k))) =
-      ap (λ b. one_if (tag_lt tag k && b)) same in
-      omega (arith, all, alike)
+  same_count rows k v same = grind (arith, changed_count, one_if)

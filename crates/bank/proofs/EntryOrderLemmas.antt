@@ -34,8 +34,7 @@ abbrev pub is_final : Bank → Tag → Bool
 is_final b tag = is_some (finalized_at b tag)
 
 pub t_true : (b : Bool) → T b → b ≡ true
-t_true true h = refl
-t_true false h = absurd h
+t_true b h = grind arith
 
 pub is_lt-tag : (s t : Tag) → is_lt (tag_cmp s t) ≡ tag_lt s t
 is_lt-tag s t = grind (arith, nat_tests)
@@ -94,8 +93,7 @@ in_order : (es : Rows) → Rise es → T (map.is_sorted tag_cmp es)
 in_order es rise = subst T (sym (is_sorted-rise es rise)) tt
 
 pub lookup-find : (q : Tag) (es : Rows) → lookup (is_at (tag_cmp q)) es ≡ map.find tag_cmp q es
-lookup-find q [] = refl
-lookup-find q (e ∷ es) = ap (cond (eq_by_cmp tag_cmp q e.0) (Some e.1)) (lookup-find q es)
+lookup-find q es = cc
 
 -- the map of rising entries has these entries
 pub entries-rise : (es : Rows) → Rise es → map.entries (map.from_sorted {R = tag_cmp} es) ≡ es

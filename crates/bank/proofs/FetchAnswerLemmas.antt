@@ -2,6 +2,7 @@
 use Rattle.std.proofs.Common.{◌≡◌, ℕ, Bool, ◌⊎◌, inl, inr, true, false, ◌||◌, cond, Option, None, is_some, option_map, sym, ap, ◌∙◌}
 use Rattle.std.proofs.Common.{refl}
 use Rattle.std.specs.FinMap as map
+use Rattle.std.proofs.lemmas.Bool.{or_from}
 use Rattle.tag.specs.declared.tag.Tag.{Tag}
 use Rattle.bank.specs.declared.status.Pointer.{Pointer}
 use Rattle.bank.specs.declared.window.Window.{Window}
@@ -36,9 +37,5 @@ module _ (es : Rows) (p : Pointer) (w : Option Window) (r : Option ℕ) (t : Tag
   pub fetched_row : is_some r ≡ false → is_excluded w t ≡ false → (b : Bank) → bank_of es p w r ≡ b
       → piece_of_row (map.get b.rows t) ≡ fetched_piece b t
   fetched_row here inside b view =
-      sym (sym (ap (λ b. fetched_piece b t) view) ∙ fetched_by false (neither (is_some r) (is_excluded w t) here inside)
+      sym (sym (ap (λ b. fetched_piece b t) view) ∙ fetched_by false (or_from (is_some r) (is_excluded w t) here inside)
       ∙ ap (λ b. piece_of b t) view)
-    where
-      neither : (a e : Bool) → a ≡ false → e ≡ false → (a || e) ≡ false
-      neither true e is not_e = absurd (cc)
-      neither false e is not_e = not_e

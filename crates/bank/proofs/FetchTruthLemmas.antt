@@ -1,12 +1,12 @@
 -- What a fetch answers is true.
-use Rattle.std.proofs.Common.{◌≡◌, ℕ, suc, ◌<◌, ◌↔◌, Bool, true, false, cond, not, ◌&&◌, ◌||◌, length, get_or, Option, Some, None, IsSome}
+use Rattle.std.proofs.Common.{◌≡◌, ℕ, suc, ◌<◌, ◌↔◌, Bool, true, false, not, ◌&&◌, ◌||◌, length, get_or, Option, Some, IsSome}
 use Rattle.std.proofs.Common.{is_some, sym, ap, ◌∙◌, refl, arith}
 use Rattle.std.specs.FinMap as map
-use Rattle.std.proofs.lemmas.Bool.{le-leb, and_parts}
+use Rattle.std.proofs.lemmas.Bool.{and_parts}
 use Rattle.tag.specs.declared.tag.Tag.{Tag}
 use Rattle.tag.specs.Tag.{tag_cmp}
 use Rattle.bank.specs.declared.row.Row.{Row}
-use Rattle.bank.specs.Bank.{Bank, finalized, piece_of}
+use Rattle.bank.specs.Bank.{Bank, finalized}
 use Rattle.bank.specs.Collect.{collected, IsCollected, is_outside, fetched_piece}
 use Rattle.bank.specs.Knowledge.{came_by, final_step, row_finalized, finalized_at, arrived_at, finals_above, finals_above_at}
 use Rattle.bank.specs.Knowledge.{exceeds, is_dropped, is_dropped_at, HoldsPiece}
@@ -15,12 +15,11 @@ use Rattle.bank.proofs.EntryOrderLemmas.{find_sorted, t_true}
 use Rattle.bank.proofs.EntryCountLemmas.{count_same}
 use Rattle.bank.proofs.CollectedBankLemmas.{arrived_at-collected, is_dropped_at-collected}
 use Rattle.bank.proofs.RowChangeLemmas.{earlier_by, arrived_at-finalized}
-use Rattle.bank.proofs.PieceRetentionLemmas.{dropped_outside, dropped_itself}
+use Rattle.bank.proofs.PieceRetentionLemmas.{dropped_itself}
 
 -- what came before the next step came by this one
 up_to : (o : Option ℕ) (now : ℕ) → IsEarlier o (suc now) → came_by o now ≡ is_some o
-up_to None now earlier = refl
-up_to (Some came) now earlier = le-leb came now (let before = earlier came refl in omega arith)
+up_to o now earlier = grind arith
 
 -- what is dropped after this step is dropped
 pub dropped_now : (u : Bank) (now : ℕ) → IsBefore u (suc now) → (t : Tag) → is_dropped_at u t now ≡ is_dropped u t
@@ -44,20 +43,7 @@ dropped_now u now before t =
 
 -- a fetch answers a piece exactly where one came and is kept
 fetched_is : (b : Bank) (tag : Tag) → IsCollected b → is_some (fetched_piece b tag) ≡ (is_some (arrived_at b tag) && not (is_outside b tag))
-fetched_is b tag kept =
-    elim (is_outside b tag) as (λ c. is_outside b tag ≡ c
-    → is_some (cond c None (piece_of b tag)) ≡ (is_some (arrived_at b tag) && not c)) [
-      | true ↦ λ _. sym (never (is_some (arrived_at b tag)))
-      | false ↦ λ inside. kept tag ∙ ap (λ d. is_some (arrived_at b tag) && not d) (still (is_dropped b tag) (dropped_outside b tag) inside)
-    ] refl
-  where
-    never : (c : Bool) → (c && false) ≡ false
-    never true = refl
-    never false = refl
-
-    still : (d : Bool) → (d ≡ true → is_outside b tag ≡ true) → is_outside b tag ≡ false → d ≡ false
-    still true out inside = absurd (let no : false ≡ true = sym inside ∙ out refl in cc)
-    still false out inside = refl
+fetched_is b tag kept = grind arith
 
 -- so the answer is true of the bank that the request leaves
 pub fetched_truth : (b : Bank) (tag : Tag) (now : ℕ) → IsBefore b now → IsCollected b → IsBefore (finalized b tag now) (suc now)

@@ -40,8 +40,7 @@ abbrev pub above : Tag → Rows → ℕ
 above t es = count_above is_finalized t es
 
 weaker : (a b f : Bool) → (a ≡ true → b ≡ true) → one_if (a && f) ≤ one_if (b && f)
-weaker true b f more = let is = ap (λ b. one_if (b && f)) (more refl) in omega (arith, is)
-weaker false b f more = omega arith
+weaker a b f more = grind arith
 
 -- above a lesser tag there are no fewer
 pub above_less : (x y : Tag) → tag_lt y x ≡ false → (es : Rows) → above y es ≤ above x es
@@ -119,6 +118,4 @@ above_least x least (e ∷ es) sorted each =
 -- the same, where no final tag is below the least one
 pub above_least_final : (x least : Tag) (es : Rows) → Rise es → ((t : Tag) → is_final_in es t ≡ true → tag_lt t least ≡ false)
     → above x es ≤ above least es + 1
-above_least_final x least es rise none =
-    above_least x least es (is_sorted-rise es rise) (λ k within d final.
-    none (get_or es k d).0 (ap (λ o. is_some (row_finalized o)) (found_at es rise k within d) ∙ final))
+above_least_final x least es rise none = grind (arith, above_least, found_at, is_sorted-rise)

@@ -3,6 +3,7 @@ use Rattle.std.proofs.Common.{◌≡◌, ℕ, suc, ◌<◌, Bool, true, false, c
 use Rattle.std.proofs.Common.{ap, ◌∙◌, refl, arith}
 use Rattle.std.specs.FinMap as map
 use Rattle.std.specs.Ordering.{eq_by_cmp}
+use Rattle.std.proofs.lemmas.Option.{same_Some}
 use Rattle.tag.specs.declared.tag.Tag.{Tag}
 use Rattle.tag.specs.Tag.{tag_cmp, tag_lt, tag_eq, opening_tag, later_tag}
 use Rattle.tag.proofs.TagOrderLemmas.{same_tag, opening_least, later-above, later-second, tag_eq-true, tag_eq-same, eq_by_cmp-tag}
@@ -16,6 +17,7 @@ use Rattle.bank.specs.Facts.{IsGreatest}
 use Rattle.bank.proofs.EntryOrderLemmas.{Rows, is_final_row, is_final, find_sorted, t_true}
 use Rattle.bank.specs.Collect.{collected}
 use Rattle.bank.proofs.CollectedBankLemmas.{finalized_at-collected}
+use Rattle.bank.proofs.PieceRetentionLemmas.{stays, final_itself}
 use Rattle.bank.proofs.RowChangeLemmas.{get-with_row, finalized_at-finalized, finalized_at-pre_written}
 
 -- no finalized entry is above the greatest among them
@@ -26,7 +28,7 @@ among_above (e ∷ es) tag r found final =
     elim (eq_by_cmp tag_cmp tag e.0) as (λ b. eq_by_cmp tag_cmp tag e.0 ≡ b → cond b (Some e.1) (map.find tag_cmp tag es) ≡ Some r
     → tag_lt (greatest_among (e ∷ es)) tag ≡ false) [
       | true ↦ λ same is.
-          let here : is_finalized e.1.label ≡ true = ap is_finalized (ap (λ (x : Row). x.label) (some_inj e.1 r is)) ∙ final in
+          let here : is_finalized e.1.label ≡ true = ap is_finalized (ap (λ (x : Row). x.label) (same_Some e.1 r is)) ∙ final in
           ap (λ b. tag_lt (cond b (cond (tag_lt (greatest_among es) e.0) e.0 (greatest_among es)) (greatest_among es)) tag) here
           ∙ ap (tag_lt (cond (tag_lt (greatest_among es) e.0) e.0 (greatest_among es))) (tag_eq-true tag e.0 (sym (eq_by_cmp-tag tag e.0)
           ∙ same))
@@ -34,9 +36,6 @@ among_above (e ∷ es) tag r found final =
       | false ↦ λ _ is. either (is_finalized e.1.label) (among_above es tag r is final)
     ] refl found
   where
-    some_inj : (x y : Row) → Some x ≡ Some y → x ≡ y
-    some_inj x y same = cc
-
     either : (b : Bool) → tag_lt (greatest_among es) tag ≡ false
         → tag_lt (cond b (cond (tag_lt (greatest_among es) e.0) e.0 (greatest_among es)) (greatest_among es)) tag ≡ false
     either true below = later-above (greatest_among es) e.0 tag below
@@ -105,23 +104,6 @@ greatest_final_is b opening = record {
         ∙ final)
 
 module _ (b : Bank) (tag : Tag) (now : ℕ) (opening : IsSome (finalized_at b opening_tag)) where
-  stays_final : (t : Tag) → is_final b t ≡ true → is_final (finalized b tag now) t ≡ true
-  stays_final t final = ap is_some (finalized_at-finalized b tag now t) ∙ pick (tag_eq t tag) (finalized_at b t) final
-    where
-      pick : (c : Bool) (o : Option ℕ) → is_some o ≡ true → is_some (cond c (since o now) o) ≡ true
-      pick true None final = refl
-      pick true (Some step) final = refl
-      pick false o final = final
-
-  is_final-finalized : is_final (finalized b tag now) tag ≡ true
-  is_final-finalized =
-      ap is_some (finalized_at-finalized b tag now tag
-      ∙ ap (λ c. cond c (since (finalized_at b tag) now) (finalized_at b tag)) (tag_eq-same tag)) ∙ there (finalized_at b tag)
-    where
-      there : (o : Option ℕ) → is_some (since o now) ≡ true
-      there None = refl
-      there (Some step) = refl
-
   none_above : (t : Tag) → is_final (finalized b tag now) t ≡ true → tag_lt (later_tag (greatest_final b) tag) t ≡ false
   none_above t final =
       elim (tag_eq t tag) as (λ c. tag_eq t tag ≡ c → is_some (cond c (since (finalized_at b t) now) (finalized_at b t)) ≡ true
@@ -138,8 +120,8 @@ module _ (b : Bank) (tag : Tag) (now : ℕ) (opening : IsSome (finalized_at b op
   })
     where
       either : (later : Bool) → is_final (finalized b tag now) (cond later tag (greatest_final b)) ≡ true
-      either true = is_final-finalized
-      either false = stays_final (greatest_final b) (greatest_final_is b opening).final
+      either true = final_itself b tag now
+      either false = stays b tag now (greatest_final b) (greatest_final_is b opening).final
 
   -- a tag that is pre-written changes no greatest
   pub greatest-pre_written : (p : Piece) → greatest_final (pre_written b tag p now) ≡ greatest_final b
@@ -151,7 +133,7 @@ module _ (b : Bank) (tag : Tag) (now : ℕ) (opening : IsSome (finalized_at b op
 
   -- the opening tag stays finalized
   pub opening-finalized : IsSome (finalized_at (finalized b tag now) opening_tag)
-  opening-finalized = stays_final opening_tag opening
+  opening-finalized = stays b tag now opening_tag opening
 
   pub opening-pre_written : (p : Piece) → IsSome (finalized_at (pre_written b tag p now) opening_tag)
   opening-pre_written p = ap is_some (finalized_at-pre_written b tag now opening_tag p) ∙ opening

@@ -1,44 +1,25 @@
 -- A bank only adds steps: each step that it keeps stays, or comes now where there was none.
-use Rattle.std.proofs.Common.{◌≡◌, ℕ, ◌<◌, inl, inr, Bool, true, false, cond, Option, sym, ◌∙◌, subst, refl}
+use Rattle.std.proofs.Common.{◌≡◌, ℕ, ◌<◌, inl, inr, Bool, cond, Option, refl, arith}
 use Rattle.tag.specs.declared.tag.Tag.{Tag}
-use Rattle.tag.specs.Tag.{tag_eq}
 use Rattle.piece.specs.declared.piece.Piece.{Piece}
 use Rattle.bank.specs.declared.status.Status.{Status}
-use Rattle.bank.specs.declared.status.Status.TheVariants as status
 use Rattle.bank.specs.declared.status.Pointer.{Pointer}
-use Rattle.bank.specs.declared.status.Pointer.TheVariants.{Unset, Pending, Final}
 use Rattle.bank.specs.declared.request.Request.{Request}
 use Rattle.bank.specs.declared.request.Request.TheVariants as request
 use Rattle.bank.specs.Pointer.{raised}
 use Rattle.bank.specs.Bank.{Bank, pre_written, finalized}
 use Rattle.bank.specs.Collect.{collected, retired_bank}
 use Rattle.bank.specs.Serve.{served_bank}
-use Rattle.bank.specs.Knowledge.{came_by, since, final_step, finalized_at, arrived_at, pending_since, final_since, finals_above_at}
+use Rattle.bank.specs.Knowledge.{since, finalized_at, arrived_at, pending_since, final_since, finals_above_at}
 use Rattle.bank.proofs.CollectedBankLemmas.{finalized_at-collected, arrived_at-collected, count-collected}
 use Rattle.bank.proofs.RowChangeLemmas.{Comes, finalized_at-finalized, arrived_at-finalized, above-finalized, finalized_at-pre_written}
 use Rattle.bank.proofs.RowChangeLemmas.{arrived_at-pre_written, above-pre_written}
 
 pending-raised : (q : Pointer) (s : Status) (now : ℕ) → Comes now (pending_since q) (pending_since (raised q s now))
-pending-raised Unset status.Unset now = inl refl
-pending-raised Unset status.Pending now = inr refl
-pending-raised Unset status.Final now = inr refl
-pending-raised (Pending came) status.Unset now = inl refl
-pending-raised (Pending came) status.Pending now = inl refl
-pending-raised (Pending came) status.Final now = inl refl
-pending-raised (Final pending came) status.Unset now = inl refl
-pending-raised (Final pending came) status.Pending now = inl refl
-pending-raised (Final pending came) status.Final now = inl refl
+pending-raised q s now = grind arith
 
 final-raised : (q : Pointer) (s : Status) (now : ℕ) → Comes now (final_since q) (final_since (raised q s now))
-final-raised Unset status.Unset now = inl refl
-final-raised Unset status.Pending now = inl refl
-final-raised Unset status.Final now = inr refl
-final-raised (Pending came) status.Unset now = inl refl
-final-raised (Pending came) status.Pending now = inl refl
-final-raised (Pending came) status.Final now = inr refl
-final-raised (Final pending came) status.Unset now = inl refl
-final-raised (Final pending came) status.Pending now = inl refl
-final-raised (Final pending came) status.Final now = inl refl
+final-raised q s now = grind arith
 
 -- each step that the old bank keeps stays in the new one, or comes now
 pub record Grows (now : ℕ) (old new : Bank) : Type 0 where
@@ -51,54 +32,20 @@ pub record Grows (now : ℕ) (old new : Bank) : Type 0 where
   pub above : (tag : Tag) (step : ℕ) → step < now → finals_above_at new tag step ≡ finals_above_at old tag step
 
 either : (now : ℕ) (old new : Option ℕ) (c : Bool) → new ≡ cond c (since old now) old → Comes now old new
-either now old new true is = inr is
-either now old new false is = inl is
+either now old new c is = grind arith
 
 grows_same : (b : Bank) (now : ℕ) → Grows now b b
-grows_same b now = record {
-  finalized = λ tag. inl refl;
-  arrived = λ tag. inl refl;
-  pending = inl refl;
-  final = inl refl;
-  retired = inl refl;
-  delta = refl;
-  above = λ tag step past. refl;
-}
+grows_same b now = grind arith
 
 pub grows_finalized : (b : Bank) (tag : Tag) (now : ℕ) → Grows now b (finalized b tag now)
-grows_finalized b tag now = record {
-  finalized = λ t. either now (finalized_at b t) (finalized_at (finalized b tag now) t) (tag_eq t tag) (finalized_at-finalized b tag now t);
-  arrived = λ t. inl (arrived_at-finalized b tag now t);
-  pending = inl refl;
-  final = inl refl;
-  retired = inl refl;
-  delta = refl;
-  above = λ t step past. above-finalized b tag now t step past;
-}
+grows_finalized b tag now = grind (arith, above-finalized, arrived_at-finalized, either, finalized_at-finalized)
 
 grows_pre_written : (b : Bank) (tag : Tag) (piece : Piece) (now : ℕ) → Grows now b (pre_written b tag piece now)
-grows_pre_written b tag piece now = record {
-  finalized = λ t. inl (finalized_at-pre_written b tag now t piece);
-  arrived = λ t. either now (arrived_at b t) (arrived_at (pre_written b tag piece now) t) (tag_eq t tag)
-      (arrived_at-pre_written b tag now t piece);
-  pending = inl refl;
-  final = inl refl;
-  retired = inl refl;
-  delta = refl;
-  above = λ t step past. above-pre_written b tag now t piece step;
-}
+grows_pre_written b tag piece now = grind (arith, above-pre_written, arrived_at-pre_written, either, finalized_at-pre_written)
 
 -- what is dropped changes no step
 pub grows_collected : (old new : Bank) (now : ℕ) → Grows now old new → Grows now old (collected new)
-grows_collected old new now grows = record {
-  finalized = λ t. subst (Comes now (finalized_at old t)) (sym (finalized_at-collected new t)) (grows.finalized t);
-  arrived = λ t. subst (Comes now (arrived_at old t)) (sym (arrived_at-collected new t)) (grows.arrived t);
-  pending = grows.pending;
-  final = grows.final;
-  retired = grows.retired;
-  delta = grows.delta;
-  above = λ t step past. count-collected new (λ l. came_by (final_step l) step) t ∙ grows.above t step past;
-}
+grows_collected old new now grows = grind (arith, arrived_at-collected, count-collected, finalized_at-collected)
 
 -- any request only adds what comes now
 pub served_grows : (b : Bank) (q : Request) (now : ℕ) → Grows now b (served_bank b q now)

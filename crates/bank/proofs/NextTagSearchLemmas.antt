@@ -1,6 +1,6 @@
 -- The next finalized tag, as a search in a range finds it.
 use Rattle.std.proofs.Common.{◌≡◌, Bool, true, false, cond, not, ◌&&◌, [], ◌∷◌, find, Option, Some, None, option_map, sym, ap, ◌∙◌, refl}
-use Rattle.std.proofs.Common.{MatchOption, IsSomeAnd}
+use Rattle.std.proofs.Common.{MatchOption, IsSomeAnd, arith}
 use Rattle.std.specs.declared.cmp.Ordering.{Ordering}
 use Rattle.std.specs.declared.cmp.Ordering.TheVariants.{Less, Equal, Greater}
 use Rattle.std.specs.declared.ops.Bound.TheVariants.{Included, Unbounded}
@@ -44,6 +44,4 @@ after-found tag (e ∷ es) = pick (tag_cmp tag e.0) refl (after-found tag es)
 pub next_mapped : {A : Type 0} (takes : A → Tag → Type 0) (shows : A → Tag × Row) (found : Option A) (tag : Option Tag)
     → ((x : A) (t : Tag) → takes x t → t ≡ (shows x).0) → MatchOption found (tag ≡ None) (λ x. IsSomeAnd tag (takes x))
     → tag ≡ option_map (λ (e : Tag × Row). e.0) (option_map shows found)
-next_mapped takes shows None tag each is = is
-next_mapped takes shows (Some x) None each is = absurd is
-next_mapped takes shows (Some x) (Some t) each is = ap (λ t. Some t) (each x t is)
+next_mapped takes shows found tag each is = grind arith

@@ -1,5 +1,5 @@
 -- A bank that is just opened, and one that is retired.
-use Rattle.std.proofs.Common.{◌≡◌, ℕ, ◌+◌, ◌%◌, ◌^◌, Bool, true, false, cond, ◌&&◌, ◌||◌, List, [], ◌∷◌, map, length, Option}
+use Rattle.std.proofs.Common.{◌≡◌, ℕ, ◌+◌, ◌%◌, ◌^◌, Bool, true, false, cond, ◌&&◌, List, [], ◌∷◌, map, length, Option}
 use Rattle.std.proofs.Common.{Some, None, is_some, option_map, sum_by, sym, ap, ◌∙◌, subst, refl, arith}
 use Rattle.std.specs.FinMap as map
 use Rattle.std.specs.BTreeMap.{is_at}
@@ -18,7 +18,7 @@ use Rattle.bank.specs.Bank.{Bank, opened_bank}
 use Rattle.bank.specs.Bytes.{entry_bytes, bank_bytes}
 use Rattle.bank.specs.Collect.{emptied_row, emptied_entry, kept_row, IsCollected, retired_bank}
 use Rattle.bank.specs.Kept.{bank_of, IsKeptBank}
-use Rattle.bank.specs.Knowledge.{since, row_finalized, finalized_at, is_finalized, finals_above, exceeds, is_dropped}
+use Rattle.bank.specs.Knowledge.{since, row_finalized, is_finalized, finals_above, is_dropped}
 use Rattle.bank.specs.Serve.{greatest_final}
 use Rattle.bank.specs.Window.{opened_windows, found_in, IsWindowed}
 use Rattle.bank.proofs.EntryCountLemmas.{one_if}
@@ -48,24 +48,10 @@ module _ (es fs : Rows) (point : ℕ) (delta : Option ℕ) (now : ℕ) (bytes : 
       (map.len-entries (map.from_sorted {R = tag_cmp} es) ∙ ap length (entries-rise es rise ∙ none))
 
   same_delta : option_map (λ (w : Window). w.delta) (opened_windows delta) ≡ delta
-  same_delta = pick delta
-    where
-      pick : (d : Option ℕ) → option_map (λ (w : Window). w.delta) (opened_windows d) ≡ d
-      pick None = refl
-      pick (Some d) = refl
+  same_delta = grind arith
 
   pub bank_opened : bank_of fs Unset (opened_windows delta) None ≡ opened_bank point delta now
-  bank_opened =
-      ap (λ m. let b : Bank = record {
-        rows = m;
-        pointer = Unset;
-        delta = option_map (λ (w : Window). w.delta) (opened_windows delta);
-        retired = None;
-      } in b)
-      (insert-rise es fs rise risen opening_tag (first_row point now bytes) updates
-      ∙ ap (λ m. map.insert m opening_tag (first_row point now bytes)) first
-      ∙ ap (λ bs. map.insert map.empty opening_tag (first_row point now bs)) empty)
-      ∙ ap (λ d. opened_bank point d now) same_delta
+  bank_opened = grind (arith, first, first_row, insert-rise, same_delta)
 
   final_opened : (t : Tag) → is_final_in fs t ≡ is_final (opened_bank point delta now) t
   final_opened t = sym (final_in fs risen Unset (opened_windows delta) None t) ∙ ap (λ b. is_final b t) bank_opened
@@ -95,12 +81,10 @@ module _ (es fs : Rows) (point : ℕ) (delta : Option ℕ) (now : ℕ) (bytes : 
 -- Retiring
 
 pub since-none : (r : Option ℕ) (now : ℕ) → is_some r ≡ false → since r now ≡ Some now
-since-none None now is = refl
-since-none (Some step) now is = absurd (cc)
+since-none r now is = grind arith
 
 pub since-some : (r : Option ℕ) (now : ℕ) → is_some r ≡ true → since r now ≡ r
-since-some None now is = absurd (cc)
-since-some (Some step) now is = refl
+since-some r now is = grind arith
 
 keys-emptied : (es : Rows) → keys_of (map emptied_entry es) ≡ keys_of es
 keys-emptied [] = refl
@@ -131,14 +115,7 @@ module _ (es gs : Rows) (p : Pointer) (w : Option Window) (r : Option ℕ) (g : 
   retires = bank_of es p w (since r now)
 
   gone : (t : Tag) → is_dropped retires t ≡ true
-  gone t = there r
-    where
-      there : (o : Option ℕ)
-          → (is_some (since o now)
-          || (is_some (finalized_at retires t) && exceeds (option_map (λ (w : Window). w.delta) w) (finals_above retires t)))
-          ≡ true
-      there None = refl
-      there (Some step) = refl
+  gone t = grind arith
 
   pub bank_retired : bank_of gs p w (since r now) ≡ retired_bank (bank_of es p w r) now
   bank_retired = collected_is retires (map.from_sorted gs) (λ t.

@@ -1,17 +1,17 @@
 -- A bank with delta has few pieces of finalized tags.
-use Rattle.std.proofs.Common.{◌≡◌, ℕ, suc, ◌+◌, ◌<◌, ◌≤◌, Bool, true, false, not, ◌&&◌, ◌||◌, [], ◌∷◌, length, get_or}
+use Rattle.std.proofs.Common.{◌≡◌, ℕ, suc, ◌+◌, ◌<◌, ◌≤◌, Bool, true, false, ◌&&◌, [], ◌∷◌, length, get_or}
 use Rattle.std.proofs.Common.{Some, is_some, count_by, sym, ap, ◌∙◌, refl, arith}
 use Rattle.std.specs.FinMap as map
 use Rattle.std.specs.FinMap.Entries.{below_all}
 use Rattle.std.specs.Ordering.{is_lt}
-use Rattle.std.proofs.lemmas.Bool.{and_parts, leb-false}
+use Rattle.std.proofs.lemmas.Bool.{and_parts}
 use Rattle.std.proofs.lemmas.List.Sums.{sum_by-cons}
 use Rattle.tag.specs.declared.tag.Tag.{Tag}
 use Rattle.tag.specs.Tag.{tag_cmp, tag_lt}
 use Rattle.bank.specs.declared.row.Row.{Row}
 use Rattle.bank.specs.Bank.{Bank, piece_of, piece_of_row}
 use Rattle.bank.specs.Collect.{IsCollected, final_pieces}
-use Rattle.bank.specs.Knowledge.{row_finalized, finalized_at, arrived_at, is_finalized, count_above, finals_above, exceeds, is_dropped}
+use Rattle.bank.specs.Knowledge.{row_finalized, finalized_at, is_finalized, count_above, finals_above}
 use Rattle.bank.proofs.EntryCountLemmas.{one_if}
 use Rattle.bank.proofs.EntryOrderLemmas.{Rows, find_sorted, t_true, is_lt-tag}
 
@@ -62,18 +62,7 @@ at_most delta (e ∷ es) sorted few =
 -- where a piece of a finalized tag is there, not too many are above it
 few_above : (b : Bank) (delta : ℕ) → IsCollected b → b.delta ≡ Some delta → (t : Tag) → is_some (finalized_at b t) ≡ true
     → is_some (piece_of b t) ≡ true → finals_above b t ≤ delta
-few_above b delta collected bounded t final has =
-    let parts = and_parts (is_some (arrived_at b t)) (not (is_dropped b t)) (sym (collected t) ∙ has) in
-    let few = leb-false (delta + 1) (finals_above b t)
-    (sym (inside (is_some b.retired) (is_some (finalized_at b t)) (exceeds b.delta (finals_above b t)) final parts.1
-    ∙ ap (λ d. exceeds d (finals_above b t)) bounded)) in
-    omega (arith, few)
-  where
-    inside : (r f e : Bool) → f ≡ true → not (r || (f && e)) ≡ true → false ≡ e
-    inside true f e is kept = absurd (cc)
-    inside false true true is kept = absurd (cc)
-    inside false true false is kept = refl
-    inside false false e is kept = absurd (cc)
+few_above b delta collected bounded t final has = grind arith
 
 pub few_kept : (b : Bank) (delta : ℕ) → IsCollected b → b.delta ≡ Some delta → final_pieces b ≤ delta + 1
 few_kept b delta collected bounded =

@@ -1,18 +1,16 @@
 -- The pieces that a bank has are those that are kept.
-use Rattle.std.proofs.Common.{◌≡◌, ℕ, ◌+◌, ◌≤◌, Bool, true, false, cond, not, ◌&&◌, ◌||◌, [], ◌∷◌, length}
-use Rattle.std.proofs.Common.{Option, Some, None, is_some, option_map, sym, ap, ◌∙◌, refl, arith}
+use Rattle.std.proofs.Common.{◌≡◌, ℕ, ◌≤◌, Bool, true, false, cond, not, ◌&&◌, ◌||◌, [], ◌∷◌, length}
+use Rattle.std.proofs.Common.{Option, Some, None, is_some, sym, ap, ◌∙◌, refl, arith}
 use Rattle.std.specs.FinMap as map
-use Rattle.std.proofs.lemmas.Bool.{le-leb, lt-leb, leb-true}
+use Rattle.std.proofs.lemmas.Bool.{and_right}
 use Rattle.tag.specs.declared.tag.Tag.{Tag}
-use Rattle.tag.specs.Tag.{tag_cmp, tag_lt, tag_eq, opening_tag}
+use Rattle.tag.specs.Tag.{tag_cmp, tag_eq, opening_tag}
 use Rattle.tag.proofs.TagOrderLemmas.{tag_eq-same, tag_eq-true}
 use Rattle.piece.specs.declared.piece.Piece.{Piece}
-use Rattle.bank.specs.declared.row.Arrival.{Arrival}
 use Rattle.bank.specs.declared.row.Row.{Row}
 use Rattle.bank.specs.declared.request.Request.{Request}
-use Rattle.bank.specs.declared.request.Request.TheVariants as request
-use Rattle.bank.specs.Bank.{Bank, opening_row, opened_bank, filled_arrival, row_after_pre_write, row_after_finalize, pre_written, finalized}
-use Rattle.bank.specs.Bank.{piece_of, piece_of_row, piece_that_came}
+use Rattle.bank.specs.Bank.{Bank, opening_row, opened_bank, row_after_pre_write, row_after_finalize, pre_written, finalized}
+use Rattle.bank.specs.Bank.{piece_of, piece_of_row}
 use Rattle.bank.specs.Knowledge.{since, final_step, row_finalized, row_arrived, finalized_at, arrived_at, count_above, finals_above}
 use Rattle.bank.specs.Knowledge.{exceeds}
 use Rattle.bank.specs.Knowledge.{is_dropped}
@@ -25,21 +23,18 @@ use Rattle.bank.proofs.CollectedBankLemmas.{arrived_at-collected, piece_of-colle
 use Rattle.bank.proofs.RowChangeLemmas.{get-with_row, all_rows, finalized_at-finalized}
 use Rattle.bank.proofs.RowChangeLemmas.{finals-finalized, finalized_at-pre_written, finals-pre_written}
 
-never : (c : Bool) → (c && false) ≡ false
-never true = refl
-never false = refl
-
 always : (c : Bool) → (c && true) ≡ c
-always true = refl
-always false = refl
+always c = grind arith
+
+since_there : (o : Option ℕ) (now : ℕ) → is_some (since o now) ≡ true
+since_there None now = refl
+since_there (Some step) now = refl
 
 -- Delta
 
 -- more greater tags exceed delta too
 pub exceeds_more : (delta : Option ℕ) (few many : ℕ) → few ≤ many → exceeds delta few ≡ true → exceeds delta many ≡ true
-exceeds_more None few many more is = is
-exceeds_more (Some delta) few many more is =
-    le-leb (delta + 1) many (let least = leb-true (delta + 1) few is in omega (arith, least, more))
+exceeds_more delta few many more is = grind arith
 
 -- What is dropped
 
@@ -47,82 +42,32 @@ exceeds_more (Some delta) few many more is =
 pub dropped_final : (b : Bank) (t : Tag) → is_some (finalized_at b t) ≡ true → is_dropped b t ≡ is_outside b t
 dropped_final b t final = ap (λ c. is_some b.retired || (c && exceeds b.delta (finals_above b t))) final
 
--- a tag that is dropped would be so once it is finalized
-pub dropped_outside : (b : Bank) (t : Tag) → is_dropped b t ≡ true → is_outside b t ≡ true
-dropped_outside b t = either (is_some b.retired) (is_some (finalized_at b t)) (exceeds b.delta (finals_above b t))
-  where
-    either : (r f e : Bool) → (r || (f && e)) ≡ true → (r || e) ≡ true
-    either true f e is = refl
-    either false true e is = is
-    either false false e is = absurd (cc)
-
 module _ (b : Bank) (tag : Tag) (now : ℕ) where
   finals_more : (t : Tag) → finals_above b t ≤ finals_above (finalized b tag now) t
-  finals_more t =
-      let all = finals-finalized b tag now t in
-      let fewer = less (tag_lt t tag) (is_some (finalized_at b tag)) in
-      omega (arith, all, fewer)
-    where
-      less : (c d : Bool) → one_if (c && d) ≤ one_if c
-      less true true = omega arith
-      less true false = omega arith
-      less false d = omega arith
+  finals_more t = grind (arith, finals-finalized, one_if)
 
   pub stays : (t : Tag) → is_some (finalized_at b t) ≡ true → is_some (finalized_at (finalized b tag now) t) ≡ true
-  stays t final = ap is_some (finalized_at-finalized b tag now t) ∙ pick (tag_eq t tag) (finalized_at b t) final
-    where
-      pick : (c : Bool) (o : Option ℕ) → is_some o ≡ true → is_some (cond c (since o now) o) ≡ true
-      pick true None final = refl
-      pick true (Some step) final = refl
-      pick false o final = final
+  stays t final = grind (arith, finalized_at-finalized)
 
   -- what was dropped stays so
   pub dropped-finalized : (t : Tag) → is_dropped b t ≡ true → is_dropped (finalized b tag now) t ≡ true
-  dropped-finalized t =
-      either (is_some b.retired) (is_some (finalized_at b t)) (exceeds b.delta (finals_above b t))
-      (is_some (finalized_at (finalized b tag now) t)) (exceeds b.delta (finals_above (finalized b tag now) t)) (stays t)
-      (exceeds_more b.delta (finals_above b t) (finals_above (finalized b tag now) t) (finals_more t))
-    where
-      either : (r f e g h : Bool) → (f ≡ true → g ≡ true) → (e ≡ true → h ≡ true) → (r || (f && e)) ≡ true → (r || (g && h)) ≡ true
-      either true f e g h first second is = refl
-      either false true true g h first second is = ap (λ g. g && h) (first refl) ∙ second refl
-      either false true false g h first second is = absurd (cc)
-      either false false e g h first second is = absurd (cc)
+  dropped-finalized t = grind (arith, exceeds_more, finals_more, stays)
 
   pub final_itself : is_some (finalized_at (finalized b tag now) tag) ≡ true
-  final_itself = ap is_some (finalized_at-finalized b tag now tag
-      ∙ ap (λ c. cond c (since (finalized_at b tag) now) (finalized_at b tag)) (tag_eq-same tag)) ∙ there (finalized_at b tag)
-    where
-      there : (o : Option ℕ) → is_some (since o now) ≡ true
-      there None = refl
-      there (Some step) = refl
+  final_itself = grind (arith, finalized_at-finalized, tag_eq-same)
 
   -- the tag itself is dropped where it would have been
   pub dropped_itself : is_dropped (finalized b tag now) tag ≡ is_outside b tag
-  dropped_itself =
-      dropped_final (finalized b tag now) tag final_itself
-      ∙ ap (λ n. is_some b.retired || exceeds b.delta n) (
-      let all = finals-finalized b tag now tag in
-      let none = ap (λ c. one_if (c && is_some (finalized_at b tag))) (lt-same tag) in
-      let nought = ap (λ c. one_if c) (lt-same tag) in
-      omega (arith, all, none, nought))
+  dropped_itself = grind (arith, dropped_final, final_itself, finals-finalized, lt-same, one_if)
 
   pub dropped-pre_written : (p : Piece) (t : Tag) → is_dropped (pre_written b tag p now) t ≡ is_dropped b t
-  dropped-pre_written p t =
-      ap (λ o. is_some b.retired || (is_some o && exceeds b.delta (finals_above (pre_written b tag p now) t)))
-      (finalized_at-pre_written b tag now t p)
-      ∙ ap (λ n. is_some b.retired || (is_some (finalized_at b t) && exceeds b.delta n)) (finals-pre_written b tag now t p)
+  dropped-pre_written p t = grind (arith, finalized_at-pre_written, finals-pre_written)
 
 -- The bank has just the pieces that are kept
 
 -- none that is dropped
 pub no_piece : (b : Bank) → IsCollected b → (t : Tag) → is_dropped b t ≡ true → piece_of b t ≡ None
-no_piece b is t dropped = empty (piece_of b t)
-    (is t ∙ ap (λ d. is_some (arrived_at b t) && not d) dropped ∙ never (is_some (arrived_at b t)))
-  where
-    empty : (o : Option Piece) → is_some o ≡ false → o ≡ None
-    empty None is = refl
-    empty (Some p) is = absurd (cc)
+no_piece b is t dropped = grind arith
 
 -- where one is kept, it is there if it came
 abbrev HasKept : Bank → Tag → Option Row → Type 0
@@ -133,33 +78,18 @@ has_kept b is t kept = is t ∙ ap (λ d. is_some (arrived_at b t) && not d) kep
 
 -- so it is once the others are dropped
 collected_has : (u : Bank) → ((t : Tag) → HasKept u t (map.get u.rows t)) → IsCollected (collected u)
-collected_has u has t =
-    ap is_some (piece_of-collected u t)
-    ∙ elim (is_dropped u t) as (λ d. is_dropped u t ≡ d → is_some (cond d None (piece_of u t)) ≡ (is_some (arrived_at u t) && not d)) [
-      | true ↦ λ _. sym (never (is_some (arrived_at u t)))
-      | false ↦ λ kept. has t kept ∙ sym (always (is_some (arrived_at u t)))
-    ] refl
-    ∙ ap (λ o. is_some o && not (is_dropped u t)) (sym (arrived_at-collected u t))
-    ∙ ap (λ d. is_some (arrived_at (collected u) t) && not d) (sym (is_dropped-collected u t))
+collected_has u has t = grind (arith, always, arrived_at-collected, is_dropped-collected, and_right, piece_of-collected)
 
 finalize_has : (o : Option Row) (now : ℕ) → is_some (piece_of_row o) ≡ is_some (row_arrived o)
     → is_some (piece_of_row (Some (row_after_finalize o now))) ≡ is_some (row_arrived (Some (row_after_finalize o now)))
-finalize_has None now has = refl
-finalize_has (Some r) now has = has
+finalize_has o now has = grind arith
 
 pre_write_has : (o : Option Row) (p : Piece) (now : ℕ) → is_some (piece_of_row o) ≡ is_some (row_arrived o)
     → is_some (piece_of_row (Some (row_after_pre_write o p now))) ≡ is_some (row_arrived (Some (row_after_pre_write o p now)))
-pre_write_has None p now has = refl
-pre_write_has (Some r) p now has = arrival r.arrival has
-  where
-    arrival : (a : Option Arrival) → is_some (piece_that_came a) ≡ is_some (option_map (λ a. a.step) a)
-        → is_some (piece_that_came (filled_arrival a p now)) ≡ is_some (option_map (λ a. a.step) (filled_arrival a p now))
-    arrival None has = refl
-    arrival (Some a) has = has
+pre_write_has o p now has = grind arith
 
 not_before : (a b : Bool) → (a ≡ true → b ≡ true) → b ≡ false → a ≡ false
-not_before true b grows is = absurd (let no : false ≡ true = sym is ∙ grows refl in cc)
-not_before false b grows is = refl
+not_before a b grows is = grind arith
 
 pub collected-finalized : (b : Bank) (tag : Tag) (now : ℕ) → IsCollected b → IsCollected (collected (finalized b tag now))
 collected-finalized b tag now is = collected_has (finalized b tag now) (λ t kept.
@@ -174,12 +104,7 @@ collected-pre_written b tag p now is = collected_has (pre_written b tag p now) (
 
 -- and after any request
 pub served_collected : (b : Bank) (q : Request) (now : ℕ) → IsCollected b → IsCollected (served_bank b q now)
-served_collected b request.Next now is = is
-served_collected b (request.Spread s) now is = is
-served_collected b request.Query now is = is
-served_collected b (request.PreWrite tag p) now is = collected-pre_written b tag p now is
-served_collected b (request.Finalize tag) now is = collected-finalized b tag now is
-served_collected b (request.Fetch tag) now is = collected-finalized b tag now is
+served_collected b q now is = grind (arith, collected-finalized, collected-pre_written)
 
 -- and once it is retired
 pub retired_collected : (b : Bank) (now : ℕ) → IsCollected (retired_bank b now)
@@ -187,12 +112,8 @@ retired_collected b now =
     let u : Bank = record { rows = b.rows; pointer = b.pointer; delta = b.delta; retired = since b.retired now } in
     collected_has u (λ t kept. absurd (
     let gone : is_dropped u t ≡ true =
-    ap (λ c. c || (is_some (finalized_at b t) && exceeds b.delta (finals_above u t))) (there b.retired) in
+    ap (λ c. c || (is_some (finalized_at b t) && exceeds b.delta (finals_above u t))) (since_there b.retired now) in
     let no : false ≡ true = sym kept ∙ gone in cc))
-  where
-    there : (o : Option ℕ) → is_some (since o now) ≡ true
-    there None = refl
-    there (Some step) = refl
 
 -- a bank that is just opened has its one piece
 module _ (point : ℕ) (delta : Option ℕ) (now : ℕ) where
@@ -208,8 +129,7 @@ module _ (point : ℕ) (delta : Option ℕ) (now : ℕ) where
       omega (arith, all, none)
 
   kept : (delta : Option ℕ) (n : ℕ) → n ≡ 0 → exceeds delta n ≡ false
-  kept None n is = refl
-  kept (Some d) n is = lt-leb (d + 1) n (omega (arith, is))
+  kept delta n is = grind arith
 
   pub opened_collected : IsCollected (opened_bank point delta now)
   opened_collected t =

@@ -1,15 +1,13 @@
 -- The answer to a request at a step after all that a bank keeps is true of the bank that it leaves.
-use Rattle.std.proofs.Common.{◌≡◌, ℕ, suc, ◌<◌, Bool, true, false, cond, Option, Some, None, IsSome, is_some, sym, ap, ◌∙◌, subst}
+use Rattle.std.proofs.Common.{◌≡◌, ℕ, suc, ◌<◌, Bool, true, false, cond, Option, Some, None, IsSome, sym, ap, ◌∙◌, subst}
 use Rattle.std.proofs.Common.{◌&&◌, ◌||◌, refl, arith}
 use Rattle.std.specs.FinMap as map
+use Rattle.std.proofs.lemmas.Option.{same_Some}
 use Rattle.tag.specs.declared.tag.Tag.{Tag}
 use Rattle.tag.specs.Tag.{tag_cmp, tag_eq, opening_tag}
 use Rattle.tag.proofs.TagOrderLemmas.{tag_eq-same}
 use Rattle.bank.specs.declared.row.Row.{Row}
 use Rattle.bank.specs.declared.status.Status.{Status}
-use Rattle.bank.specs.declared.status.Status.TheVariants as status
-use Rattle.bank.specs.declared.status.Pointer.{Pointer}
-use Rattle.bank.specs.declared.status.Pointer.TheVariants.{Unset, Pending, Final}
 use Rattle.bank.specs.declared.reply.Answer.{Answer}
 use Rattle.bank.specs.declared.request.Request.{Request}
 use Rattle.bank.specs.declared.request.Request.TheVariants as request
@@ -17,7 +15,7 @@ use Rattle.bank.specs.Pointer.{status_of, raised}
 use Rattle.bank.specs.Bank.{Bank, opening_row, opened_bank, pre_written, finalized, with_pointer}
 use Rattle.bank.specs.Collect.{collected, IsCollected}
 use Rattle.bank.specs.Serve.{kind_of, served_bank, answer_to, greatest_final}
-use Rattle.bank.specs.Knowledge.{came_by, since, row_finalized, row_arrived, finalized_at, arrived_at, pending_since, final_since}
+use Rattle.bank.specs.Knowledge.{came_by, since, row_finalized, row_arrived, finalized_at, arrived_at}
 use Rattle.bank.specs.Knowledge.{pointer_at, status_le, finals_above_at, exceeds}
 use Rattle.bank.specs.Knowledge.{HasFinalized, IsTrueAnswer}
 use Rattle.bank.specs.Facts.{IsEarlier, IsBefore, SameBefore, IsServed}
@@ -26,17 +24,13 @@ use Rattle.bank.proofs.FetchTruthLemmas.{fetched_truth}
 use Rattle.bank.proofs.GreatestTagLemmas.{greatest_final_is}
 use Rattle.bank.proofs.MonotoneLemmas.{Grows, grows_finalized, served_grows}
 use Rattle.bank.proofs.PieceRetentionLemmas.{served_collected}
-use Rattle.bank.proofs.RowChangeLemmas.{earlier_by, since_by, comes_past, comes_earlier, finalized_at-finalized}
+use Rattle.bank.proofs.RowChangeLemmas.{earlier_by, since_by, comes_past, finalized_at-finalized}
 use Rattle.bank.proofs.RowChangeLemmas.{arrived_at-pre_written}
 use Rattle.bank.proofs.RowChangeLemmas.{get-with_row}
 
 -- what the pointer said at a step before now
 same_pointer : (old new : Bank) (now : ℕ) → Grows now old new → (step : ℕ) → step < now → pointer_at new step ≡ pointer_at old step
-same_pointer old new now grows step past =
-    ap (λ c. cond c status.Final (cond (came_by (pending_since new.pointer) step) status.Pending status.Unset))
-    (comes_past now (final_since old.pointer) (final_since new.pointer) grows.final step past)
-    ∙ ap (λ c. cond (came_by (final_since old.pointer) step) status.Final (cond c status.Pending status.Unset))
-    (comes_past now (pending_since old.pointer) (pending_since new.pointer) grows.pending step past)
+same_pointer old new now grows step past = grind arith
 
 -- what only grows now was the same before
 pub grows_past : (old new : Bank) (now : ℕ) → Grows now old new → SameBefore old new now
@@ -54,57 +48,16 @@ grows_past old new now grows = record {
 }
 
 pub grows_order : (old new : Bank) (now later : ℕ) → Grows now old new → now < later → IsBefore old now → IsBefore new later
-grows_order old new now later grows after before = record {
-  finalized =
-      λ tag. comes_earlier now (finalized_at old tag) (finalized_at new tag) (grows.finalized tag) later after (before.finalized tag);
-  arrived = λ tag. comes_earlier now (arrived_at old tag) (arrived_at new tag) (grows.arrived tag) later after (before.arrived tag);
-  pending = comes_earlier now (pending_since old.pointer) (pending_since new.pointer) grows.pending later after before.pending;
-  final = comes_earlier now (final_since old.pointer) (final_since new.pointer) grows.final later after before.final;
-  retired = comes_earlier now old.retired new.retired grows.retired later after before.retired;
-}
+grows_order old new now later grows after before = grind arith
 
 -- the pointer says now what it has
 pointer_now : (b : Bank) (now : ℕ) → IsBefore b now → pointer_at b now ≡ status_of b.pointer
-pointer_now b now before =
-    ap (λ c. cond c status.Final (cond (came_by (pending_since b.pointer) now) status.Pending status.Unset))
-    (earlier_by (final_since b.pointer) now before.final)
-    ∙ ap (λ c. cond (is_some (final_since b.pointer)) status.Final (cond c status.Pending status.Unset))
-    (earlier_by (pending_since b.pointer) now before.pending)
-    ∙ has b.pointer
-  where
-    has : (q : Pointer)
-        → cond (is_some (final_since q)) status.Final (cond (is_some (pending_since q)) status.Pending status.Unset) ≡ status_of q
-    has Unset = refl
-    has (Pending came) = refl
-    has (Final pending came) = refl
-
-at_least : (s : Status) (c d : Bool) → (s ≡ status.Final → c ≡ true) → (s ≡ status.Pending → d ≡ true)
-    → status_le s (cond c status.Final (cond d status.Pending status.Unset)) ≡ true
-at_least status.Unset c d final pending = refl
-at_least status.Pending true d final pending = refl
-at_least status.Pending false d final pending = ap (λ d. status_le status.Pending (cond d status.Pending status.Unset)) (pending refl)
-at_least status.Final c d final pending =
-    ap (λ c. status_le status.Final (cond c status.Final (cond d status.Pending status.Unset))) (final refl)
+pointer_now b now before = grind arith
 
 -- a pointer that is raised reaches the status
 raised_reaches : (b : Bank) (s : Status) (now : ℕ) → IsBefore b now
     → status_le s (pointer_at (with_pointer b (raised b.pointer s now)) now) ≡ true
-raised_reaches b s now before =
-    at_least s (came_by (final_since (raised b.pointer s now)) now) (came_by (pending_since (raised b.pointer s now)) now)
-    (λ is. ap (λ s. came_by (final_since (raised b.pointer s now)) now) is ∙ ap (λ o. came_by o now) (at_final b.pointer)
-    ∙ since_by (final_since b.pointer) now before.final)
-    (λ is. ap (λ s. came_by (pending_since (raised b.pointer s now)) now) is ∙ ap (λ o. came_by o now) (at_pending b.pointer)
-    ∙ since_by (pending_since b.pointer) now before.pending)
-  where
-    at_final : (q : Pointer) → final_since (raised q status.Final now) ≡ since (final_since q) now
-    at_final Unset = refl
-    at_final (Pending came) = refl
-    at_final (Final pending came) = refl
-
-    at_pending : (q : Pointer) → pending_since (raised q status.Pending now) ≡ since (pending_since q) now
-    at_pending Unset = refl
-    at_pending (Pending came) = refl
-    at_pending (Final pending came) = refl
+raised_reaches b s now before = grind arith
 
 finalized_now : (b : Bank) (tag : Tag) (now : ℕ) → IsBefore b now → HasFinalized (collected (finalized b tag now)) tag now
 finalized_now b tag now before =
@@ -160,9 +113,6 @@ opened_before point delta now later after = record {
   retired = λ step is. absurd (cc);
 }
   where
-    some_inj : (x y : ℕ) → Some x ≡ Some y → x ≡ y
-    some_inj x y same = cc
-
     first : (g : Option Row → Option ℕ) → g (Some (opening_row point now)) ≡ Some now → (tag : Tag) → g None ≡ None
         → IsEarlier (g (map.get (opened_bank point delta now).rows tag)) later
     first g here tag none step is =
@@ -170,5 +120,5 @@ opened_before point delta now later after = record {
       where
         pick : (c : Bool) → g (cond c (Some (opening_row point now)) (map.get (map.empty {X =
             Row} {R = tag_cmp}) tag)) ≡ Some step → step < later
-        pick true is = let now_is = some_inj now step (sym here ∙ is) in omega arith
+        pick true is = let now_is = same_Some now step (sym here ∙ is) in omega arith
         pick false is = absurd (let no : None ≡ Some step = sym none ∙ sym (ap g (map.get-empty tag_cmp tag)) ∙ is in cc)

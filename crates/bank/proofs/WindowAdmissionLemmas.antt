@@ -2,8 +2,9 @@
 use Rattle.std.proofs.Common.{◌≡◌, ℕ, ◌+◌, ◌<◌, ◌≤◌, ◌⊎◌, inl, inr, Bool, true, false, cond, ◌&&◌, Option, Some, None, sym, ap, ◌∙◌}
 use Rattle.std.proofs.Common.{subst, refl, arith}
 use Rattle.std.specs.Prelude.{◌==◌, nat_lt}
-use Rattle.std.proofs.lemmas.Bool.{and_parts}
+use Rattle.std.proofs.lemmas.Bool.{and_parts, and_from}
 use Rattle.std.proofs.lemmas.Bool.Decides.{nat_tests}
+use Rattle.std.proofs.lemmas.Option.{same_Some}
 use Rattle.tag.specs.declared.tag.Tag.{Tag}
 use Rattle.tag.specs.Tag.{tag_lt}
 use Rattle.tag.proofs.TagOrderLemmas.{same_tag}
@@ -51,11 +52,7 @@ module _ (es fs : Rows) (w : Window) (tag : Tag) (is : IsWindow es w) (f : Final
   none_below short t final = is.full short t final
 
   apart : tag_lt tag w.least ≡ false → tag_lt w.least tag ≡ true
-  apart above_it = pick (tag_lt w.least tag) refl
-    where
-      pick : (c : Bool) → tag_lt w.least tag ≡ c → c ≡ true
-      pick true less = refl
-      pick false same = absurd (clash (sym f.fresh ∙ ap (is_final_in es) (same_tag tag w.least above_it same) ∙ is.least))
+  apart above_it = grind arith
 
   -- a window that is not full, and a tag below its least
   lower : w.above < w.delta → tag_lt tag w.least ≡ true
@@ -88,61 +85,11 @@ module _ (es fs : Rows) (w : Window) (tag : Tag) (is : IsWindow es w) (f : Final
   -- a window that is not full, and a tag above its least
   higher : w.above < w.delta → tag_lt tag w.least ≡ false
       → IsAdmitted es fs w (record { delta = w.delta; least = w.least; above = w.above + 1 }, None)
-  higher short above_it = record {
-    window = record {
-      least = f.stays w.least is.least;
-      above =
-          let count = f.count w.least in
-          let one = ap (λ c. one_if c) (apart above_it) in
-          let known = is.above in
-          omega (arith, count, one, known);
-      fits = omega (arith, short);
-      full = λ _ t final. first t (f.others t final);
-    };
-    delta = refl;
-    gone = λ t e. absurd (cc);
-    only = λ t final out.
-        absurd (clash (sym (first t (f.others t final)) ∙ (and_parts (w.above + 1 == w.delta) (tag_lt t w.least) out).1));
-  }
-    where
-      first : (t : Tag) → (t ≡ tag) ⊎ (is_final_in es t ≡ true) → tag_lt t w.least ≡ false
-      first t (inl same) = ap (λ t. tag_lt t w.least) same ∙ above_it
-      first t (inr final) = none_below short t final
+  higher short above_it = grind arith
 
   -- a full window, and a tag below its least
   outside : w.above ≡ w.delta → tag_lt tag w.least ≡ true → IsAdmitted es fs w (w, Some tag)
-  outside is_full below = record {
-    window = record {
-      least = f.stays w.least is.least;
-      above =
-          let count = f.count w.least in
-          let none = ap (λ c. one_if c) (lt-not tag w.least below) in
-          let known = is.above in
-          omega (arith, count, none, known);
-      fits = is.fits;
-      full = λ short t final. absurd (let less = short in omega (arith, less, is_full));
-    };
-    delta = refl;
-    gone = λ t e. (
-      subst (λ t. is_final_in fs t ≡ true) (some_inj tag t e) f.new,
-      subst (λ t. excludes w t ≡ true) (some_inj tag t e)
-          (both (w.above == w.delta) (tag_lt tag w.least) (is_equal w.above w.delta is_full) below),
-    );
-    only = λ t final out. which t out (f.others t final);
-  }
-    where
-      some_inj : (s t : Tag) → Some s ≡ Some t → s ≡ t
-      some_inj s t same = cc
-
-      both : (a b : Bool) → a ≡ true → b ≡ true → (a && b) ≡ true
-      both true true first second = refl
-      both true false first second = absurd (cc)
-      both false b first second = absurd (cc)
-
-      which : (t : Tag) → excludes w t ≡ true → (t ≡ tag) ⊎ (is_final_in es t ≡ true)
-          → (Some tag ≡ Some t) ⊎ ((is_final_in es t ≡ true) × (excludes w t ≡ true))
-      which t out (inl same) = inl (ap (λ t. Some t) (sym same))
-      which t out (inr final) = inr (final, out)
+  outside is_full below = grind arith
 
   -- a full window, and a tag above its least: that falls out, and the next finalized one becomes the least
   moved : w.above ≡ w.delta → tag_lt tag w.least ≡ false → (next : Option Tag) → final_after w.least fs ≡ next
@@ -166,22 +113,14 @@ module _ (es fs : Rows) (w : Window) (tag : Tag) (is : IsWindow es w) (f : Final
     };
     delta = refl;
     gone = λ t e. (
-      subst (λ t. is_final_in fs t ≡ true) (some_inj w.least t e) (f.stays w.least is.least),
-      subst (λ t. (w.above == w.delta && tag_lt t next) ≡ true) (some_inj w.least t e)
-          (both (w.above == w.delta) (tag_lt w.least next) (is_equal w.above w.delta is_full) (after_above w.least next fs found)),
+      subst (λ t. is_final_in fs t ≡ true) (same_Some w.least t e) (f.stays w.least is.least),
+      subst (λ t. (w.above == w.delta && tag_lt t next) ≡ true) (same_Some w.least t e)
+          (and_from (w.above == w.delta) (tag_lt w.least next) (is_equal w.above w.delta is_full) (after_above w.least next fs found)),
     );
     only = λ t final out. which t final (and_parts (w.above == w.delta) (tag_lt t next) out).1 (tag_lt w.least t) refl
         (tag_lt t w.least) refl;
   }
     where
-      some_inj : (s t : Tag) → Some s ≡ Some t → s ≡ t
-      some_inj s t same = cc
-
-      both : (a b : Bool) → a ≡ true → b ≡ true → (a && b) ≡ true
-      both true true first second = refl
-      both true false first second = absurd (cc)
-      both false b first second = absurd (cc)
-
       next_final : is_final_in fs next ≡ true
       next_final = after_final_in w.least next fs f.risen found
 
@@ -200,7 +139,7 @@ module _ (es fs : Rows) (w : Window) (tag : Tag) (is : IsWindow es w) (f : Final
       which t final less false least true below =
           inr (
             old t below (f.others t final),
-            both (w.above == w.delta) (tag_lt t w.least) (is_equal w.above w.delta is_full) below,
+            and_from (w.above == w.delta) (tag_lt t w.least) (is_equal w.above w.delta is_full) below,
           )
       which t final less false least false same = inl (ap (λ t. Some t) (same_tag w.least t least same))
 

@@ -2,7 +2,7 @@
 use Rattle.std.proofs.Common.{◌≡◌, ℕ, ◌+◌, ◌⊎◌, inl, inr, Bool, true, false, cond, not, ◌&&◌, ◌||◌, Option, Some, None}
 use Rattle.std.proofs.Common.{is_some}
 use Rattle.std.proofs.Common.{option_map, sym, ap, ◌∙◌, refl, arith}
-use Rattle.std.proofs.lemmas.Bool.{and_parts}
+use Rattle.std.proofs.lemmas.Bool.{and_parts, and_from, not-false, not-true}
 use Rattle.tag.specs.declared.tag.Tag.{Tag}
 use Rattle.tag.specs.Tag.{tag_lt, tag_eq}
 use Rattle.tag.proofs.TagOrderLemmas.{tag_eq-true}
@@ -23,8 +23,7 @@ use Rattle.bank.proofs.WindowAdmissionLemmas.{Finalizes, admits}
 -- a window excludes what has more final tags above it than delta
 pub exceeds_is : (es : Rows) → Rise es → (w : Option Window) (t : Tag) → IsWindowed es w
     → exceeds (option_map (λ (w : Window). w.delta) w) (above t es) ≡ is_excluded w t
-exceeds_is es rise None t windowed = refl
-exceeds_is es rise (Some w) t windowed = sym (excludes_is es w rise windowed t)
+exceeds_is es rise w t windowed = grind (arith, excludes_is)
 
 module _ (es : Rows) (rise : Rise es) (p : Pointer) (w : Option Window) (r : Option ℕ) (t : Tag) where
   pub final_in : is_some (finalized_at (bank_of es p w r) t) ≡ is_final_in es t
@@ -35,17 +34,7 @@ module _ (es : Rows) (rise : Rise es) (p : Pointer) (w : Option Window) (r : Opt
 
   -- what is dropped, by the window
   pub dropped_is : IsWindowed es w → is_dropped (bank_of es p w r) t ≡ (is_some r || (is_excluded w t && is_final_in es t))
-  dropped_is windowed =
-      ap (λ f. is_some r || (f && exceeds (option_map (λ (w : Window). w.delta) w) (finals_above (bank_of es p w r) t))) final_in
-      ∙ ap (λ n. is_some r || (is_final_in es t && exceeds (option_map (λ (w : Window). w.delta) w) n)) above_in
-      ∙ ap (λ e. is_some r || (is_final_in es t && e)) (exceeds_is es rise w t windowed)
-      ∙ ap (λ b. is_some r || b) (turned (is_final_in es t) (is_excluded w t))
-    where
-      turned : (a b : Bool) → (a && b) ≡ (b && a)
-      turned true true = refl
-      turned true false = refl
-      turned false true = refl
-      turned false false = refl
+  dropped_is windowed = grind (arith, above_in, exceeds_is, final_in, is_final_in)
 
 -- entries with the same final tags have the same window
 pub windowed_same : (es fs : Rows) (w : Option Window) → ((t : Tag) → is_final_in fs t ≡ is_final_in es t)
@@ -65,11 +54,6 @@ pub record IsAfter (es fs : Rows) (w : Option Window) (made : Option Window × O
   pub gone : (t : Tag) → made.1 ≡ Some t → (is_excluded made.0 t && is_final_in fs t) ≡ true
   pub only : (t : Tag) → (is_excluded made.0 t && is_final_in fs t) ≡ true
       → (made.1 ≡ Some t) ⊎ ((is_excluded w t && is_final_in es t) ≡ true)
-
-both : (a b : Bool) → a ≡ true → b ≡ true → (a && b) ≡ true
-both true true first second = refl
-both true false first second = absurd (cc)
-both false b first second = absurd (cc)
 
 module _ (es fs : Rows) (rise : Rise es) (risen : Rise fs) (p : Pointer) (w : Option Window) (r : Option ℕ) (tag : Tag) (now : ℕ)
     (bank : bank_of fs p w r ≡ finalized (bank_of es p w r) tag now) where
@@ -128,33 +112,12 @@ module _ (es fs : Rows) (rise : Rise es) (risen : Rise fs) (p : Pointer) (w : Op
       pick false other = refl
 
   counts_same : is_final_in es tag ≡ true → (t : Tag) → above t fs ≡ above t es
-  counts_same known t =
-      let all = count_after t in
-      let one = ap (λ f. one_if (tag_lt t tag && f)) known ∙ ap (λ c. one_if c) (always (tag_lt t tag)) in
-      omega (arith, all, one)
-    where
-      always : (c : Bool) → (c && true) ≡ c
-      always true = refl
-      always false = refl
+  counts_same known t = grind (arith, count_after, one_if)
 
   -- in each case
   pub after : (anew : Bool) → anew ≡ not (is_final_in es tag) → IsWindowed es w → IsAfter es fs w (after_final w anew fs tag)
   after anew is windowed = cases w anew is windowed
     where
-      known : not (is_final_in es tag) ≡ false → is_final_in es tag ≡ true
-      known e = pick (is_final_in es tag) refl e
-        where
-          pick : (c : Bool) → is_final_in es tag ≡ c → not c ≡ false → c ≡ true
-          pick true is e = refl
-          pick false is e = absurd (cc)
-
-      fresh : not (is_final_in es tag) ≡ true → is_final_in es tag ≡ false
-      fresh e = pick (is_final_in es tag) e
-        where
-          pick : (c : Bool) → not c ≡ true → c ≡ false
-          pick true e = absurd (cc)
-          pick false e = refl
-
       cases : (v : Option Window) (anew : Bool) → anew ≡ not (is_final_in es tag) → IsWindowed es v
           → IsAfter es fs v (after_final v anew fs tag)
       cases None anew is windowed = record {
@@ -164,17 +127,18 @@ module _ (es fs : Rows) (rise : Rise es) (risen : Rise fs) (p : Pointer) (w : Op
         only = λ t e. absurd (cc);
       }
       cases (Some v) false is windowed = record {
-        windowed = windowed_same es fs (Some v) (finals_same (known (sym is))) (counts_same (known (sym is))) windowed;
+        windowed = let known = not-false (is_final_in es tag) (sym is) in
+            windowed_same es fs (Some v) (finals_same known) (counts_same known) windowed;
         delta = refl;
         gone = λ t e. absurd (cc);
-        only = λ t e. inr (sym (ap (λ f. excludes v t && f) (finals_same (known (sym is)) t)) ∙ e);
+        only = λ t e. inr (sym (ap (λ f. excludes v t && f) (finals_same (not-false (is_final_in es tag) (sym is)) t)) ∙ e);
       }
       cases (Some v) true is windowed =
-          let a = admits es fs v tag windowed (finalizes (fresh (sym is))) in
+          let a = admits es fs v tag windowed (finalizes (not-true (is_final_in es tag) (sym is))) in
           record {
             windowed = a.window;
             delta = ap (λ d. Some d) a.delta;
-            gone = λ t e. let out = a.gone t e in both (excludes (admitted v fs tag).0 t) (is_final_in fs t) out.1 out.0;
+            gone = λ t e. let out = a.gone t e in and_from (excludes (admitted v fs tag).0 t) (is_final_in fs t) out.1 out.0;
             only = λ t e. let parts = and_parts (excludes (admitted v fs tag).0 t) (is_final_in fs t) e in
                 which t (a.only t parts.1 parts.0);
           }
@@ -182,4 +146,4 @@ module _ (es fs : Rows) (rise : Rise es) (risen : Rise fs) (p : Pointer) (w : Op
           which : (t : Tag) → ((admitted v fs tag).1 ≡ Some t) ⊎ ((is_final_in es t ≡ true) × (excludes v t ≡ true))
               → ((admitted v fs tag).1 ≡ Some t) ⊎ ((excludes v t && is_final_in es t) ≡ true)
           which t (inl e) = inl e
-          which t (inr e) = inr (both (excludes v t) (is_final_in es t) e.1 e.0)
+          which t (inr e) = inr (and_from (excludes v t) (is_final_in es t) e.1 e.0)

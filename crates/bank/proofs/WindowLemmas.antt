@@ -1,11 +1,12 @@
 -- The window of the greatest finalized tags, among entries in order.
-use Rattle.std.proofs.Common.{◌≡◌, ℕ, suc, ◌+◌, ◌<◌, ◌≤◌, Bool, true, false, cond, ◌&&◌, [], ◌∷◌, length, get_or, Some, None}
+use Rattle.std.proofs.Common.{◌≡◌, ℕ, suc, ◌+◌, ◌<◌, Bool, true, false, cond, ◌&&◌, [], ◌∷◌, length, get_or, Some, None}
 use Rattle.std.proofs.Common.{is_some, sym, ap, ◌∙◌, refl, arith}
-use Rattle.std.specs.Prelude.{◌==◌, nat_le}
+use Rattle.std.specs.Prelude.{nat_le}
 use Rattle.std.specs.FinMap as map
 use Rattle.std.specs.FinMap.Entries.{below_all}
 use Rattle.std.proofs.lemmas.Bool.{and_parts, le-leb, lt-leb}
 use Rattle.std.proofs.lemmas.Bool.Decides.{nat_tests}
+use Rattle.std.proofs.lemmas.Option.{same_Some}
 use Rattle.tag.specs.declared.tag.Tag.{Tag}
 use Rattle.tag.specs.Tag.{tag_cmp, tag_lt}
 use Rattle.bank.specs.declared.row.Label.TheVariants.{PreWritten}
@@ -25,12 +26,9 @@ pub after_above : (x n : Tag) (es : Rows) → final_after x es ≡ Some n → ta
 after_above x n [] is = absurd (cc)
 after_above x n (e ∷ es) is = pick (λ is. after_above x n es is) (tag_lt x e.0) (is_finalized e.1.label) refl is
   where
-    some_inj : (s t : Tag) → Some s ≡ Some t → s ≡ t
-    some_inj s t same = cc
-
     pick : (final_after x es ≡ Some n → tag_lt x n ≡ true) → (c f : Bool) → tag_lt x e.0 ≡ c
         → cond (c && f) (Some e.0) (final_after x es) ≡ Some n → tag_lt x n ≡ true
-    pick rest true true less is = sym (ap (tag_lt x) (some_inj e.0 n is)) ∙ less
+    pick rest true true less is = sym (ap (tag_lt x) (same_Some e.0 n is)) ∙ less
     pick rest true false less is = rest is
     pick rest false f less is = rest is
 
@@ -44,15 +42,12 @@ after_place : (x n : Tag) (es : Rows) → final_after x es ≡ Some n → IsPlac
 after_place x n [] is = absurd (cc)
 after_place x n (e ∷ es) is = pick (λ is. after_place x n es is) (tag_lt x e.0) (is_finalized e.1.label) refl is
   where
-    some_inj : (s t : Tag) → Some s ≡ Some t → s ≡ t
-    some_inj s t same = cc
-
     later : IsPlace es n → IsPlace (e ∷ es) n
     later p = record { place = suc p.place; within = let w = p.within in omega arith; at = p.at; final = p.final }
 
     pick : (final_after x es ≡ Some n → IsPlace es n) → (c f : Bool) → is_finalized e.1.label ≡ f
         → cond (c && f) (Some e.0) (final_after x es) ≡ Some n → IsPlace (e ∷ es) n
-    pick rest true true final is = record { place = 0; within = omega arith; at = λ d. some_inj e.0 n is; final = λ d. final }
+    pick rest true true final is = record { place = 0; within = omega arith; at = λ d. same_Some e.0 n is; final = λ d. final }
     pick rest true false final is = later (rest is)
     pick rest false f final is = later (rest is)
 
@@ -70,9 +65,6 @@ after_count x n (e ∷ es) sorted is =
     pick (λ is. after_count x n es (and_parts (below_all tag_cmp e.0 es) (map.is_sorted tag_cmp es) sorted).1 is)
     (tag_lt x e.0) refl (is_finalized e.1.label) refl is
   where
-    some_inj : (s t : Tag) → Some s ≡ Some t → s ≡ t
-    some_inj s t same = cc
-
     parts : (below_all tag_cmp e.0 es ≡ true) × (map.is_sorted tag_cmp es ≡ true)
     parts = and_parts (below_all tag_cmp e.0 es) (map.is_sorted tag_cmp es) sorted
 
@@ -96,7 +88,7 @@ after_count x n (e ∷ es) sorted is =
         let few = above_all e.0 x es parts.0 in
         let many = above_less x e.0 (lt-not x e.0 less) es in
         omega (arith, one, none, few, many) in
-        here ∙ ap (λ t. above t (e ∷ es) + 1) (some_inj e.0 n is)
+        here ∙ ap (λ t. above t (e ∷ es) + 1) (same_Some e.0 n is)
     pick rest true less false final is =
         later (rest is) is (ap (λ c. one_if (c && is_finalized e.1.label)) less ∙ ap (λ c. one_if c) final)
     pick rest false less f final is = later (rest is) is (ap (λ c. one_if (c && is_finalized e.1.label)) less)
@@ -118,31 +110,4 @@ after_none x (e ∷ es) is = pick (λ is. after_none x es is) (tag_lt x e.0 && i
 
 -- a tag is below a full window exactly where there are more greater ones than delta
 pub excludes_is : (es : Rows) (w : Window) → Rise es → IsWindow es w → (t : Tag) → excludes w t ≡ nat_le (w.delta + 1) (above t es)
-excludes_is es w rise is t = pick (w.above == w.delta) refl (tag_lt t w.least) refl
-  where
-    equal : (m n : ℕ) → (m == n) ≡ true → m ≡ n
-    equal m n e = grind (arith, nat_tests)
-
-    apart : (m n : ℕ) → (m == n) ≡ false → m ≤ n → m < n
-    apart m n e at_most = grind (arith, nat_tests)
-
-    pick : (c : Bool) → (w.above == w.delta) ≡ c → (b : Bool) → tag_lt t w.least ≡ b → (c && b) ≡ nat_le (w.delta + 1) (above t es)
-    pick true full true below =
-        let same = equal w.above w.delta full in
-        let above_is = is.above in
-        let more = above_final t w.least below es is.least in
-        sym (le-leb (w.delta + 1) (above t es) (omega (arith, same, above_is, more)))
-    pick false short true below =
-        let less = apart w.above w.delta short is.fits in
-        let above_is = is.above in
-        let few = above_least_final t w.least es rise (λ s final. is.full less s final) in
-        sym (lt-leb (w.delta + 1) (above t es) (omega (arith, less, above_is, few)))
-    pick c full false inside =
-        let above_is = is.above in
-        let fits = is.fits in
-        let few = above_less w.least t inside es in
-        never c ∙ sym (lt-leb (w.delta + 1) (above t es) (omega (arith, fits, above_is, few)))
-      where
-        never : (c : Bool) → (c && false) ≡ false
-        never true = refl
-        never false = refl
+excludes_is es w rise is t = grind (arith, above, above_final, above_least_final, above_less, le-leb, lt-leb, nat_tests)

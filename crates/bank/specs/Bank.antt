@@ -12,7 +12,8 @@ use Rattle.bank.specs.declared.row.Row.{Row}
 use Rattle.bank.specs.declared.status.Pointer.{Pointer}
 use Rattle.bank.specs.declared.status.Pointer.TheVariants.{Unset}
 
--- a bank: rows by tag, pointer, how many finalized versions it keeps beside the newest (None: all), and when it retired
+-- a bank: rows by tag, pointer, how many finalized versions it keeps besides the newest (None: all), and when it
+-- retired
 pub record Bank : Type 0 where
   pub rows : map.FinMap tag_cmp Row
   pub pointer : Pointer
@@ -54,7 +55,7 @@ finalized_label (Finalized since) now = Finalized since
 abbrev pub finalized_row : Row → ℕ → Row
 finalized_row r now = record { label = finalized_label r.label now; arrival = r.arrival }
 
--- the arrival of an earlier piece, if there is one, and else the arrival of piece p at step `now`
+-- the arrival of an earlier piece, if there is one, and otherwise the arrival of piece p at step `now`
 abbrev pub filled_arrival : Option Arrival → Piece → ℕ → Option Arrival
 filled_arrival None p now = Some (record { piece = Some p; step = now })
 filled_arrival (Some a) p now = Some a

@@ -10,12 +10,12 @@ use Rattle.bank.specs.declared.request.Request.TheVariants as request
 use Rattle.bank.specs.Bank.{Bank}
 use Rattle.bank.specs.Knowledge.{arrived_at}
 
--- the number of bytes of a piece, or 0 where there is none
+-- the number of bytes of a piece, or 0 if there is none
 abbrev pub piece_bytes : Option Piece → ℕ
 piece_bytes None = 0
 piece_bytes (Some p) = length p.bytes
 
--- the number of bytes of an arrived piece, or 0 where none arrived or it is no longer kept
+-- the number of bytes of an arrived piece, or 0 if none arrived or it is no longer kept
 abbrev pub arrival_bytes : Option Arrival → ℕ
 arrival_bytes None = 0
 arrival_bytes (Some a) = piece_bytes a.piece
@@ -24,7 +24,7 @@ arrival_bytes (Some a) = piece_bytes a.piece
 abbrev pub row_bytes : Row → ℕ
 row_bytes r = arrival_bytes r.arrival
 
--- the number of bytes of the piece in the row of a tag, or 0 where there is no row
+-- the number of bytes of the piece in the row of a tag, or 0 if there is no row
 abbrev pub row_piece_bytes : Option Row → ℕ
 row_piece_bytes None = 0
 row_piece_bytes (Some r) = row_bytes r

@@ -1,4 +1,4 @@
--- Which pieces a bank keeps, and what remains where it drops one.
+-- Which pieces a bank keeps, and what remains if it drops one.
 use Rattle.std.specs.Prelude.{◌≡◌, ℕ, ◌&&◌, ◌||◌, not, Bool, if◌then◌else◌, is_some, sum_by, count_by, Option, Some}
 use Rattle.std.specs.Prelude.{None, map}
 use Rattle.std.specs.FinMap as map
@@ -23,11 +23,11 @@ emptied_row r = record { label = r.label; arrival = emptied_arrival r.arrival }
 abbrev pub emptied_entry : Tag × Row → Tag × Row
 emptied_entry e = (e.0, emptied_row e.1)
 
--- the row of a tag, without its piece where the bank is to drop the pieces of the tag
+-- the row of a tag, without its piece if the bank is to drop the pieces of the tag
 abbrev pub kept_row : Bank → Tag → Row → Row
 kept_row b tag r = if is_dropped b tag then emptied_row r else r
 
--- an entry, which is a tag with its row, without its piece where the bank is to drop the pieces of the tag
+-- an entry, which is a tag with its row, without its piece if the bank is to drop the pieces of the tag
 abbrev pub kept_entry : Bank → Tag × Row → Tag × Row
 kept_entry b e = (e.0, kept_row b e.0 e.1)
 
@@ -35,7 +35,7 @@ kept_entry b e = (e.0, kept_row b e.0 e.1)
 abbrev pub collected : Bank → Bank
 collected b = with_rows b (map.from_sorted (map (kept_entry b) (map.entries b.rows)))
 
--- for each tag the bank has a piece exactly where one arrived and the bank is not to drop it
+-- for each tag the bank has a piece exactly if one arrived and the bank is not to drop it
 abbrev pub IsCollected : Bank → Type 0
 IsCollected b = (tag : Tag) → is_some (piece_of b tag) ≡ (is_some (arrived_at b tag) && not (is_dropped b tag))
 

@@ -23,7 +23,7 @@ abbrev pub came_by : Option ℕ → ℕ → Bool
 came_by None step = false
 came_by (Some came) step = nat_le came step
 
--- the step of the event if it happened before, and else step `now`
+-- the step of the event if it happened before, and otherwise step `now`
 abbrev pub since : Option ℕ → ℕ → Option ℕ
 since None now = Some now
 since (Some came) now = Some came

@@ -25,7 +25,7 @@ kind_of (request.PreWrite tag piece) = kind.PreWrite tag
 kind_of (request.Finalize tag) = kind.Finalize tag
 kind_of (request.Fetch tag) = kind.Fetch tag
 
--- the greatest finalized tag of the entries, or the opening tag where none is finalized
+-- the greatest finalized tag of the entries, or the opening tag if none is finalized
 abbrev pub greatest_among : List (Tag × Row) → Tag
 greatest_among [] = opening_tag
 greatest_among (e ∷ es) = if is_finalized e.1.label then later_tag (greatest_among es) e.0 else greatest_among es

@@ -20,7 +20,7 @@ final_after tag (e ∷ es) = if tag_lt tag e.0 && is_finalized e.1.label then So
 abbrev pub opened_window : ℕ → Window
 opened_window delta = record { delta = delta; least = opening_tag; above = 0 }
 
--- the window of a bank that was just opened, where it has a delta
+-- the window of a bank that was just opened, if it has a delta
 abbrev pub opened_windows : Option ℕ → Option Window
 opened_windows delta = option_map opened_window delta
 
@@ -55,7 +55,7 @@ after_final (Some w) true es tag = (Some (admitted w es tag).0, (admitted w es t
 abbrev pub found_in : List (Tag × Row) → Tag → Option Row
 found_in es tag = lookup (is_at (tag_cmp tag)) es
 
--- the tag itself where the bank is to drop a piece that arrives for it, and else none
+-- the tag itself if the bank is to drop a piece that arrives for it, and otherwise none
 abbrev pub late_tag : Option Window → Option ℕ → List (Tag × Row) → Tag → Option Tag
 late_tag window retired es tag =
     if is_some retired || (is_excluded window tag && is_some (row_finalized (found_in es tag))) then Some tag else None
@@ -65,7 +65,7 @@ abbrev pub without_piece : Option Tag → Tag → Option Row → Option Row
 without_piece None q row = row
 without_piece (Some tag) q row = if is_at (tag_cmp tag) q then option_map emptied_row row else row
 
--- the number of bytes of the given tag's piece, or 0 where no tag is given
+-- the number of bytes of the given tag's piece, or 0 if no tag is given
 abbrev pub piece_bytes_at : Option Tag → List (Tag × Row) → ℕ
 piece_bytes_at None es = 0
 piece_bytes_at (Some tag) es = row_piece_bytes (found_in es tag)

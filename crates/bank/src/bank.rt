@@ -137,8 +137,8 @@ impl Bank {
     }
 
     /// Serves a request PreWrite: keeps `piece` for `tag`, unless a piece arrived for it before. A new tag becomes
-    /// pre-written, and a known tag keeps its label. Where the piece is not to be kept it is dropped at once, but the
-    /// bank records that it arrived. `NoMemory` comes only where the tag is new.
+    /// pre-written, and a known tag keeps its label. If the piece is not to be kept, it is dropped at once, but the
+    /// bank records that it arrived. `NoMemory` comes only if the tag is new.
     pub fn pre_write(&mut self, tag: Tag, piece: Piece, now: Stamp) -> Result<Reply, Refusal>
         ensures bank { OnOk result (self.new ≡ collected (pre_written self.old tag piece now)) }
         ensures reply { IfOk result (λ r. r ≡ record { step = now; answer = answer.Done }) }
@@ -160,7 +160,7 @@ impl Bank {
     }
 
     /// Serves a request Finalize: the label of `tag` becomes finalized, and the piece that is then no longer to be kept
-    /// is dropped. A new tag becomes finalized without a piece. `NoMemory` comes only where the tag is new.
+    /// is dropped. A new tag becomes finalized without a piece. `NoMemory` comes only if the tag is new.
     pub fn finalize(&mut self, tag: Tag, now: Stamp) -> Result<Reply, Refusal>
         ensures bank { OnOk result (self.new ≡ collected (finalized self.old tag now)) }
         ensures reply { IfOk result (λ r. r ≡ record { step = now; answer = answer.Done }) }
@@ -183,7 +183,7 @@ impl Bank {
     }
 
     /// Serves a request Fetch: finalizes `tag` as `finalize` does, and returns its piece if the bank still keeps it.
-    /// The returned piece shares its bytes with the kept one. `NoMemory` comes only where the tag is new or a piece is
+    /// The returned piece shares its bytes with the kept one. `NoMemory` comes only if the tag is new or a piece is
     /// returned.
     pub fn fetch(&mut self, tag: Tag, now: Stamp) -> Result<Reply, Refusal>
         ensures bank { OnOk result (self.new ≡ collected (finalized self.old tag now)) }

@@ -32,7 +32,7 @@ impl HeldPiece {
         }
     }
 
-    /// The piece.
+    /// Returns the piece.
     pub fn piece(&self) -> &Piece
         ensures { result.now ≡ self.now }
     {

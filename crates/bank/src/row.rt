@@ -41,7 +41,7 @@ impl Row {
     ghost use Rattle.bank.specs.Collect.{emptied_row};
     ghost use Rattle.bank.specs.Bytes.{row_bytes};
 
-    /// Whether the tag is finalized.
+    /// Returns whether the tag is finalized.
     pub fn is_finalized(&self) -> bool
         ensures { result ≡ is_finalized self.now.label }
     {
@@ -51,7 +51,7 @@ impl Row {
         }
     }
 
-    /// The piece, if one arrived and the bank keeps it.
+    /// Returns the piece, if one arrived and the bank keeps it.
     pub fn piece(&self) -> Option<&Piece>
         ensures { option_copied result ≡ piece_of_row (Some self.now) }
     {
@@ -61,7 +61,7 @@ impl Row {
         }
     }
 
-    /// The number of bytes of the piece, or 0 where there is none.
+    /// Returns the number of bytes of the piece, or 0 if there is none.
     pub fn bytes(&self) -> u64
         ensures value { result ≡ row_bytes self.now }
         ensures bound { result < 2 ^ 63 }
@@ -72,7 +72,7 @@ impl Row {
         }
     }
 
-    /// A copy of the piece, if there is one, which shares its bytes. `NoMemory` is the only refusal.
+    /// Returns a copy of the piece, if there is one, which shares its bytes. `NoMemory` is the only refusal.
     pub(crate) fn copy_of_piece(&self, alloc: Global) -> Result<Option<HeldPiece>, Refusal>
         ensures copy { IfOk result (λ p. p ≡ piece_of_row (Some self.now)) }
         ensures refused { IfErr result (λ e. e ≡ NoMemory) }

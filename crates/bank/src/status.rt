@@ -3,7 +3,7 @@ ghost use Rattle.bank.specs.Pointer.{status_of, raised};
 
 use tag::Stamp;
 
-/// The status of a bank's pointer: what the bank knows of the next position.
+/// The status of a bank's pointer: what the bank knows about the next position.
 #[derive(Clone, Copy, Debug, PartialEq, Eq, PartialOrd, Ord, Hash)]
 pub enum Status {
     /// The bank knows of no next position.
@@ -26,7 +26,7 @@ pub enum Pointer {
 }
 
 impl Pointer {
-    /// The status without its steps.
+    /// Returns the status without its steps.
     pub fn status(self) -> Status
         ensures { result ≡ status_of self }
     {
@@ -40,7 +40,7 @@ impl Pointer {
         }
     }
 
-    /// The pointer raised to `status` at step `now` if that is greater, and else the same pointer.
+    /// Returns the pointer raised to `status` at step `now` if that is greater, and otherwise the same pointer.
     pub(crate) fn raised(self, status: Status, now: Stamp) -> Pointer
         ensures { result ≡ raised self status now }
     {
