@@ -1,5 +1,5 @@
 -- A bank that drops pieces once, after all requests, keeps the same as a bank that drops them after each request.
-use Rattle.std.proofs.Common.{◌≡◌, ℕ, Bool, true, false, cond, ◌&&◌, ◌||◌, List, [], ◌∷◌, ◌++◌, Option, Some, None, is_some, option_map}
+use Rattle.std.proofs.Common.{◌≡◌, ℕ, Bool, true, false, cond, ◌&&◌, ◌||◌, List, [], ◌∷◌, ◌++◌, Option, Some, is_some, option_map}
 use Rattle.std.proofs.Common.{sym, ap, ◌∙◌, refl, arith}
 use Rattle.std.specs.FinMap as map
 use Rattle.tag.specs.declared.tag.Tag.{Tag}
@@ -7,11 +7,9 @@ use Rattle.tag.specs.Tag.{tag_eq, tag_lt}
 use Rattle.tag.proofs.TagOrderLemmas.{tag_eq-true}
 use Rattle.piece.specs.declared.piece.Piece.{Piece}
 use Rattle.bank.specs.declared.request.Request.{Request}
-use Rattle.bank.specs.declared.request.Request.TheVariants as request
-use Rattle.bank.specs.declared.row.Arrival.{Arrival}
 use Rattle.bank.specs.declared.row.Row.{Row}
-use Rattle.bank.specs.Bank.{Bank, with_rows, filled_arrival, row_after_pre_write, row_after_finalize, pre_written, finalized}
-use Rattle.bank.specs.Collect.{emptied_arrival, emptied_row, collected}
+use Rattle.bank.specs.Bank.{Bank, with_rows, row_after_pre_write, row_after_finalize, pre_written, finalized}
+use Rattle.bank.specs.Collect.{emptied_row, collected}
 use Rattle.bank.specs.Knowledge.{since, final_step, finalized_at, exceeds, finals_above, is_dropped}
 use Rattle.bank.specs.Serve.{served_bank, uncollected_bank}
 use Rattle.bank.proofs.CollectedBankLemmas.{get-collected, collected_is, finalized_at-collected, is_dropped-collected, count-collected}
@@ -24,26 +22,16 @@ use Rattle.bank_requests.specs.Reached.{after_requests}
 abbrev pub rest : Bool → Row → Row
 rest drops row = cond drops (emptied_row row) row
 
-emptied_twice : (a : Option Arrival) → emptied_arrival (emptied_arrival a) ≡ emptied_arrival a
-emptied_twice None = refl
-emptied_twice (Some a) = refl
-
 -- a row of which the piece was dropped before
 pub rest_of_rest : (before after : Bool) → (before ≡ true → after ≡ true) → (o : Option Row)
     → option_map (rest after) (option_map (rest before) o) ≡ option_map (rest after) o
-rest_of_rest before after grows None = refl
-rest_of_rest false after grows (Some r) = refl
-rest_of_rest true true grows (Some r) = ap (λ a. let o : Row = record { label = r.label; arrival = a } in Some o) (emptied_twice r.arrival)
-rest_of_rest true false grows (Some r) = absurd (let no : false ≡ true = grows refl in cc)
+rest_of_rest before after grows o = grind arith
 
 -- the row of a tag changes by f; to drop a piece before makes no difference to what is left after
 module _ (f : Option Row → Row) (commutes : (r : Row) → emptied_row (f (Some (emptied_row r))) ≡ emptied_row (f (Some r))) where
   rest_of_change : (before after : Bool) → (before ≡ true → after ≡ true) → (o : Option Row)
       → option_map (rest after) (Some (f (option_map (rest before) o))) ≡ option_map (rest after) (Some (f o))
-  rest_of_change before after grows None = refl
-  rest_of_change false after grows (Some r) = refl
-  rest_of_change true true grows (Some r) = ap (λ (r : Row). Some r) (commutes r)
-  rest_of_change true false grows (Some r) = absurd (let no : false ≡ true = grows refl in cc)
+  rest_of_change before after grows o = grind arith
 
   changed_late : (u : Bank) (tag : Tag)
       → ((t : Tag) → is_dropped (with_rows (collected u) (with_row (collected u).rows tag f)) t
@@ -74,17 +62,11 @@ module _ (f : Option Row → Row) (commutes : (r : Row) → emptied_row (f (Some
 
 finalize_commutes : (now : ℕ) (r : Row)
     → emptied_row (row_after_finalize (Some (emptied_row r)) now) ≡ emptied_row (row_after_finalize (Some r) now)
-finalize_commutes now r =
-    ap (λ a. let o : Row = record { label = (row_after_finalize (Some r) now).label; arrival = a } in o) (emptied_twice r.arrival)
+finalize_commutes now r = grind arith
 
 pre_write_commutes : (p : Piece) (now : ℕ) (r : Row)
     → emptied_row (row_after_pre_write (Some (emptied_row r)) p now) ≡ emptied_row (row_after_pre_write (Some r) p now)
-pre_write_commutes p now r =
-    ap (λ a. let o : Row = record { label = r.label; arrival = a } in o) (arrival r.arrival)
-  where
-    arrival : (a : Option Arrival) → emptied_arrival (filled_arrival (emptied_arrival a) p now) ≡ emptied_arrival (filled_arrival a p now)
-    arrival None = refl
-    arrival (Some a) = refl
+pre_write_commutes p now r = grind arith
 
 module _ (u : Bank) (tag : Tag) (now : ℕ) where
   finals_same : (t : Tag) → finals_above (finalized (collected u) tag now) t ≡ finals_above (finalized u tag now) t
@@ -117,12 +99,7 @@ module _ (u : Bank) (tag : Tag) (now : ℕ) where
 
 -- one request
 pub served_late : (u : Bank) (q : Request) (now : ℕ) → served_bank (collected u) q now ≡ collected (uncollected_bank u q now)
-served_late u request.Next now = refl
-served_late u (request.Spread s) now = refl
-served_late u request.Query now = refl
-served_late u (request.PreWrite tag p) now = pre_written_late u tag now p
-served_late u (request.Finalize tag) now = finalized_late u tag now
-served_late u (request.Fetch tag) now = finalized_late u tag now
+served_late u q now = grind (arith, finalized_late, pre_written_late)
 
 -- the bank after these requests, before any piece is dropped
 abbrev pub uncollected_after : Bank → List Request → Bank

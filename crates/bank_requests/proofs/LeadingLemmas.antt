@@ -1,12 +1,11 @@
 -- The requests to a bank that is reached lead there.
 use Rattle.std.proofs.Common.{◌≡◌, ℕ, Bool, true, false, cond, ◌&&◌, List, [], ◌∷◌, ◌++◌, Option, Some, None, is_some, option_map}
-use Rattle.std.proofs.Common.{sym, ap, ◌∙◌, subst, refl}
+use Rattle.std.proofs.Common.{sym, ap, ◌∙◌, subst, refl, arith}
 use Rattle.std.specs.FinMap as map
 use Rattle.tag.specs.declared.tag.Tag.{Tag}
 use Rattle.tag.specs.Tag.{tag_cmp, tag_eq, opening_tag}
 use Rattle.tag.proofs.TagOrderLemmas.{tag_eq-true}
 use Rattle.bank.specs.declared.request.Request.{Request}
-use Rattle.bank.specs.declared.request.Request.TheVariants as request
 use Rattle.bank.specs.declared.row.Label.{Label}
 use Rattle.bank.specs.declared.row.Row.{Row}
 use Rattle.bank.specs.declared.status.Pointer.TheVariants.{Unset}
@@ -22,11 +21,11 @@ use Rattle.bank.proofs.EntryOrderLemmas.{t_true}
 use Rattle.bank.proofs.PieceRetentionLemmas.{opened_collected, no_piece}
 use Rattle.bank.proofs.RowChangeLemmas.{Table}
 use Rattle.bank_requests.specs.Reached.{IsReachedBank, after_requests}
-use Rattle.bank_requests.specs.Requests.{pointer_requests, rows_requests, requests_to}
+use Rattle.bank_requests.specs.Requests.{pointer_requests, requests_to}
 use Rattle.bank_requests.proofs.LateDroppingLemmas.{rest, uncollected_after, uncollected_append, after_late, after_append}
-use Rattle.bank_requests.proofs.ReachedBankLemmas.{Recorded, Brought, Final, Both, recorded_row, IsRecorded, plain_bank}
+use Rattle.bank_requests.proofs.ReachedBankLemmas.{IsRecorded, plain_bank}
 use Rattle.bank_requests.proofs.ReachedBankLemmas.{get-opened, opened_opening, reached_plain}
-use Rattle.bank_requests.proofs.RowsOfRequestsLemmas.{labelled, brought, restored_if, entry_rows, rows_led, get-entry_rows}
+use Rattle.bank_requests.proofs.RowsOfRequestsLemmas.{restored_if, entry_rows, rows_led, get-entry_rows}
 
 -- The number of finalized tags above a tag depends on no piece
 
@@ -44,42 +43,20 @@ count_alike rows others alike test t =
     ∙ count-collected (bare others) test t
 
 final_alike : (o p : Option Row) → option_map emptied_row o ≡ option_map emptied_row p → row_finalized o ≡ row_finalized p
-final_alike o p alike = sym (bare_final o) ∙ ap row_finalized alike ∙ bare_final p
-  where
-    bare_final : (o : Option Row) → row_finalized (option_map emptied_row o) ≡ row_finalized o
-    bare_final None = refl
-    bare_final (Some r) = refl
+final_alike o p alike = grind arith
 
 -- One row
 
--- the row that the requests to a row make of none, but for the piece that is dropped
-each_row : (f : Recorded) (drops after : Bool) → (drops ≡ true → after ≡ true)
-    → option_map (rest after) (brought (rest drops (recorded_row f)).arrival (labelled (rest drops (recorded_row f)).label None))
-    ≡ option_map (rest after) (Some (recorded_row f))
-each_row (Brought p) true true grows = refl
-each_row (Brought p) true false grows = absurd (let no : false ≡ true = grows refl in cc)
-each_row (Brought p) false after grows = refl
-each_row Final true after grows = refl
-each_row Final false after grows = refl
-each_row (Both p) true true grows = refl
-each_row (Both p) true false grows = absurd (let no : false ≡ true = grows refl in cc)
-each_row (Both p) false after grows = refl
-
--- that row, for any tag but the opening one
+-- the row that the requests to a row make, but for the piece that is dropped, for any tag but the opening one
 restored_recorded : (o : Option Row) → IsRecorded o → (tag : Tag) (drops after : Bool) → (drops ≡ true → after ≡ true)
     → tag_eq tag opening_tag ≡ false
     → option_map (rest after) (restored_if tag (option_map (rest drops) o) None) ≡ option_map (rest after) o
-restored_recorded None is tag drops after grows other = refl
-restored_recorded (Some r) is tag drops after grows other =
-    ap (λ c. option_map (rest after) (cond c None (brought (rest drops r).arrival (labelled (rest drops r).label None)))) other
-    ∙ subst (λ (r : Row). option_map (rest after) (brought (rest drops r).arrival (labelled (rest drops r).label None))
-    ≡ option_map (rest after) (Some r)) (sym is.1) (each_row is.0 drops after grows)
+restored_recorded o is tag drops after grows other = grind arith
 
 -- the row of the opening tag stays
 restored_opening : (tag : Tag) (drops : Bool) (r : Row) → tag_eq tag opening_tag ≡ true
     → restored_if tag (option_map (rest drops) (Some r)) (Some r) ≡ Some r
-restored_opening tag drops r is =
-    ap (λ c. cond c (Some r) (brought (rest drops r).arrival (labelled (rest drops r).label (Some r)))) is
+restored_opening tag drops r is = cc
 
 -- All rows, with the pointer
 
@@ -99,15 +76,10 @@ module _ (point : ℕ) (delta : Option ℕ) (rows : Table) (s : Status) (recorde
   led = record { rows = entry_rows fresh.rows left; pointer = raised Unset s 0; delta = delta; retired = None }
 
   pointer_led : (t : Status) → uncollected_after fresh (pointer_requests (raised Unset t 0)) ≡ with_pointer fresh (raised Unset t 0)
-  pointer_led status.Unset = refl
-  pointer_led status.Pending = refl
-  pointer_led status.Final = refl
+  pointer_led t = grind arith
 
   led_is : uncollected_after fresh (requests_to (collected whole)) ≡ led
-  led_is =
-      uncollected_append fresh (pointer_requests (raised Unset s 0)) (rows_requests left)
-      ∙ ap (λ (b : Bank). uncollected_after b (rows_requests left)) (pointer_led s)
-      ∙ rows_led (with_pointer fresh (raised Unset s 0)) left
+  led_is = grind (arith, fresh, left, pointer_led, rows_led, uncollected_after, uncollected_append)
 
   get-led : (t : Tag) → map.get led.rows t
       ≡ restored_if t (option_map (rest (is_dropped whole t)) (map.get rows t)) (map.get fresh.rows t)
@@ -188,12 +160,7 @@ pub fresh_reached : (point : ℕ) (delta : Option ℕ) → IsReachedBank point (
 fresh_reached point delta = ([], refl)
 
 delta_stays : (b : Bank) (q : Request) → (served_bank b q 0).delta ≡ b.delta
-delta_stays b request.Next = refl
-delta_stays b (request.Spread s) = refl
-delta_stays b request.Query = refl
-delta_stays b (request.PreWrite tag p) = refl
-delta_stays b (request.Finalize tag) = refl
-delta_stays b (request.Fetch tag) = refl
+delta_stays b q = grind arith
 
 pub served_reached : (point : ℕ) (b : Bank) (q : Request) → IsReachedBank point b → IsReachedBank point (served_bank b q 0)
 served_reached point b q reached = (

@@ -1,8 +1,8 @@
 -- What a newly opened bank becomes by requests at step 0, before any piece is dropped.
-use Rattle.std.proofs.Common.{◌≡◌, ℕ, Bool, true, false, cond, List, [], ◌∷◌, Option, Some, None, sym, ap, ◌∙◌, subst, refl}
+use Rattle.std.proofs.Common.{◌≡◌, ℕ, Bool, true, false, cond, List, [], ◌∷◌, Option, Some, None, sym, ap, ◌∙◌, subst, refl, arith}
 use Rattle.std.specs.FinMap as map
 use Rattle.tag.specs.declared.tag.Tag.{Tag}
-use Rattle.tag.specs.Tag.{tag_cmp, tag_eq, opening_tag}
+use Rattle.tag.specs.Tag.{tag_eq, opening_tag}
 use Rattle.tag.proofs.TagOrderLemmas.{tag_cmp_total, eq_by_cmp-tag, tag_eq-same}
 use Rattle.piece.specs.declared.piece.Piece.{Piece}
 use Rattle.bank.specs.declared.request.Request.{Request}
@@ -109,10 +109,7 @@ uncollected_plain point delta w (request.Fetch tag) plain =
 -- what a newly opened bank has of each tag
 pub get-opened : (point : ℕ) (delta : Option ℕ) (t : Tag)
     → map.get (opened_bank point delta 0).rows t ≡ cond (tag_eq t opening_tag) (Some (opening_row point 0)) None
-get-opened point delta t =
-    map.get-insert tag_cmp_total (map.empty {X = Row} {R = tag_cmp}) opening_tag (opening_row point 0) t
-    ∙ ap (λ c. cond c (Some (opening_row point 0)) (map.get (map.empty {X = Row} {R = tag_cmp}) t)) (eq_by_cmp-tag t opening_tag)
-    ∙ ap (cond (tag_eq t opening_tag) (Some (opening_row point 0))) (map.get-empty tag_cmp t)
+get-opened point delta t = grind (arith, eq_by_cmp-tag, map.get-empty, map.get-insert, tag_cmp_total)
 
 pub opened_opening : (point : ℕ) (delta : Option ℕ) → map.get (opened_bank point delta 0).rows opening_tag ≡ Some (opening_row point 0)
 opened_opening point delta = get-opened point delta opening_tag

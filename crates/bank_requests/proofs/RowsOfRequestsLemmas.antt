@@ -1,5 +1,5 @@
 -- What the requests of a row make of the rows of a bank, before any piece is dropped.
-use Rattle.std.proofs.Common.{◌≡◌, Bool, true, false, cond, [], ◌∷◌, ◌++◌, Option, Some, None, sym, ap, ◌∙◌}
+use Rattle.std.proofs.Common.{◌≡◌, Bool, true, false, cond, [], ◌∷◌, Option, Some, None, sym, ap, ◌∙◌}
 use Rattle.std.proofs.Common.{refl, arith}
 use Rattle.std.specs.FinMap as map
 use Rattle.std.specs.FinMap.Entries.{below_all}
@@ -16,7 +16,7 @@ use Rattle.bank.specs.declared.row.Row.{Row}
 use Rattle.bank.specs.Bank.{Bank, with_rows, row_after_pre_write, row_after_finalize}
 use Rattle.bank.proofs.EntryOrderLemmas.{Rows, is_lt-tag}
 use Rattle.bank.proofs.RowChangeLemmas.{Table, with_row, get-with_row}
-use Rattle.bank_requests.specs.Requests.{piece_or_empty, label_requests, arrival_requests, row_requests, rows_requests}
+use Rattle.bank_requests.specs.Requests.{piece_or_empty, row_requests, rows_requests}
 use Rattle.bank_requests.proofs.LateDroppingLemmas.{uncollected_after, uncollected_append}
 
 -- the row of a tag after the request for its label
@@ -54,24 +54,8 @@ abbrev pub entry_rows : Table → Rows → Table
 entry_rows rows [] = rows
 entry_rows rows (e ∷ es) = entry_rows (row_rows rows e.0 e.1) es
 
-label_led : (u : Bank) (tag : Tag) (l : Label) → uncollected_after u (label_requests tag l) ≡ with_rows u (label_rows u.rows tag l)
-label_led u tag (PreWritten since) = refl
-label_led u tag (Finalized since) = refl
-
-arrival_led : (u : Bank) (tag : Tag) (a : Option Arrival)
-    → uncollected_after u (arrival_requests tag a) ≡ with_rows u (arrival_rows u.rows tag a)
-arrival_led u tag None = refl
-arrival_led u tag (Some a) = refl
-
 row_led : (u : Bank) (tag : Tag) (r : Row) → uncollected_after u (row_requests tag r) ≡ with_rows u (row_rows u.rows tag r)
-row_led u tag r =
-    elim (tag_eq tag opening_tag) as (λ c. uncollected_after u (cond c [] (label_requests tag r.label ++ arrival_requests tag r.arrival))
-    ≡ with_rows u (cond c u.rows (arrival_rows (label_rows u.rows tag r.label) tag r.arrival))) [
-      | true ↦ refl
-      | false ↦ uncollected_append u (label_requests tag r.label) (arrival_requests tag r.arrival)
-          ∙ ap (λ b. uncollected_after b (arrival_requests tag r.arrival)) (label_led u tag r.label)
-          ∙ arrival_led (with_rows u (label_rows u.rows tag r.label)) tag r.arrival
-    ]
+row_led u tag r = grind arith
 
 -- the requests for the rows change nothing but the rows
 pub rows_led : (u : Bank) (es : Rows) → uncollected_after u (rows_requests es) ≡ with_rows u (entry_rows u.rows es)
@@ -84,8 +68,7 @@ rows_led u (e ∷ es) =
 -- What each tag has then
 
 stays : (c : Bool) (t tag : Tag) (rows : Table) → tag_eq t tag ≡ c → map.get rows t ≡ cond c (map.get rows tag) (map.get rows t)
-stays true t tag rows is = ap (map.get rows) (tag_eq-true t tag is)
-stays false t tag rows is = refl
+stays c t tag rows is = grind arith
 
 get-label_rows : (rows : Table) (tag : Tag) (l : Label) (t : Tag)
     → map.get (label_rows rows tag l) t ≡ cond (tag_eq t tag) (labelled l (map.get rows tag)) (map.get rows t)
@@ -100,28 +83,11 @@ get-arrival_rows rows tag (Some a) t = get-with_row rows tag (λ o. row_after_pr
 get-both : (rows : Table) (tag : Tag) (r : Row) (t : Tag)
     → map.get (arrival_rows (label_rows rows tag r.label) tag r.arrival) t
     ≡ cond (tag_eq t tag) (brought r.arrival (labelled r.label (map.get rows tag))) (map.get rows t)
-get-both rows tag r t =
-    get-arrival_rows (label_rows rows tag r.label) tag r.arrival t
-    ∙ elim (tag_eq t tag) as (λ c. tag_eq t tag ≡ c
-    → cond c (brought r.arrival (map.get (label_rows rows tag r.label) tag)) (map.get (label_rows rows tag r.label) t)
-    ≡ cond c (brought r.arrival (labelled r.label (map.get rows tag))) (map.get rows t)) [
-      | true ↦ λ is. ap (brought r.arrival) (get-label_rows rows tag r.label tag
-          ∙ ap (λ c. cond c (labelled r.label (map.get rows tag)) (map.get rows tag)) (itself tag t is))
-      | false ↦ λ is. get-label_rows rows tag r.label t ∙ ap (λ c. cond c (labelled r.label (map.get rows tag)) (map.get rows t)) is
-    ] refl
-  where
-    itself : (tag t : Tag) → tag_eq t tag ≡ true → tag_eq tag tag ≡ true
-    itself tag t is = ap (λ s. tag_eq s tag) (sym (tag_eq-true t tag is)) ∙ is
+get-both rows tag r t = grind (arith, brought, get-arrival_rows, get-label_rows, label_rows, labelled, tag_eq-true)
 
 get-row_rows : (rows : Table) (tag : Tag) (r : Row) (t : Tag)
     → map.get (row_rows rows tag r) t ≡ cond (tag_eq t tag) (restored tag r (map.get rows tag)) (map.get rows t)
-get-row_rows rows tag r t =
-    elim (tag_eq tag opening_tag) as (λ c.
-    map.get (cond c rows (arrival_rows (label_rows rows tag r.label) tag r.arrival)) t
-    ≡ cond (tag_eq t tag) (cond c (map.get rows tag) (brought r.arrival (labelled r.label (map.get rows tag)))) (map.get rows t)) [
-      | true ↦ stays (tag_eq t tag) t tag rows refl
-      | false ↦ get-both rows tag r t
-    ]
+get-row_rows rows tag r t = grind (arith, arrival_rows, brought, get-both, label_rows, labelled, stays)
 
 apart : (s t : Tag) → tag_lt s t ≡ true → tag_eq s t ≡ false
 apart s t less = grind (arith, nat_tests)

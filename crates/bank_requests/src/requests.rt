@@ -20,7 +20,7 @@ use tag::{Refusal, Tag};
 /// requests bring no more bytes than the bank stores. There are at most two of them for each tag, and one for the
 /// pointer. `NoMemory` is the only refusal.
 ///
-/// It takes time quadratic in the number of tags, since the bank finds the tag at a place by a walk over those below.
+/// It takes time linear in the number of tags.
 pub fn requests_of(alloc: Global, bank: &Bank) -> Result<Vec<Request>, Refusal>
     ensures requests { IfOk result (λ v. v.items ≡ requests_to bank.now) }
     ensures lead { IfOk result (λ v. (point : ℕ) → IsReachedBank point bank.now
@@ -32,9 +32,8 @@ pub fn requests_of(alloc: Global, bank: &Bank) -> Result<Vec<Request>, Refusal>
 {
     let mut requests = Vec::new(alloc);
     push_pointer(&mut requests, bank.pointer())?;
-    for place in 0..bank.count() {
-        let (tag, row) = bank.kept(place);
-        push_row(&mut requests, tag, row)?;
+    for (tag, row) in bank.rows() {
+        push_row(&mut requests, *tag, row)?;
     }
     Ok(requests)
 }
