@@ -18,7 +18,7 @@ abbrev pub is_colon : ℕ → Bool
 is_colon byte = byte == 58
 
 -- the word is `POINT:HEX`, split at its first colon; the piece has this point and these bytes, and the length of the
--- value, or the greatest number of 32 bits where the value is longer
+-- value, or the greatest number of 32 bits if the value is longer
 pub record SpellsPiece (value_len : ℕ) (word : Word) (piece : Piece) : Type 0 where
   pub parted : position_or_len is_colon word < length word
   pub point : IsNumber (before_first is_colon word) piece.point

@@ -6,7 +6,7 @@ use crate::fault::Fault;
 use crate::request::{CodingRequest, decode_request, fragments_request};
 use std::alloc::Global;
 
-/// The request that the words after the program's name spell.
+/// Returns the request that the words after the program's name spell.
 pub(crate) fn parse_request(alloc: Global, words: &[&str]) -> Result<CodingRequest, Fault>
     ensures { ParsesToCoding (map (λ w. w.now) words.now) result }
 {

@@ -35,7 +35,7 @@ impl Fault {
     ghost use Rattle.coding_commands.specs.Fault.{exit_status_of};
     ghost use Rattle.coding_commands.specs.declared.fault.Fault.TheVariants.{NotText, OutputLost, Refused};
 
-    /// Why the program's arguments could not be read: one is not UTF-8, or memory is refused.
+    /// Returns why the program's arguments could not be read: one is not UTF-8, or memory is refused.
     pub fn from_arguments(error: io::Error) -> Fault
         ensures memory { error_kind error ≡ ErrorKind.OutOfMemory → result ≡ Refused NoMemory }
         ensures text { error_kind error ≢ ErrorKind.OutOfMemory → result ≡ NotText }
@@ -46,7 +46,7 @@ impl Fault {
         }
     }
 
-    /// Why a line of output is lost: memory was refused to its write, or the write failed for another reason.
+    /// Returns why a line of output is lost: memory was refused to its write, or the write failed for another reason.
     pub fn from_output(error: io::Error) -> Fault
         ensures memory { error_kind error ≡ ErrorKind.OutOfMemory → result ≡ Refused NoMemory }
         ensures other { error_kind error ≢ ErrorKind.OutOfMemory → result ≡ OutputLost }
@@ -57,7 +57,7 @@ impl Fault {
         }
     }
 
-    /// The exit status: 1 for a refusal or lost output, and 2 for a fault of the command line.
+    /// Returns the exit status: 1 for a refusal or lost output, and 2 for a fault of the command line.
     fn status(&self) -> u8
         ensures { result ≡ exit_status_of self.now }
     {

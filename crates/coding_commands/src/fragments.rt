@@ -11,8 +11,8 @@ use std::fmt;
 use tag::Refusal;
 use words::Hexadecimal;
 
-/// The fragments of `value`, which is cut into `k` blocks, at the points from 0 to `n - 1`. `BadLayout` also where `k`
-/// or `n` is above its limit, however large it is.
+/// Returns the fragments of `value`, which is cut into `k` blocks, at the points from 0 to `n - 1`. Is refused with
+/// `BadLayout` also if `k` or `n` is above its limit, however large it is.
 pub(crate) fn fragments_of(alloc: Global, k: u64, n: u64, value: Bytes) -> Result<Coded, Refusal>
     ensures coded { IfOk result (λ c. c ≡ record { k = k; n = n; value = value }) }
     ensures refused { IsByCause (encode_cause k n (length value)) result }

@@ -21,9 +21,8 @@ use std::alloc::Global;
 use std::io::Write;
 use tag::Refusal;
 
-/// Carries out the words after the program's name, and returns the exit status: 0 where the line of the answer is
-/// written, 1 for a refusal or lost output, 2 for words that spell no request. Where the status is not 0, a text on
-/// `err` says why.
+/// Carries out the words after the program's name, and returns the exit status: 0 if the line of the answer is written,
+/// 1 for a refusal or lost output, 2 for words that spell no request. If the status is not 0, a text on `err` says why.
 pub fn run_words<O: Write, E: Write>(alloc: Global, words: &[&str], out: &mut O, err: &mut E) -> u8
     ensures { CodingEndsBy (map (λ w. w.now) words.now) (O.contents out.old) (O.contents out.new) result }
 {

@@ -23,7 +23,7 @@ pub enum CodingRequest {
         value: Bytes,
     },
     /// `decode K LEN POINT:HEX..`: the value of `len` bytes, which is cut into `k` blocks, that has these pieces. Each
-    /// piece has `len` as the length of its value, or the greatest `u32` where `len` is above it.
+    /// piece has `len` as the length of its value, or the greatest `u32` if `len` is above it.
     Decode {
         k: u64,
         len: u64,
@@ -31,7 +31,8 @@ pub enum CodingRequest {
     },
 }
 
-/// The request `fragments K N HEX`. `BadArgument` where a word is not a number or bytes as its place requires.
+/// Returns the request `fragments K N HEX`. Fails with `BadArgument` if a word is not a number or bytes as its place
+/// requires.
 pub fn fragments_request(
     alloc: Global,
     k: &str,
@@ -46,8 +47,8 @@ pub fn fragments_request(
     Ok(CodingRequest::Fragments { k, n, value })
 }
 
-/// The request `decode K LEN POINT:HEX..`, where `words` are those from the first `POINT:HEX` on. `BadArgument` where a
-/// word is not a number or a piece as its place requires.
+/// Returns the request `decode K LEN POINT:HEX..`, where `words` are those from the first `POINT:HEX` on. Fails with
+/// `BadArgument` if a word is not a number or a piece as its place requires.
 pub fn decode_request(
     alloc: Global,
     k: &str,

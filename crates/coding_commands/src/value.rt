@@ -8,8 +8,8 @@ use piece::Piece;
 use std::alloc::Global;
 use tag::Refusal;
 
-/// The value of `len` bytes, which is cut into `k` blocks, that has these pieces. `BadPieces` also where `k` or `len`
-/// is above its limit, however large it is.
+/// Returns the value of `len` bytes, which is cut into `k` blocks, that has these pieces. Is refused with `BadPieces`
+/// also if `k` or `len` is above its limit, however large it is.
 pub(crate) fn value_of(
     alloc: Global,
     k: u64,

@@ -9,23 +9,23 @@ use Rattle.piece.specs.declared.piece.Piece.{Piece}
 use Rattle.decoder.specs.Pieces.{AreLawful, IsInterpolated}
 use Rattle.coding_exports.specs.declared.answer.TheConstants.{BAD_BUFFER}
 
--- the answer where this is the cause of refusal: its number, and 0 where there is none
+-- the answer if this is the cause of refusal: its number, and 0 if there is none
 abbrev pub answer_by_cause : Option Refusal → ℕ
 answer_by_cause None = 0
 answer_by_cause (Some refusal) = number_of refusal
 
--- the answer of a call that writes so many bytes to a buffer of this length: first the cause of refusal,
--- then the number of a buffer of another length, and 0 where nothing is wrong
+-- the answer of a call that writes so many bytes to a buffer of this length: first the cause of refusal, then the
+-- number of a buffer of another length, and 0 if nothing is wrong
 abbrev pub answer_into : Option Refusal → ℕ → ℕ → ℕ
 answer_into (Some refusal) bytes len = number_of refusal
 answer_into None bytes len = if len == bytes then 0 else BAD_BUFFER
 
--- why a value of len bytes has no fragments for k: none where it has
+-- why a value of len bytes has no fragments for k: none if it has
 abbrev pub fragment_cause : ℕ → ℕ → Option Refusal
 fragment_cause k len =
     if k == 0 then Some BadLayout else (if nat_lt LONGEST_VALUE len then Some TooLong else None)
 
--- what the room holds after the bytes are written to it, which are written only where it has their length
+-- what the room holds after the bytes are written to it, which are written only if it has their length
 abbrev pub written : List ℕ → List ℕ → List ℕ
 written bytes room = if length room == length bytes then bytes else room
 

@@ -1,5 +1,5 @@
 -- The contracts that docs/trusted.md lists do not depend on this file; other contracts and proofs do.
--- The pieces that fragments make which stand one after another.
+-- The pieces that are made from fragments which stand one after another.
 use Rattle.std.specs.Prelude.{ℕ, List, [], ◌∷◌, take, drop}
 use Rattle.encoder.specs.Fragment.{fragment_len}
 use Rattle.piece.specs.declared.piece.Piece.{Piece}

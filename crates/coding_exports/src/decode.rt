@@ -12,7 +12,7 @@ use std::alloc::{AllocError, Global};
 use tag::Refusal;
 
 /// Decodes the fragments at these points, which stand one after another, each of `len.div_ceil(k)` bytes, as often as
-/// `times` says and at least once, and writes the value to `room` where it has its length. It asks for the memory of a
+/// `times` says and at least once, and writes the value to `room` if it has its length. It asks for the memory of a
 /// copy of the fragments first, and answers 1, for `NoMemory`, wherever memory is refused.
 #[unsafe(no_mangle)]
 pub extern "C" fn coding_exports_decode(
@@ -67,7 +67,7 @@ fn decode_again(alloc: Global, k: u8, len: u32, pieces: &[Piece]) -> Result<(), 
     Ok(())
 }
 
-/// The pieces at these points of a value of `len` bytes, whose fragments stand one after another.
+/// Returns the pieces at these points of a value of `len` bytes, whose fragments stand one after another.
 fn pieces(
     alloc: Global,
     len: u32,

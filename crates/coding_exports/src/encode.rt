@@ -11,7 +11,7 @@ use std::alloc::Global;
 use tag::Refusal;
 
 /// Codes `value` into `n` fragments, as often as `times` says and at least once, and writes the one at the point `i` to
-/// `room` where it has its length. It asks for the memory of a copy of `value` first, and answers 1, for `NoMemory`,
+/// `room` if it has its length. It asks for the memory of a copy of `value` first, and answers 1, for `NoMemory`,
 /// wherever memory is refused.
 #[unsafe(no_mangle)]
 pub extern "C" fn coding_exports_encode(

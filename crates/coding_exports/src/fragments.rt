@@ -8,8 +8,8 @@ use crate::answer::BAD_BUFFER;
 use encoder::{encode_into, fragment_into};
 use tag::{LONGEST_VALUE, MOST_MEMBERS, Refusal};
 
-/// The length of each fragment of a value, in bytes: `value_len` over `k`, rounded up. `BadLayout` where `k` is 0, else
-/// `TooLong` where no value may be that long; then `len` is as it was.
+/// Stores the length of each fragment of a value in `len`, in bytes: `value_len` over `k`, rounded up. Answers
+/// `BadLayout` if `k` is 0, otherwise `TooLong` if no value may be that long; then `len` is as it was.
 #[unsafe(no_mangle)]
 pub extern "C" fn coding_fragment_length(k: u8, value_len: usize, len: &mut usize) -> u8
     ensures answer { result ≡ answer_by_cause (fragment_cause k value_len) }
@@ -26,9 +26,9 @@ pub extern "C" fn coding_fragment_length(k: u8, value_len: usize, len: &mut usiz
     0
 }
 
-/// Writes the fragments of `value` at the points below `n` to `fragments`, one after another. `BadLayout` where `k` is
-/// 0 or above `n`, else `TooLong` where the value is longer than `LONGEST_VALUE`, else `BAD_BUFFER` where `fragments`
-/// has another length than that of `n` fragments; then it is as it was.
+/// Writes the fragments of `value` at the points below `n` to `fragments`, one after another. Answers `BadLayout` if
+/// `k` is 0 or above `n`, otherwise `TooLong` if the value is longer than `LONGEST_VALUE`, otherwise `BAD_BUFFER` if
+/// `fragments` has another length than that of `n` fragments; then it is as it was.
 #[unsafe(no_mangle)]
 pub extern "C" fn coding_encode(k: u8, n: u8, value: &[u8], fragments: &mut [u8]) -> u8
     ensures answer { result ≡ answer_into (encode_cause k n (length value.now))
@@ -50,9 +50,9 @@ pub extern "C" fn coding_encode(k: u8, n: u8, value: &[u8], fragments: &mut [u8]
     0
 }
 
-/// Writes the fragment of `value` at `point` to `out`. `BadLayout` where `k` is 0, else `TooLong` where the value is
-/// longer than `LONGEST_VALUE`, else `BAD_BUFFER` where `out` has another length than the fragment; then it is as it
-/// was.
+/// Writes the fragment of `value` at `point` to `out`. Answers `BadLayout` if `k` is 0, otherwise `TooLong` if the
+/// value is longer than `LONGEST_VALUE`, otherwise `BAD_BUFFER` if `out` has another length than the fragment; then it
+/// is as it was.
 #[unsafe(no_mangle)]
 pub extern "C" fn coding_encode_one(k: u8, point: u8, value: &[u8], out: &mut [u8]) -> u8
     ensures answer { result ≡ answer_into (fragment_cause k (length value.now))

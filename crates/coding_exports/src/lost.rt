@@ -10,9 +10,9 @@ use crate::answer::BAD_BUFFER;
 use decoder::repair_into;
 use tag::Refusal;
 
-/// Writes the fragment at `point` to `out` as `coding_repair` does, of the value of `value_len` bytes, and leaves the
-/// value itself unmade: about a k-th of the work, and no buffer for the value. It answers as `coding_repair`; where
-/// that is not 0, `out` is as it was.
+/// Writes the fragment at `point` to `out` as `coding_repair` does, of the value of `value_len` bytes, without
+/// computing the value itself. This takes about a k-th of the work, and no buffer for the value. It answers as
+/// `coding_repair` does; if the answer is not 0, `out` is unchanged.
 #[unsafe(no_mangle)]
 pub extern "C" fn coding_repair_fragment(
     k: u8,

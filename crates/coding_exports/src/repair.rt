@@ -11,9 +11,9 @@ use decoder::decode_into;
 use encoder::fragment_into;
 use tag::Refusal;
 
-/// Writes the fragment at `point` to `out`, of the value that the other fragments give by `coding_decode`, which goes
-/// to `value`, whose length is the value's. `BAD_BUFFER` where `k` is above 0 and `out` has another length than a
-/// fragment, else as `coding_decode`; then both buffers are as they were.
+/// Writes the value that has these fragments to `value`, as `coding_decode` does, and the fragment of that value at
+/// `point` to `out`. Answers `BAD_BUFFER` if `k` is above 0 and `out` has another length than a fragment, and otherwise
+/// what `coding_decode` answers. If the answer is not 0, both buffers are unchanged.
 #[unsafe(no_mangle)]
 pub extern "C" fn coding_repair(
     k: u8,

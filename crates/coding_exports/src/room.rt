@@ -1,7 +1,7 @@
 ghost use Rattle.std.specs.Prelude.{◌≡◌};
 ghost use Rattle.coding_exports.specs.Answer.{written};
 
-/// Writes the bytes to `room` where it has their length.
+/// Writes the bytes to `room` if it has their length.
 pub(crate) fn write(bytes: &[u8], room: &mut [u8])
     ensures { room.new ≡ written bytes.now room.old }
 {

@@ -3,8 +3,8 @@ ghost use Rattle.tag.specs.Refusal.{number_of, refusal_text};
 ghost use Rattle.tag.specs.declared.refusal.Refusal.{Refusal};
 ghost use Rattle.coding_exports.specs.declared.answer.TheConstants.{BAD_BUFFER};
 
-/// Gives the text of an answer, which ends with a zero byte and lasts as long as the program: of a refusal its number
-/// and its name.
+/// Sets `text` to the text of an answer, which ends with a zero byte and lasts as long as the program. The text of a
+/// refusal is its number and its name.
 #[unsafe(no_mangle)]
 pub extern "C" fn coding_text(answer: u8, text: &mut &'static [u8])
     ensures done { answer ≡ 0 → text.new.now ≡ codes "0 Done" ++ 0 ∷ [] }

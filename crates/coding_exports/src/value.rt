@@ -7,9 +7,9 @@ ghost use Rattle.decoder.specs.Pieces.{ArePiecesOf, HaveNoValue, IsInterpolated}
 use decoder::decode_into;
 use tag::Refusal;
 
-/// Decodes into `value`, whose length is the value's: fragment i is the one at point i. `BadPieces` where these are
-/// not as many fragments as points, and `k` of them at distinct points of a value of that length, within the limits,
-/// or where no such value has these fragments; then `value` is as it was.
+/// Decodes into `value`, whose length is that of the value. Fragment i is the one at point i. Answers `BadPieces`
+/// unless there are as many fragments as points, and these are `k` fragments at distinct points of a value of that
+/// length, within the limits, or if no such value has these fragments. Then `value` is unchanged.
 #[unsafe(no_mangle)]
 pub extern "C" fn coding_decode(k: u8, points: &[u8], fragments: &[&[u8]], value: &mut [u8]) -> u8
     ensures answers { (result ≡ 0) ⊎ (result ≡ number_of Refusal.BadPieces) }

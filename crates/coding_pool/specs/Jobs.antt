@@ -16,7 +16,7 @@ PARTS = 65
 abbrev pub times : ℕ → List ℕ → ℕ
 times job jobs = count_by (λ j. j == job) jobs
 
--- 1 for a job below n, and else 0
+-- 1 for a job below n, and otherwise 0
 abbrev pub once_below : ℕ → ℕ → ℕ
 once_below n job = if nat_lt job n then 1 else 0
 

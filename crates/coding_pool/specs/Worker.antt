@@ -20,18 +20,19 @@ point_of p = p.point
 abbrev pub IsEach : ℕ → List Piece → Type 0
 IsEach n pieces = (job : ℕ) → times job (map point_of pieces) ≡ once_below n job
 
--- the value of the errand may be encoded: k is at least 1, and the value is within the limit
+-- the value of the coding job may be encoded: k is at least 1, and the value is within the limit
 pub record IsErrand (errand : CodingJob) : Type 0 where
   pub some : 1 ≤ errand.k
   pub longest : length errand.value.now ≤ LONGEST_VALUE
 
--- a worker of the errand: its pass is of the errand's queue, and it has the value's pieces for the jobs that it popped
+-- a worker of the coding job: its pass is for the job's queue, and it has the value's pieces for the jobs that it
+-- popped
 pub record IsWorker (errand : CodingJob) (w : Worker) : Type 0 where
   pub pass : IsPassOf errand.jobs.now w.pass
   pub popped : (view w.pass).popped ≡ map point_of w.pieces.items
   pub made : All (λ p. p ≡ piece_at_point errand.value.now errand.k p.point) w.pieces.items
 
--- a worker of the errand that has one part, and pushed no job
+-- a worker of the coding job that has one part, and pushed no job
 pub record IsHand (errand : CodingJob) (w : Worker) : Type 0 where
   pub worker : IsWorker errand w
   pub parts : (view w.pass).parts ≡ 1

@@ -23,11 +23,11 @@ use tag::{LONGEST_VALUE, MOST_MEMBERS, MOST_WORKERS, Refusal};
 
 /// Encodes `value` into n pieces of which any k give it back, as `encode` does, with `workers` workers, each in a
 /// thread of its own. The caller's thread waits for them, and then makes the pieces that are left without a gate: all
-/// pieces where there is no worker. It is no refusal if a thread cannot be started.
+/// pieces if there is no worker. It is no refusal if a thread cannot be started.
 ///
-/// `BadLayout` where `k` is 0 or above `n`, or `n` is above `MOST_MEMBERS`; else `TooLong` where the value is longer
-/// than `LONGEST_VALUE` bytes; else `Full` where there are more than `MOST_WORKERS` workers; else `NoMemory` where an
-/// allocation is refused, once all threads have ended.
+/// Is refused with `BadLayout` if `k` is 0 or above `n`, or `n` is above `MOST_MEMBERS`; otherwise with `TooLong` if
+/// the value is longer than `LONGEST_VALUE` bytes; otherwise with `Full` if there are more than `MOST_WORKERS` workers;
+/// otherwise with `NoMemory` if an allocation is refused, once all threads have ended.
 pub fn encode_all<G: Gate, R: Threads + Wait + Sync>(
     rt: &R,
     alloc: Global,
@@ -53,7 +53,7 @@ pub fn encode_all<G: Gate, R: Threads + Wait + Sync>(
     Ok(assemble(k, n, value, pieces))
 }
 
-/// The pieces of `value` at the points 0 to n - 1, in that order. `NoMemory` is the only refusal.
+/// Returns the pieces of `value` at the points 0 to n - 1, in that order. `NoMemory` is the only refusal.
 fn all_pieces<G: Gate, R: Threads + Wait + Sync>(
     rt: &R,
     alloc: Global,

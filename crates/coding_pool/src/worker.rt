@@ -46,7 +46,7 @@ impl<'a> Promise<Answer> for CodingJob<'a> {
 }
 
 impl Worker {
-    /// A worker that has taken no job. It allocates no memory.
+    /// Makes a worker that has taken no job. It allocates no memory.
     pub fn new(errand: CodingJob, pass: JobPass) -> Worker
         requires pass { IsPassOf errand.jobs.now pass }
         requires popped { (view pass).popped ≡ [] }

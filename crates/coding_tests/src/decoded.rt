@@ -12,7 +12,7 @@ pub(crate) type Fragment = (u8, &'static [u8]);
 /// How many pieces give a value, their fragments, and the value.
 pub(crate) type Row = (u8, &'static [Fragment], &'static [u8]);
 
-/// The pieces with these points and fragments, of a value of `len` bytes.
+/// Returns the pieces with these points and fragments, of a value of `len` bytes.
 fn pieces_of(rt: &impl Abort, alloc: Global, len: u32, fragments: &[Fragment]) -> Vec<Piece> {
     let mut pieces = Vec::new(alloc);
     for &(point, bytes) in fragments {

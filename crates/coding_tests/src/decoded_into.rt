@@ -12,7 +12,7 @@ use std::alloc::Global;
 use std::process::Abort;
 use tag::Refusal;
 
-/// What `decode_into` answers for these fragments, and what it leaves in `len` bytes that were all AA.
+/// Returns what `decode_into` answers for these fragments, and what it leaves in `len` bytes that were all AA.
 fn decoded_into(
     rt: &impl Abort,
     alloc: Global,
@@ -98,7 +98,7 @@ fn refuses_more_fragments_than_points(rt: HostRuntime) {
     assert_same(&rt, "the refusal and the bytes", (refused, &out), expected);
 }
 
-/// A value of `len` bytes, in which each value of a byte comes up where it is long enough.
+/// Returns a value of `len` bytes, in which each value of a byte comes up if it is long enough.
 pub(crate) fn value_of_len(rt: &impl Abort, alloc: Global, len: usize) -> Bytes {
     let mut value = vec![in alloc; 0u8; len].expect(rt, "so many bytes");
     let mut next = 1u8;
@@ -109,7 +109,7 @@ pub(crate) fn value_of_len(rt: &impl Abort, alloc: Global, len: usize) -> Bytes 
     Bytes::from_vec(value).expect(rt, "so many bytes")
 }
 
-/// What `decode_into` makes of the last `k` of the 255 pieces of a value of `len` bytes, the last one first.
+/// Returns what `decode_into` makes of the last `k` of the 255 pieces of a value of `len` bytes, the last one first.
 fn into_from_the_last(rt: &impl Abort, alloc: Global, k: u8, len: usize, coded: &Coded) -> Vec<u8>
     requires { coded.now.n ≡ 255 }
 {
@@ -126,7 +126,7 @@ fn into_from_the_last(rt: &impl Abort, alloc: Global, k: u8, len: usize, coded: 
     out
 }
 
-/// The last `k` of the 255 pieces, the last one first.
+/// Returns the last `k` of the 255 pieces, the last one first.
 fn last_pieces(rt: &impl Abort, alloc: Global, k: u8, coded: &Coded) -> Vec<Piece>
     requires { coded.now.n ≡ 255 }
 {

@@ -59,7 +59,7 @@ fn meets_the_definition_at_each_length(rt: HostRuntime) {
 /// The most bytes of a value, and of all fragments of one, in the test below.
 const MOST_BYTES: usize = 255 * 65;
 
-/// Whether each byte of the first seven fragments, and of the last one, is as it is defined.
+/// Returns whether each byte of the first seven fragments, and of the last one, is as it is defined.
 fn are_fragments(k: u8, n: u8, value: &[u8]) -> bool
     requires threshold { 1 ≤ k }
     requires most { length value.now ≤ MOST_BYTES }

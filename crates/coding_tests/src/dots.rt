@@ -117,7 +117,7 @@ fn sums_rows_as_the_byte_loop_does(rt: HostRuntime) {
     }
 }
 
-/// The sum of the bytes b of the sources by the powers of `point`, with the field's product.
+/// Returns the sum of the bytes b of the sources by the powers of `point`, with the field's product.
 fn power_sum(sources: &[&[u8]], point: u8, b: usize) -> u8 {
     let mut sum = 0;
     let mut power = 1;

@@ -17,7 +17,7 @@ fn add_fragment(rt: &impl Abort, text: &mut String, fragment: &[u8]) {
     }
 }
 
-/// The fragments of `value` in hexadecimal, in the order of their points.
+/// Returns the fragments of `value` in hexadecimal, in the order of their points.
 fn fragments(rt: &impl Abort, alloc: Global, k: u8, n: u8, value: &[u8]) -> String {
     let value = Bytes::copy_from_slice(alloc, value).expect(rt, "a copy");
     let coded = encode(alloc, k, n, value).expect(rt, "fragments");

@@ -11,7 +11,8 @@ use std::alloc::Global;
 use std::process::Abort;
 use tag::Refusal;
 
-/// What `repair_into` returns for these fragments, and what it leaves in the bytes of a fragment that were all AA.
+/// Returns what `repair_into` returns for these fragments, and what it leaves in the bytes of a fragment that were all
+/// AA.
 fn repaired(
     rt: &impl Abort,
     alloc: Global,
@@ -89,7 +90,7 @@ fn repairs_nothing_from_bad_pieces(rt: HostRuntime) {
     }
 }
 
-/// The fragment at `point`, from the last `k` of the 255 pieces of a value of `len` bytes, the last one first.
+/// Returns the fragment at `point`, from the last `k` of the 255 pieces of a value of `len` bytes, the last one first.
 fn from_the_last(
     rt: &impl Abort,
     alloc: Global,

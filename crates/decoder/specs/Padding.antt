@@ -5,7 +5,7 @@ use Rattle.encoder.specs.Fragment.{fragment_len}
 use Rattle.piece.specs.declared.piece.Piece.{Piece}
 use Rattle.decoder.specs.Pieces.{IsInterpolated}
 
--- these are the k whole blocks whose fragments are the pieces, and no others are
+-- these are the k whole blocks whose fragments are the pieces, and no other blocks have these fragments
 pub record AreBlocks (k len : ℕ) (pieces : List Piece) (blocks : List ℕ) : Type 0 where
   pub interpolated : IsInterpolated k (k * fragment_len k len) pieces blocks
   pub only : (other : List ℕ) → IsInterpolated k (k * fragment_len k len) pieces other → other ≡ blocks

@@ -10,7 +10,7 @@ use std::alloc::Global;
 use std::marker::Model;
 use tag::Refusal;
 
-/// A value with the `k` pieces that it was decoded from, made by `decode` alone.
+/// A value with the `k` pieces from which it was decoded. Only `decode` makes one.
 #[derive(Debug, Drop)]
 pub struct Decoded {
     k: u8,
@@ -29,7 +29,7 @@ impl Model for Decoded {
 }
 
 impl Decoded {
-    /// The value of which these are pieces.
+    /// Returns the value of which these are pieces.
     pub fn value(&self) -> &Bytes
         ensures value { result.now ≡ self.now.value }
         ensures decoded { IsDecoded self.now }
@@ -37,14 +37,14 @@ impl Decoded {
         &self.value
     }
 
-    /// The value, and its pieces are given up.
+    /// Returns the value, and drops its pieces.
     pub fn into_value(self) -> Bytes
         ensures { result ≡ self.value }
     {
         self.value
     }
 
-    /// The `k` pieces, in the order in which they were given.
+    /// Returns the `k` pieces, in the order in which they were given.
     pub fn pieces(&self) -> &[Piece]
         ensures pieces { result.now ≡ self.now.pieces }
         ensures decoded { IsDecoded self.now }
@@ -52,7 +52,7 @@ impl Decoded {
         self.pieces.as_slice()
     }
 
-    /// How many pieces there are.
+    /// Returns how many pieces there are.
     pub fn k(&self) -> u8
         ensures { result ≡ self.now.k }
     {
@@ -60,10 +60,12 @@ impl Decoded {
     }
 }
 
-/// The value of `len` bytes whose fragments the pieces are, cut into `k` blocks of `len.div_ceil(k)` bytes. Refused
-/// with `BadPieces` where the pieces are not `k` pieces at distinct points of a value of `len` bytes, within the
-/// limits, or where no such value has these fragments: then a byte past `len` in the interpolated blocks is not 0. Else
-/// refused with `NoMemory`, which is told only where there is such a value.
+/// Decodes the value of `len` bytes whose fragments the pieces are. It is cut into `k` blocks of `len.div_ceil(k)`
+/// bytes.
+///
+/// Is refused with `BadPieces` unless the pieces are `k` pieces at distinct points of a value of `len` bytes, within
+/// the limits, or if no such value has these fragments; then a byte past `len` in the interpolated blocks is not 0. If
+/// there is such a value, `NoMemory` is the only refusal.
 pub fn decode(alloc: Global, k: u8, len: u32, pieces: Vec<Piece>) -> Result<Decoded, Refusal>
     ensures kept { IfOk result (λ d. (d.k ≡ k) × (d.pieces ≡ pieces.items)) }
     ensures lawful { OnOk result (AreLawful k len pieces.items) }
@@ -85,7 +87,7 @@ pub fn decode(alloc: Global, k: u8, len: u32, pieces: Vec<Piece>) -> Result<Deco
     Ok(Decoded { k, pieces, value })
 }
 
-/// The value of `len` bytes whose fragments the lawful pieces are.
+/// Returns the value of `len` bytes whose fragments the lawful pieces are.
 fn value_of(alloc: Global, k: u8, len: u32, pieces: &[Piece]) -> Result<Bytes, Refusal>
     requires lawful { AreLawful k len pieces.now }
     requires bytes { AreOfBytes pieces.now }
@@ -98,7 +100,7 @@ fn value_of(alloc: Global, k: u8, len: u32, pieces: &[Piece]) -> Result<Bytes, R
     Ok(Bytes::from_vec(value)?)
 }
 
-/// The bytes of the value of `len` bytes whose fragments the lawful pieces are.
+/// Returns the bytes of the value of `len` bytes whose fragments the lawful pieces are.
 fn value_bytes(alloc: Global, k: u8, len: u32, pieces: &[Piece]) -> Result<Vec<u8>, Refusal>
     requires lawful { AreLawful k len pieces.now }
     requires bytes { AreOfBytes pieces.now }

@@ -7,10 +7,12 @@ use crate::lawful::are_lawful_parts;
 use crate::rooms::write_value;
 use tag::Refusal;
 
-/// Decodes into `out`, whose length is the value's: piece i has point i and fragment i, of `out.len().div_ceil(k)`
-/// bytes. Refused with `BadPieces` where these are not as many fragments as points, and `k` pieces at distinct points
-/// of a value of that length, within the limits, or where no such value has these fragments; then `out` is as it was.
-/// It takes no memory.
+/// Decodes a value into `out`, whose length is that of the value. Piece i has point i and fragment i, which has
+/// `out.len().div_ceil(k)` bytes. It allocates no memory.
+///
+/// Is refused with `BadPieces` unless there are as many fragments as points, and these are `k` pieces at distinct
+/// points of a value of that length, within the limits, or if no such value has these fragments. Then `out` is
+/// unchanged.
 pub fn decode_into(k: u8, points: &[u8], fragments: &[&[u8]], out: &mut [u8]) -> Result<(), Refusal>
     ensures bad_pieces { (result ≡ Err Refusal.BadPieces) ↔
         ((¬ AreLawfulParts k (length out.old) points.now (bytes_of fragments.now))

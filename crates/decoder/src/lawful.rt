@@ -10,7 +10,7 @@ use arrayvec::ArrayVec;
 use piece::Piece;
 use tag::{LONGEST_VALUE, MOST_MEMBERS};
 
-/// Whether these are `k` pieces at distinct points, each of a value of `len` bytes, within the limits.
+/// Returns whether these are `k` pieces at distinct points, each of a value of `len` bytes, within the limits.
 pub(crate) fn are_lawful(k: u8, len: u32, pieces: &[Piece]) -> bool
     ensures lawful { IsTrue result ↔ AreLawful k len pieces.now }
     // What the type of `pieces` says, for callers that hold no slice of their bytes.
@@ -32,7 +32,7 @@ pub(crate) fn are_lawful(k: u8, len: u32, pieces: &[Piece]) -> bool
     are_distinct(points(pieces).as_slice())
 }
 
-/// Whether the piece names this length of its value and has a fragment of that length.
+/// Returns whether the piece names this length of its value and has a fragment of that length.
 fn has_lens(piece: &Piece, len: u32, fragment_len: usize) -> bool
     ensures lens { IsTrue result ↔ ((piece.now.len ≡ len) × (length piece.now.bytes ≡ fragment_len)) }
     ensures bytes { AreBytes piece.now.bytes }
@@ -41,7 +41,7 @@ fn has_lens(piece: &Piece, len: u32, fragment_len: usize) -> bool
     piece.len == len && bytes.len() == fragment_len
 }
 
-/// Whether these are as many fragments as points, and `k` lawful pieces of a value of `len` bytes.
+/// Returns whether these are as many fragments as points, and `k` lawful pieces of a value of `len` bytes.
 pub(crate) fn are_lawful_parts(k: u8, len: usize, points: &[u8], fragments: &[&[u8]]) -> bool
     ensures lawful { IsTrue result ↔ AreLawfulParts k len points.now (bytes_of fragments.now) }
     ensures bytes { OnTrue result (AreOfBytes (pieces_at len points.now (bytes_of fragments.now))) }
@@ -55,14 +55,14 @@ pub(crate) fn are_lawful_parts(k: u8, len: usize, points: &[u8], fragments: &[&[
     are_distinct(points)
 }
 
-/// Whether these are `k` points and `k` fragments, within the limits.
+/// Returns whether these are `k` points and `k` fragments, within the limits.
 fn are_counts_lawful(k: u8, len: usize, points: usize, fragments: usize) -> bool
     ensures { IsTrue result ↔ ((1 ≤ k) × (len ≤ LONGEST_VALUE) × (points ≡ k) × (fragments ≡ k)) }
 {
     k >= 1 && len <= LONGEST_VALUE && points == k as usize && fragments == k as usize
 }
 
-/// Whether each fragment has this length.
+/// Returns whether each fragment has this length.
 fn have_len(fragments: &[&[u8]], len: usize) -> bool
     ensures lens { IsTrue result ↔ ((i : ℕ) → i < length fragments.now
         → length (slice_index_or (bytes_of fragments.now) i []) ≡ len) }
@@ -77,7 +77,7 @@ fn have_len(fragments: &[&[u8]], len: usize) -> bool
     true
 }
 
-/// Whether the fragment has this length.
+/// Returns whether the fragment has this length.
 fn has_len(fragment: &[u8], len: usize) -> bool
     ensures len { IsTrue result ↔ (length fragment.now ≡ len) }
     ensures bytes { AreBytes fragment.now }
@@ -85,7 +85,7 @@ fn has_len(fragment: &[u8], len: usize) -> bool
     fragment.len() == len
 }
 
-/// The fragments of the pieces, and empty ones behind them.
+/// Returns the fragments of the pieces, and empty ones after them.
 pub(crate) fn fragments(pieces: &[Piece]) -> [&[u8]; MOST_MEMBERS]
     requires { length pieces.now ≤ MOST_MEMBERS }
     ensures len { length result ≡ MOST_MEMBERS }
@@ -99,7 +99,7 @@ pub(crate) fn fragments(pieces: &[Piece]) -> [&[u8]; MOST_MEMBERS]
     fragments
 }
 
-/// The points of the pieces.
+/// Returns the points of the pieces.
 pub(crate) fn points(pieces: &[Piece]) -> ArrayVec<u8, MOST_MEMBERS>
     requires { length pieces.now ≤ MOST_MEMBERS }
     ensures points { result.items ≡ points_of pieces.now }
@@ -112,7 +112,7 @@ pub(crate) fn points(pieces: &[Piece]) -> ArrayVec<u8, MOST_MEMBERS>
     points
 }
 
-/// Whether no two points are equal.
+/// Returns whether no two points are equal.
 fn are_distinct(points: &[u8]) -> bool
     ensures distinct { IsTrue result ↔ AreDistinct points.now }
     ensures bytes { AreBytes points.now }

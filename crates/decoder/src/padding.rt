@@ -6,8 +6,8 @@ ghost use Rattle.decoder.specs.Rows.{block_byte};
 
 use gf256::mul;
 
-/// Whether the blocks have only zeros past the first `len` bytes, which are fewer than there are fragments where the
-/// blocks are those of `len` bytes: only these are computed, one at a time.
+/// Returns whether the blocks have only zeros past the first `len` bytes, which are fewer than there are fragments if
+/// the blocks are those of `len` bytes: only these are computed, one at a time.
 pub(crate) fn is_padding_zero(
     table: &[u8],
     fragments: &[&[u8]],

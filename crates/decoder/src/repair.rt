@@ -13,9 +13,10 @@ use crate::weights::write_sum;
 use dot_kernel::Tables;
 use tag::{MOST_MEMBERS, Refusal};
 
-/// Writes the fragment at `point` to `out`, of the value of `len` bytes that has these fragments at these points: the
-/// work is about a k-th of that of `decode_into`. Refused with `BadPieces` as `decode_into` for that value; then `out`
-/// is as it was. It takes no memory.
+/// Writes the fragment at `point` to `out`, of the value of `len` bytes that has these fragments at these points. The
+/// work is about a k-th of that of `decode_into`. It allocates no memory.
+///
+/// Is refused with `BadPieces` as `decode_into` is for that value. Then `out` is unchanged.
 pub fn repair_into(
     k: u8,
     points: &[u8],

@@ -1,5 +1,5 @@
-//! Decoding in the least of the rooms on the stack that serve k: a small one is made sooner. Each stands in a function
-//! that is not inlined, or a call would pay for all of them.
+//! Decoding with a room on the stack, the smallest of five that is large enough for k, because a small room is made
+//! sooner. Each room is in a function of its own that is not inlined; otherwise a call would pay for all rooms.
 
 ghost use Rattle.std.specs.Prelude.{◌≡◌, ◌*◌, ◌≤◌, ◌⊎◌, length, IfErr, IfOk, OnErr, OnOk};
 ghost use Rattle.dot_kernel.specs.Dot.{bytes_of};
@@ -17,7 +17,7 @@ pub(crate) const MOST_COEFFICIENTS: usize = 65_025;
 /// The most tables of one pass: 8 KiB, of which those of 255 fragments for one block fill nearly all.
 const MOST_TABLES: usize = 256;
 
-/// The value of `len` bytes of which these are lawful pieces.
+/// Returns the value of `len` bytes of which these are lawful pieces.
 pub(crate) fn make_value(
     alloc: Global,
     k: u8,

@@ -42,7 +42,7 @@ pub(crate) fn write_blocks(
     }
 }
 
-/// How many bytes of each of `k` fragments a stripe has: all of them where one pass makes all blocks.
+/// Returns how many bytes of each of `k` fragments a stripe has: all of them if one pass makes all blocks.
 fn stripe_width(k: usize, size: usize) -> usize
     ensures { 1 ≤ result }
 {
@@ -83,7 +83,8 @@ fn write_stripe(
     }
 }
 
-/// How many blocks one pass takes where `left` are left, at most `most`: the passes have about as many as each other.
+/// Returns how many blocks one pass takes if `left` are left, at most `most`: the passes have about as many as each
+/// other.
 fn blocks_at_once(left: usize, most: usize) -> usize
     requires { 1 ≤ most }
     ensures some { 1 ≤ result }

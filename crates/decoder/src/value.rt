@@ -16,8 +16,8 @@ use poly::fill_rows;
 use std::alloc::{AllocError, Global};
 use tag::Refusal;
 
-/// Makes the value of `len` bytes of which these are lawful pieces. Memory is asked for only where there is such a
-/// value, so that bad pieces are always told.
+/// Makes the value of `len` bytes of which these are lawful pieces. Memory is asked for only if there is such a value,
+/// so that bad pieces are always told.
 pub(crate) fn make_with(
     alloc: Global,
     table: &mut [u8],
@@ -44,7 +44,7 @@ pub(crate) fn make_with(
     Ok(made_blocks(alloc, tables, table, fragments, len, block_len)?)
 }
 
-/// The first `len` bytes of the blocks, of `size` bytes each.
+/// Returns the first `len` bytes of the blocks, of `size` bytes each.
 fn made_blocks(
     alloc: Global,
     tables: &mut [Tables],
@@ -95,8 +95,8 @@ pub(crate) fn write_with(
     Ok(())
 }
 
-/// Whether a value of `len` bytes has these pieces, which are lawful. Fills in the table of their rows: where there is
-/// such a value, it is the first bytes of the blocks.
+/// Returns whether a value of `len` bytes has these pieces, which are lawful. Fills in the table of their rows: if
+/// there is such a value, it is the first bytes of the blocks.
 pub(crate) fn have_value(
     table: &mut [u8],
     k: u8,

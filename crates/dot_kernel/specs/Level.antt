@@ -4,7 +4,7 @@ use Rattle.std.specs.Prelude.{◌≡◌, ◌<◌, ◌&&◌, ◌==◌, if◌then�
 use Rattle.gf256.specs.Field.{field_sum}
 use Rattle.dot_kernel.specs.Dot.{row}
 
--- 1 for row 0 where `one` says so, else 0
+-- 1 for row 0 if `one` says so, and otherwise 0
 abbrev pub level : Bool → ℕ → ℕ
 level one r = if one && r == 0 then 1 else 0
 

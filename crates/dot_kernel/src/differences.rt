@@ -1,7 +1,8 @@
-//! Sums of products of which the coefficients sum up to 0 or 1: a product for each source but the first.
+//! Sums of products whose coefficients sum up to 0 or 1. They take a product for each source but the first.
 //!
-//! The sum over the sources, each times its coefficient, is that over their differences from the first source, and the
-//! first one times the sum of all coefficients besides. A source's difference is read once for all rows.
+//! The sum of the sources, each times its coefficient, equals the sum of their differences from the first source, each
+//! times the same coefficient, plus the first source times the sum of all coefficients. A source's difference is
+//! computed once for all rows.
 
 ghost use Rattle.std.specs.Prelude.{◌≡◌, ℕ, ◌+◌, ◌*◌, ◌^◌, ◌<◌, ◌≤◌, [], length, slice_index, slice_index_or};
 ghost use Rattle.dot_kernel.specs.Dot.{AreDots, AreDotsWithin, bytes_of, lanes_from};
@@ -12,8 +13,8 @@ use crate::blocks::{BLOCK, load};
 use crate::dots::{MOST_ROWS, shortest, store_two_rows, write_end};
 use std::simd::prelude::*;
 
-/// `dots_of`, where the coefficients of each row sum up to 0, but those of row 0 to 1 where `one` says so. It takes a
-/// product less for each row.
+/// Does what `dots_of` does, with one product fewer for each row. The coefficients of each row must sum up to 0, except
+/// that those of row 0 must sum up to 1 if `one` is true.
 pub fn differences_of<const R: usize>(
     out: &mut [u8],
     tables: &[Tables],
@@ -31,8 +32,9 @@ pub fn differences_of<const R: usize>(
     differences_between::<R>(out, tables, sources, size, 0, size, one);
 }
 
-/// `differences_of` from byte `from` of each row up to byte `until`, as far as `out` goes: it may end before the rows
-/// do, as where the last one is cut short. The bytes before `from` are those that the caller has made.
+/// Does what `differences_of` does, for the bytes of each row from byte `from` up to byte `until`, as far as `out`
+/// goes: `out` may end before the rows do, so that the last row is cut short. The caller has made the bytes before
+/// `from`.
 pub fn differences_between<const R: usize>(
     out: &mut [u8],
     tables: &[Tables],
@@ -99,7 +101,7 @@ fn write_two_blocks<const R: usize>(
     store_two_rows::<R>(out, size, start, left, right);
 }
 
-/// The first source's lanes in row 0 where `one` says so, else zeros.
+/// Returns the first source's lanes in row 0 if `one` says so, and otherwise zeros.
 #[inline(always)]
 fn first_sums<const R: usize>(origin: u8x32, one: bool) -> [u8x32; R]
     requires few { R ≤ MOST_ROWS }

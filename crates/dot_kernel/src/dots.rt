@@ -11,8 +11,8 @@ use std::simd::prelude::*;
 /// The most rows of one pass. With more than some six, their sums no longer fit the registers.
 pub const MOST_ROWS: usize = 16;
 
-/// Makes byte b of `out` be the sum of the bytes b of the sources, each times its coefficient. Past the end of a source
-/// its bytes are zero.
+/// Sets byte b of `out` to the sum of the bytes b of the sources, each times its coefficient. Past the end of a source
+/// its bytes count as zero.
 pub fn dot(out: &mut [u8], tables: &[Tables], sources: &[&[u8]])
     requires { length tables.now ≡ length sources.now }
     ensures { EachIndex out.new (λ b. slice_index out.new b
@@ -21,8 +21,8 @@ pub fn dot(out: &mut [u8], tables: &[Tables], sources: &[&[u8]])
     dots_of::<1>(out, tables, sources, out.len());
 }
 
-/// `dot` for `R` rows of coefficients, in one pass over the sources. Row r goes to the `size` bytes of `out` from
-/// `r * size` on, and its coefficient of source j stands at `j * R + r` in `tables`.
+/// Does what `dot` does for `R` rows of coefficients, in one pass over the sources. Row r goes to the `size` bytes of
+/// `out` from `r * size` on, and its coefficient of source j stands at `j * R + r` in `tables`.
 pub fn dots_of<const R: usize>(out: &mut [u8], tables: &[Tables], sources: &[&[u8]], size: usize)
     requires few { R ≤ MOST_ROWS }
     requires coefficients { length tables.now ≡ length sources.now * R }
@@ -63,7 +63,7 @@ pub(crate) fn write_end<const R: usize>(
     }
 }
 
-/// The length of the shortest source, and `most` where each is longer.
+/// Returns the length of the shortest source, and `most` if each is longer.
 pub(crate) fn shortest(sources: &[&[u8]], most: usize) -> usize
     ensures most { result ≤ most }
     ensures each { (j : ℕ) → j < length sources.now → result ≤ length (slice_index_or (bytes_of sources.now) j []) }

@@ -12,7 +12,7 @@ use crate::dots::MOST_ROWS;
 use crate::line::{Line, line_of, next, next_value, value};
 use std::simd::prelude::*;
 
-/// The line of the last two sources, or of the last one where there is no other.
+/// Returns the line of the last two sources, or of the last one if there is no other.
 #[inline(always)]
 fn last_line(sources: &[&[u8]], start: usize, whole: bool) -> Line
     requires some { 1 ≤ length sources.now }
@@ -31,7 +31,7 @@ fn last_line(sources: &[&[u8]], start: usize, whole: bool) -> Line
     }
 }
 
-/// The lines of one block further down.
+/// Returns the lines of one block further down.
 #[inline(always)]
 fn next_lines<const R: usize>(
     lines: [Line; R],
@@ -80,7 +80,7 @@ fn lines<const R: usize>(
     lines
 }
 
-/// The values of the lines at both points of each pair.
+/// Returns the values of the lines at both points of each pair.
 #[inline(always)]
 fn values<const R: usize>(lines: [Line; R], points: &[Tables; R], zero: bool) -> [u8x32; R]
     requires few { R ≤ MOST_ROWS }

@@ -14,7 +14,7 @@ pub(crate) struct Line {
     pub(crate) level: u8x32,
 }
 
-/// The line of this slope and level, whose lanes are bytes.
+/// Returns the line of this slope and level, whose lanes are bytes.
 #[inline(always)]
 pub(crate) fn line_of(slope: u8x32, level: u8x32) -> Line
     ensures is { result ≡ record { slope = slope; level = level } }
@@ -24,8 +24,8 @@ pub(crate) fn line_of(slope: u8x32, level: u8x32) -> Line
     Line { slope, level }
 }
 
-/// The line with the values of x times the line plus `block` at the two points whose product has these tables, `step`.
-/// Where it is known to be 0, `zero` saves a product.
+/// Returns the line with the values of x times the line plus `block` at the two points whose product has these tables,
+/// `step`. If it is known to be 0, `zero` saves a product.
 #[inline(always)]
 pub(crate) fn next(slope: u8x32, level: u8x32, step: &Tables, block: u8x32, zero: bool) -> Line
     requires { IsTrue zero → step.now ≡ 0 }
@@ -38,7 +38,7 @@ pub(crate) fn next(slope: u8x32, level: u8x32, step: &Tables, block: u8x32, zero
     }
 }
 
-/// The values of the line at `point`. Where it is known to be 0, `zero` saves a product.
+/// Returns the values of the line at `point`. If it is known to be 0, `zero` saves a product.
 #[inline(always)]
 pub(crate) fn value(slope: u8x32, level: u8x32, point: &Tables, zero: bool) -> u8x32
     requires { IsTrue zero → point.now ≡ 0 }
@@ -48,7 +48,7 @@ pub(crate) fn value(slope: u8x32, level: u8x32, point: &Tables, zero: bool) -> u
     product(point, slope, zero) ^ level
 }
 
-/// The values of a line at the second point of a pair, from those at the first.
+/// Returns the values of a line at the second point of a pair, from those at the first.
 #[inline(always)]
 pub(crate) fn next_value(slope: u8x32, values: u8x32) -> u8x32
     ensures { (u level i : ℕ) → u < 256 → u % 2 ≡ 0 → i < 32
@@ -58,7 +58,7 @@ pub(crate) fn next_value(slope: u8x32, values: u8x32) -> u8x32
     values ^ slope
 }
 
-/// The coefficient times each lane. Where it is known to be 0, `zero` saves the look-ups.
+/// Returns the coefficient times each lane. If it is known to be 0, `zero` saves the look-ups.
 #[inline(always)]
 fn product(coefficient: &Tables, lanes: u8x32, zero: bool) -> u8x32
     requires { IsTrue zero → coefficient.now ≡ 0 }

@@ -1,7 +1,8 @@
 //! Sums by the powers of points, of several points in one pass over the sources, without tables for each source.
 //!
-//! Two points u and u + 1, with u even, are the roots of x^2 + x + u(u + 1). What the polynomial whose coefficients are
-//! the sources leaves by it is a line with the polynomial's values at both, so that one product serves both of them.
+//! Two points u and u + 1, with u even, are the roots of x^2 + x + u(u + 1). If the polynomial whose coefficients are
+//! the sources is divided by it, the remainder is a line with the polynomial's values at both points. So one product
+//! serves both points.
 
 ghost use Rattle.std.specs.Prelude.{◌≡◌, ℕ, ◌+◌, ◌*◌, ◌%◌, ◌<◌, ◌≤◌, []};
 ghost use Rattle.std.specs.Prelude.{length, slice_index, slice_index_or, IsTrue};
@@ -16,8 +17,8 @@ use crate::lanes::power_lanes;
 use gf256::mul;
 use std::simd::prelude::*;
 
-/// Makes byte b of row r of `out`, which has `R` rows of `size` bytes, be the sum of the bytes b of the sources, each
-/// source j times the power j of the point `first + r`. Past the end of a source its bytes are zero.
+/// Sets byte b of row r of `out`, which has `R` rows of `size` bytes, to the sum of the bytes b of the sources, each
+/// source j times the power j of the point `first + r`. Past the end of a source its bytes count as zero.
 pub fn powers_of<const R: usize>(out: &mut [u8], sources: &[&[u8]], size: usize, first: usize)
     requires few { R ≤ MOST_ROWS }
     requires some { 1 ≤ length sources.now }
@@ -29,8 +30,8 @@ pub fn powers_of<const R: usize>(out: &mut [u8], sources: &[&[u8]], size: usize,
     powers_between::<R>(out, sources, size, first, 0, size);
 }
 
-/// `powers_of` from byte `from` of each row up to byte `until`. The bytes before `from` are those that the caller has
-/// made.
+/// Does what `powers_of` does, for the bytes of each row from byte `from` up to byte `until`. The caller has made the
+/// bytes before `from`.
 pub fn powers_between<const R: usize>(
     out: &mut [u8],
     sources: &[&[u8]],
@@ -61,7 +62,7 @@ pub fn powers_between<const R: usize>(
     }
 }
 
-/// The tables of the first points of the pairs from `first` on.
+/// Returns the tables of the first points of the pairs from `first` on.
 fn points<const R: usize>(first: usize) -> [Tables; R]
     requires few { R ≤ MOST_ROWS }
     requires points { first + R ≤ 256 }
@@ -74,7 +75,7 @@ fn points<const R: usize>(first: usize) -> [Tables; R]
     points
 }
 
-/// The tables of the products of both points of the pairs from `first` on.
+/// Returns the tables of the products of both points of the pairs from `first` on.
 fn steps<const R: usize>(first: usize) -> [Tables; R]
     requires few { R ≤ MOST_ROWS }
     requires even { first % 2 ≡ 0 }
@@ -90,7 +91,7 @@ fn steps<const R: usize>(first: usize) -> [Tables; R]
     steps
 }
 
-/// `powers_between`, where the tables are made. Where `first` is known to be 0, `zero` saves the products of the first
+/// `powers_between`, where the tables are made. If `first` is known to be 0, `zero` saves the products of the first
 /// pair.
 #[inline(always)]
 fn write_rows<const R: usize>(

@@ -57,7 +57,7 @@ const PRODUCTS: [u8; 1024] = [
     189, 6, 177, 10, 218, 97, 103, 220, 12, 183,
 ];
 
-/// The products of `c` with the halves of bytes.
+/// Returns the products of `c` with the halves of bytes.
 #[inline(always)]
 pub(crate) fn products(c: u8) -> [u8; 32]
     ensures { result ≡ scaled c HALVES }

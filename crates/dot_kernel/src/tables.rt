@@ -38,14 +38,14 @@ impl Model for Tables {
 }
 
 impl Tables {
-    /// The tables of 0.
+    /// Returns the tables of 0.
     pub fn zero() -> Tables
         ensures { result ≡ 0 }
     {
         Tables { products: [0; 32] }
     }
 
-    /// The tables of the coefficient `c`.
+    /// Returns the tables of the coefficient `c`.
     pub fn new(c: u8) -> Tables
         ensures { result ≡ c }
     {
@@ -54,7 +54,7 @@ impl Tables {
         }
     }
 
-    /// The coefficient times each lane.
+    /// Returns the coefficient times each lane.
     #[inline(always)]
     pub fn times(&self, lanes: u8x32) -> u8x32
         ensures { result ≡ scaled self.now lanes }
@@ -62,7 +62,7 @@ impl Tables {
         looked_up(&self.products, lanes)
     }
 
-    /// The tables of the product of two coefficients.
+    /// Returns the tables of the product of two coefficients.
     #[inline(always)]
     pub fn product(&self, other: &Tables) -> Tables
         ensures { result ≡ field_product self.now other.now }
@@ -74,7 +74,8 @@ impl Tables {
     }
 }
 
-/// The coefficient of these products times each lane: the sum of the products of its lower and of its upper half.
+/// Returns the coefficient of these products times each lane: the sum of the products of its lower and of its upper
+/// half.
 #[inline(always)]
 fn looked_up(products: &[u8; 32], lanes: u8x32) -> u8x32
     requires { products.now ≡ scaled (slice_index products.now 1) HALVES }
@@ -86,7 +87,7 @@ fn looked_up(products: &[u8; 32], lanes: u8x32) -> u8x32
         ^ high.swizzle_dyn_within::<16>((lanes >> 4) & u8x32::splat(15))
 }
 
-/// The 16 bytes from `start` on, twice.
+/// Returns the 16 bytes from `start` on, twice.
 #[inline(always)]
 fn twice(bytes: &[u8], start: usize) -> u8x32
     requires { start + 16 ≤ length bytes.now }

@@ -25,8 +25,8 @@ pub record IsCodable (k n : ℕ) (value : List ℕ) : Type 0 where
 abbrev pub ArePieces : List ℕ → ℕ → List Piece → Type 0
 ArePieces value k pieces = (i : ℕ) → i < length pieces → slice_get pieces i ≡ Some (piece_at_point value k i)
 
--- why a value of len bytes is not coded with k and n: first what is
--- wrong with k and n, then with the length; none where nothing is wrong
+-- why a value of len bytes is not coded with k and n: first what is wrong with k and n, then with the length; none if
+-- nothing is wrong
 abbrev pub encode_cause : ℕ → ℕ → ℕ → Option Refusal
 encode_cause k n len =
     if k == 0 || nat_lt n k || nat_lt MOST_MEMBERS n then Some BadLayout

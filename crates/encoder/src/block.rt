@@ -16,7 +16,7 @@ const MOST_BLOCKS: usize = 255;
 /// As many blocks as most codes have.
 const FEW_BLOCKS: usize = 16;
 
-/// The piece of `value` at the point `i`, with `value.len().div_ceil(k)` bytes. `NoMemory` is the only refusal.
+/// Returns the piece of `value` at the point `i`, with `value.len().div_ceil(k)` bytes. `NoMemory` is the only refusal.
 pub fn piece(alloc: Global, k: u8, i: u8, value: &[u8]) -> Result<Piece, Refusal>
     requires threshold { 1 ≤ k }
     requires longest { length value.now ≤ LONGEST_VALUE }
@@ -31,7 +31,7 @@ pub fn piece(alloc: Global, k: u8, i: u8, value: &[u8]) -> Result<Piece, Refusal
 }
 
 /// Writes the fragments of `value` at the points below `n` to `out`, one after another, each of
-/// `value.len().div_ceil(k)` bytes. It takes no memory.
+/// `value.len().div_ceil(k)` bytes. It allocates no memory.
 pub fn encode_into(k: u8, n: u8, value: &[u8], out: &mut [u8])
     requires threshold { 1 ≤ k }
     requires longest { length value.now ≤ LONGEST_VALUE }
@@ -41,7 +41,8 @@ pub fn encode_into(k: u8, n: u8, value: &[u8], out: &mut [u8])
     write_fragments(k, 0, n as usize, value, out);
 }
 
-/// Writes the fragment of `value` at the point `i` to `out`, `value.len().div_ceil(k)` bytes. It takes no memory.
+/// Writes the fragment of `value` at the point `i`, of `value.len().div_ceil(k)` bytes, to `out`. It allocates no
+/// memory.
 pub fn fragment_into(k: u8, i: u8, value: &[u8], out: &mut [u8])
     requires threshold { 1 ≤ k }
     requires longest { length value.now ≤ LONGEST_VALUE }
@@ -51,7 +52,7 @@ pub fn fragment_into(k: u8, i: u8, value: &[u8], out: &mut [u8])
     write_fragments(k, i as usize, 1, value, out);
 }
 
-/// The fragments of `value` at the `n` points from `first` on, one after another.
+/// Returns the fragments of `value` at the `n` points from `first` on, one after another.
 pub(crate) fn fragments_from(
     alloc: Global,
     k: u8,
@@ -109,8 +110,8 @@ fn write_blocks<'a>(
     write_points(out, blocks, block_len, first, n);
 }
 
-/// Makes `blocks` be the first blocks of `value`, of `block_len` bytes each, as far as the value goes: the block at its
-/// end is shorter, and one past it is empty.
+/// Sets `blocks` to the first blocks of `value`, each of `block_len` bytes. The block at the end of the value is
+/// shorter, and blocks past the end are empty.
 pub fn fill_blocks<'a>(blocks: &mut [&'a [u8]], value: &'a [u8], block_len: usize)
     requires { length blocks.old * block_len < 2 ^ 64 }
     ensures { AreBlocksOfValue (bytes_of blocks.new) (length blocks.old) block_len value.now }

@@ -34,7 +34,7 @@ impl Model for Coded {
 }
 
 impl Coded {
-    /// The value that was coded.
+    /// Returns the value that was coded.
     pub fn value(&self) -> &Bytes
         ensures value { result.now ≡ self.now.value }
         ensures lawful { IsCodable self.now.k self.now.n self.now.value }
@@ -42,7 +42,7 @@ impl Coded {
         &self.value
     }
 
-    /// How many pieces determine the value.
+    /// Returns how many pieces determine the value.
     pub fn k(&self) -> u8
         ensures k { result ≡ self.now.k }
         ensures lawful { IsCodable self.now.k self.now.n self.now.value }
@@ -50,7 +50,7 @@ impl Coded {
         self.k
     }
 
-    /// How many pieces there are.
+    /// Returns how many pieces there are.
     pub fn n(&self) -> u8
         ensures n { result ≡ self.now.n }
         ensures lawful { IsCodable self.now.k self.now.n self.now.value }
@@ -58,7 +58,7 @@ impl Coded {
         self.n
     }
 
-    /// The piece at the point `i`.
+    /// Returns the piece at the point `i`.
     pub fn piece_at(&self, i: u8) -> &Piece
         requires { i < self.now.n }
         ensures { result.now ≡ piece_at_point self.now.value self.now.k i }
@@ -69,8 +69,8 @@ impl Coded {
 
 /// Codes `value` into `n` pieces of `value.len().div_ceil(k)` bytes each; the value itself is kept and not copied.
 ///
-/// Refused with `BadLayout` where `k` is 0 or above `n`, or `n` is above `MOST_MEMBERS`; else with `TooLong` where the
-/// value is longer than `LONGEST_VALUE`; else with `NoMemory` where memory is refused.
+/// Is refused with `BadLayout` if `k` is 0 or above `n`, or `n` is above `MOST_MEMBERS`; otherwise with `TooLong` if
+/// the value is longer than `LONGEST_VALUE`; otherwise with `NoMemory` if memory is refused.
 pub fn encode(alloc: Global, k: u8, n: u8, value: Bytes) -> Result<Coded, Refusal>
     ensures coded { IfOk result (λ c. c ≡ record { k = k; n = n; value = value }) }
     ensures refused { IsByCause (encode_cause k n (length value)) result }
@@ -85,7 +85,7 @@ pub fn encode(alloc: Global, k: u8, n: u8, value: Bytes) -> Result<Coded, Refusa
     Ok(assemble(k, n, value, pieces))
 }
 
-/// The pieces of `value` at the points below `n`. Their fragments share one block of memory.
+/// Returns the pieces of `value` at the points below `n`. Their fragments share one block of memory.
 fn pieces(alloc: Global, k: u8, n: u8, value: &[u8]) -> Result<Vec<Piece>, Refusal>
     requires threshold { 1 ≤ k }
     requires longest { length value.now ≤ LONGEST_VALUE }
@@ -120,7 +120,7 @@ fn piece_in(fragments: &Bytes, k: u8, n: u8, i: u8, value: &[u8]) -> Result<Piec
     })
 }
 
-/// Puts a value together with its `n` pieces, each made by `piece`. It takes no memory.
+/// Puts a value together with its `n` pieces, each made by `piece`. It allocates no memory.
 pub fn assemble(k: u8, n: u8, value: Bytes, pieces: Vec<Piece>) -> Coded
     requires lawful { IsCodable k n value }
     requires count { length pieces.items ≡ n }

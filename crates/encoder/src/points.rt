@@ -39,7 +39,7 @@ pub(crate) fn write_points(out: &mut [u8], sources: &[&[u8]], size: usize, first
     }
 }
 
-/// How many bytes of each of `k` sources a stripe has for `n` rows: all of them where one pass makes all rows.
+/// Returns how many bytes of each of `k` sources a stripe has for `n` rows: all of them if one pass makes all rows.
 fn stripe_width(k: usize, n: usize, size: usize) -> usize
     requires { 1 ≤ k }
     ensures { 1 ≤ result }
@@ -77,7 +77,7 @@ fn write_stripe(
     }
 }
 
-/// How many points one pass takes from `first` on: points go in pairs, of which the first one is even.
+/// Returns how many points one pass takes from `first` on: points go in pairs, of which the first one is even.
 fn points_at_once(first: usize) -> usize
     ensures some { 1 ≤ result }
     ensures most { result ≤ MOST_POINTS }

@@ -30,10 +30,7 @@ AreBytes-times_root q cs hq hc = AreBytes-sum_of _ _ (All-cons IsByte 0 cs (lit<
 pub evaluate-times_root : (q : ℕ) (cs : List ℕ) (x : ℕ) → q < 256 → AreBytes cs → x < 256
     → evaluate (times_root q cs) x ≡ field_product (bit_xor x q) (evaluate cs x)
 unfolding times_root evaluate
-evaluate-times_root q cs x hq hc hx =
-    evaluate-sum_of (0 ∷ cs) (scaled q cs) x
-    ∙ ap (bit_xor (field_product x (evaluate cs x))) (evaluate-scaled q cs x hq hc hx)
-    ∙ sym (product-sum_left x q (evaluate cs x))
+evaluate-times_root q cs x hq hc hx = grind (arith, bit_xor, evaluate-scaled, evaluate-sum_of, product-sum_left)
 
 -- the polynomial that is 1 at p and 0 at each of the others
 basis_over : List ℕ → ℕ → List ℕ
@@ -95,8 +92,7 @@ basis_over_zero (q ∷ qs) p hqs hp apart (suc k) hk =
 
 distinct_at : (points : List ℕ) → AreDistinct points → (i j : ℕ) → i < length points → j < length points → i ≢ j →
     get_or points i 0 ≢ get_or points j 0
-distinct_at points distinct i j hi hj apart e =
-    ⊎_elim (λ low. distinct i j 0 low hj e) (λ high. distinct j i 0 (omega arith) hi (sym e)) (cases_lt i j)
+distinct_at points distinct i j hi hj apart e = grind arith
 
 -- the row i of Lagrange's basis at the points
 pub basis_row : List ℕ → ℕ → List ℕ

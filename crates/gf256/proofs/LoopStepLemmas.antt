@@ -25,8 +25,7 @@ low_bits_more a i =
     ∙ xor_comm (bit_at a i * 2 ^ i) (a % 2 ^ i)
 
 pub low_bits_set : (a i : ℕ) → i < 8 → bit_at a i ≡ 1 → a % 2 ^ (i + 1) ≡ bit_xor (a % 2 ^ i) (field_power 2 i)
-low_bits_set a i hi set =
-    low_bits_more a i ∙ ap (λ d. bit_xor (a % 2 ^ i) (d * 2 ^ i)) set ∙ ap (bit_xor (a % 2 ^ i)) (one-mul (2 ^ i) ∙ sym (power_of_two i hi))
+low_bits_set a i hi set = grind (arith, bit_xor, low_bits_more, one-mul, power_of_two)
 
 pub low_bits_clear : (a i : ℕ) → bit_at a i ≡ 0 → a % 2 ^ (i + 1) ≡ a % 2 ^ i
 low_bits_clear a i clear =
@@ -35,9 +34,7 @@ low_bits_clear a i clear =
 
 -- the base is squared and the exponent halved
 pub power_half_even : (base left : ℕ) → base < 256 → left % 2 ≡ 0 → field_power (field_product base base) (left / 2) ≡ field_power base left
-power_half_even base left hb even =
-    let e : left / 2 * 2 ≡ left = omega arith in
-    power-square base (left / 2) hb ∙ ap (field_power base) e
+power_half_even base left hb even = grind (arith, power-square)
 
 pub power_half_odd : (product base left : ℕ) → product < 256 → base < 256 → left % 2 ≡ 1 →
     field_product (field_product product base) (field_power (field_product base base) (left / 2))

@@ -5,10 +5,10 @@ ghost use Rattle.gf256.specs.Field.{field_product, field_power};
 
 use crate::logarithms::{ORDER, logarithm, power};
 
-/// `x^8` modulo `x^8 + x^4 + x^3 + x^2 + 1`: the byte to add where doubling an element carries out of 8 bits.
+/// `x^8` modulo `x^8 + x^4 + x^3 + x^2 + 1`: the byte to add if doubling an element carries out of 8 bits.
 pub const REDUCED_X8: u8 = 0x1D;
 
-/// The product of two elements of the field.
+/// Returns the product of two elements of the field.
 pub fn mul(a: u8, b: u8) -> u8
     ensures { result ≡ field_product a b }
 {
@@ -18,7 +18,7 @@ pub fn mul(a: u8, b: u8) -> u8
     power(logarithm(a) + logarithm(b))
 }
 
-/// The inverse of `a`: the element whose product with `a` is 1. `a` must not be 0.
+/// Returns the inverse of `a`: the element whose product with `a` is 1. `a` must not be 0.
 pub fn inv(a: u8) -> u8
     requires { 0 < a }
     ensures { field_product result a ≡ 1 }
@@ -27,7 +27,7 @@ pub fn inv(a: u8) -> u8
     power(ORDER - logarithm(a))
 }
 
-/// `a` divided by `b`: the element whose product with `b` is `a`. `b` must not be 0.
+/// Returns `a` divided by `b`: the element whose product with `b` is `a`. `b` must not be 0.
 pub fn div(a: u8, b: u8) -> u8
     requires { 0 < b }
     ensures { field_product result b ≡ a }
@@ -35,7 +35,7 @@ pub fn div(a: u8, b: u8) -> u8
     mul(a, inv(b))
 }
 
-/// `a` to the power `exponent`. Any element to the power 0 is 1.
+/// Returns `a` to the power `exponent`. Any element to the power 0 is 1.
 pub fn pow(a: u8, exponent: u32) -> u8
     ensures { result ≡ field_power a exponent }
 {

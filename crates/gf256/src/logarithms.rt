@@ -61,7 +61,7 @@ pub(crate) fn power(exponent: usize) -> u8
     at(&POWERS, exponent)
 }
 
-/// The exponent at which `x` gives `a`. For 0 the result means nothing.
+/// Returns the exponent at which `x` gives `a`. For 0 the result means nothing.
 #[inline(always)]
 pub(crate) fn logarithm(a: u8) -> usize
     ensures small { result < ORDER }
@@ -70,7 +70,7 @@ pub(crate) fn logarithm(a: u8) -> usize
     at(&LOGARITHMS, a as usize) as usize
 }
 
-/// The entry of the table at this index.
+/// Returns the entry of the table at this index.
 #[inline(always)]
 fn at(table: &[u8], place: usize) -> u8
     requires { place < length table.now }

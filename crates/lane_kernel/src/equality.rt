@@ -5,7 +5,7 @@ ghost use Rattle.std.specs.Prelude.{◌≡◌, ℕ, ◌+◌, ◌<◌, ◌≤◌,
 use crate::BLOCK;
 use std::simd::prelude::*;
 
-/// Whether two slices of the same length hold the same bytes.
+/// Returns whether two slices of the same length hold the same bytes.
 pub fn same(a: &[u8], b: &[u8]) -> bool
     requires { length a.now ≡ length b.now }
     ensures { IsTrue result ↔ (a.now ≡ b.now) }
@@ -24,7 +24,7 @@ pub fn same(a: &[u8], b: &[u8]) -> bool
     true
 }
 
-/// Whether the blocks of `BLOCK` bytes that begin at `start` hold the same bytes.
+/// Returns whether the blocks of `BLOCK` bytes that begin at `start` hold the same bytes.
 fn is_block_same(a: &[u8], b: &[u8], start: usize) -> bool
     requires left { start + BLOCK ≤ length a.now }
     requires right { start + BLOCK ≤ length b.now }

@@ -33,10 +33,10 @@ impl Model for Layout {
 }
 
 impl Layout {
-    /// A layout of the given servers, in the order of their points, where any `k` fragments give a value back.
+    /// Makes a layout of the given servers, in the order of their points. Any `k` fragments give a value back.
     ///
-    /// `BadLayout` unless `1 <= k <= n <= MOST_MEMBERS`, where `n` is the number of servers, and no server is named
-    /// twice.
+    /// Is refused with `BadLayout` unless `1 <= k <= n <= MOST_MEMBERS`, where `n` is the number of servers, and no
+    /// server is named twice.
     pub fn new(k: u8, members: &[u8]) -> Result<Layout, Refusal>
         ensures made { IfOk result (λ l. l ≡ record { k = k; members = members.now }) }
         ensures lawful { IsOk result ↔ IsLawful (record { k = k; members = members.now }) }
@@ -51,7 +51,7 @@ impl Layout {
         Ok(Layout { k, members: listed })
     }
 
-    /// How many fragments give a value back: from 1 to n.
+    /// Returns how many fragments give a value back: from 1 to n.
     pub fn k(&self) -> u8
         ensures value { result ≡ self.now.k }
         ensures lawful { IsLawful self.now }
@@ -59,7 +59,7 @@ impl Layout {
         self.k
     }
 
-    /// How many members there are: from k to `MOST_MEMBERS`.
+    /// Returns how many members there are: from k to `MOST_MEMBERS`.
     pub fn n(&self) -> u8
         ensures value { result ≡ length self.now.members }
         ensures lawful { IsLawful self.now }
@@ -67,8 +67,8 @@ impl Layout {
         self.members.len() as u8
     }
 
-    /// The least size of a quorum: half of n + k, rounded up, so that any two quorums have at least `k` members in
-    /// common (Cadambe, Lynch, Médard and Musial, 2014).
+    /// Returns the least size of a quorum: half of n + k, rounded up, so that any two quorums have at least `k` members
+    /// in common (Cadambe, Lynch, Médard and Musial, 2014).
     pub fn quorum(&self) -> u8
         ensures value { result ≡ quorum_of self.now }
         ensures some { 1 ≤ result }
@@ -77,7 +77,7 @@ impl Layout {
         (self.members.len() + usize::from(self.k)).div_ceil(2) as u8
     }
 
-    /// The server that is member `i`, from 0.
+    /// Returns the server that is member `i`, from 0.
     pub fn member(&self, i: u8) -> u8
         requires { i < length self.now.members }
         ensures { result ≡ slice_index self.now.members i }
@@ -85,7 +85,8 @@ impl Layout {
         self.members[usize::from(i)]
     }
 
-    /// The point of the fragments that `server` keeps, which is its member number, from 0. None if it is not a member.
+    /// Returns the point of the fragments that `server` keeps, which is its member number, from 0, or none if it is not
+    /// a member.
     pub fn point_of(&self, server: u8) -> Option<u8>
         ensures { result ≡ position (λ m. m == server) self.now.members }
     {
@@ -94,7 +95,7 @@ impl Layout {
     }
 }
 
-/// The same layout. It allocates no memory and is never refused.
+/// Returns the same layout. It allocates no memory and is never refused.
 impl Clone for Layout {
     ghost use Rattle.std.specs.Prelude.{◌≡◌};
 

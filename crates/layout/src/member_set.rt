@@ -32,7 +32,7 @@ impl Model for MemberSet {
 }
 
 impl MemberSet {
-    /// The empty set.
+    /// Makes the empty set.
     pub fn new() -> MemberSet
         ensures { result ≡ set.empty }
     {
@@ -56,14 +56,14 @@ impl MemberSet {
         true
     }
 
-    /// Whether `member` is in the set.
+    /// Returns whether `member` is in the set.
     pub fn has(&self, member: u8) -> bool
         ensures { result ≡ set.contains self.now member }
     {
         self.present[usize::from(member)]
     }
 
-    /// The number of members in the set.
+    /// Returns the number of members in the set.
     pub fn count(&self) -> usize
         ensures { result ≡ set.len self.now }
     {

@@ -1,6 +1,6 @@
 use bytes::Bytes;
 
-/// A fragment of a value, with what a decoder has to know of it.
+/// A fragment of a value, with what a decoder has to know about it.
 #[derive(Clone, Debug, PartialEq, Eq, Drop)]
 pub struct Piece {
     /// The point of the fragment: the place of its member in the layout, from 0.

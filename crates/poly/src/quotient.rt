@@ -1,4 +1,4 @@
-//! Division of a polynomial by `x + root`, where it is 0 at the root, and what is computed from the quotient.
+//! Division of a polynomial by `x + root`, if it is 0 at the root, and what is computed from the quotient.
 ghost use Rattle.std.specs.Prelude.{◌≡◌, ℕ, ◌+◌, ◌<◌, length, drop, slice_index};
 ghost use Rattle.gf256.specs.Field.{field_product};
 ghost use Rattle.gf256.specs.Polynomial.{evaluate};
@@ -24,7 +24,7 @@ pub(crate) fn quotient(row: &mut [u8], polynomial: &[u8], root: u8) -> u8
     value
 }
 
-/// The value at `x` of the polynomial with these coefficients, the constant one first.
+/// Returns the value at `x` of the polynomial with these coefficients, the constant one first.
 pub fn value_at(polynomial: &[u8], x: u8) -> u8
     ensures { result ≡ evaluate polynomial.now x }
 {

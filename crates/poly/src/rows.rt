@@ -30,7 +30,7 @@ impl Model for Rows {
 }
 
 impl Rows {
-    /// The rows for these points, of which there are at most `MOST_MEMBERS`, all distinct.
+    /// Makes the rows for these points, of which there are at most `MOST_MEMBERS`, all distinct.
     pub fn new(points: &[u8]) -> Rows
         requires distinct { AreDistinct points.now }
         requires fits { length points.now ≤ MOST_MEMBERS }
@@ -55,8 +55,8 @@ impl Rows {
     }
 }
 
-/// Row `i` by itself: the coefficients of the polynomial that is 1 at point `i` and 0 at the other points, the constant
-/// one first. Several rows of the same points cost less by `Rows`, which computes what they share only once.
+/// Returns row `i` by itself: the coefficients of the polynomial that is 1 at point `i` and 0 at the other points, the
+/// constant one first. Several rows of the same points cost less by `Rows`, which computes what they share only once.
 pub fn basis(points: &[u8], i: usize) -> ArrayVec<u8, MOST_MEMBERS>
     requires distinct { AreDistinct points.now }
     requires fits { length points.now ≤ MOST_MEMBERS }

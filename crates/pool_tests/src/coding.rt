@@ -9,7 +9,7 @@ use std::process::Abort;
 use std::sync::Wait;
 use std::thread::Threads;
 
-/// The pieces of a value, made by so many workers.
+/// Returns the pieces of a value, made by so many workers.
 pub(crate) fn code<G: Gate, R: Threads + Wait + Abort + Sync>(
     rt: &R,
     alloc: Global,

@@ -23,7 +23,7 @@ impl Crowd {
         }
     }
 
-    /// Whether so many were inside at once.
+    /// Returns whether so many were inside at once.
     pub(crate) fn has_met(&self) -> bool {
         self.has_met.load(Ordering::SeqCst)
     }

@@ -19,7 +19,7 @@ impl Hold {
         }
     }
 
-    /// Whether job 1 left while job 0 was held.
+    /// Returns whether job 1 left while job 0 was held.
     pub(crate) fn has_overlapped(&self) -> bool {
         self.overlapped.load(Ordering::SeqCst)
     }

@@ -4,6 +4,6 @@ use Rattle.std.specs.Prelude.{◌≡◌, ◌⊎◌, Option, Some, None}
 use Rattle.tag.specs.declared.refusal.Refusal.{Refusal}
 use Rattle.tag.specs.declared.refusal.Refusal.TheVariants.{NoMemory}
 
--- the refusal is the given cause, or NoMemory where there is no cause
+-- the refusal is the given cause, or NoMemory if there is no cause
 abbrev pub IsRefusalBy : Option Refusal → Refusal → Type 0
 IsRefusalBy cause refusal = (cause ≡ Some refusal) ⊎ ((cause ≡ None) × (refusal ≡ NoMemory))

@@ -50,11 +50,11 @@ name_of Stranger = codes "Stranger"
 abbrev pub refusal_text : Refusal → List ℕ
 refusal_text r = decimal (number_of r) ++ 32 ∷ name_of r
 
--- the result is the given cause of refusal where there is one, and else Ok or NoMemory
+-- the result is the given cause of refusal if there is one, and otherwise Ok or NoMemory
 abbrev pub IsByCause : {T : Type 0} → Option Refusal → Result T Refusal → Type 0
 IsByCause cause answer =
     MatchResult answer (λ _. cause ≡ None) (λ r. (cause ≡ Some r) ⊎ ((cause ≡ None) × (r ≡ NoMemory)))
 
--- the result is the given cause of refusal where there is one, and else Ok: for a function that allocates no memory
+-- the result is the given cause of refusal if there is one, and otherwise Ok: for a function that allocates no memory
 abbrev pub IsExactlyByCause : {T : Type 0} → Option Refusal → Result T Refusal → Type 0
 IsExactlyByCause cause answer = MatchResult answer (λ _. cause ≡ None) (λ r. cause ≡ Some r)

@@ -48,14 +48,14 @@ pub enum Refusal {
 }
 
 impl Refusal {
-    /// The number of the refusal, from 1 to 17, by which programs print it.
+    /// Returns the number of the refusal, from 1 to 17, by which programs print it.
     pub fn number(self) -> u8
         ensures { result ≡ number_of self }
     {
         self as u8
     }
 
-    /// The name of the refusal, by which programs print it.
+    /// Returns the name of the refusal, by which programs print it.
     pub fn name(self) -> &'static str
         ensures { result.now ≡ name_of self }
     {

@@ -18,7 +18,7 @@ impl Tag {
     /// The tag of the empty value, with which every bank begins.
     pub const OPENING: Tag = Tag { number: 0, call: 0 };
 
-    /// Whether this tag comes before `other`: by number, and then by call.
+    /// Returns whether this tag comes before `other`: by number, and then by call.
     pub fn is_below(self, other: Tag) -> bool
         ensures order { IsTrue result ↔ IsBelow self other }
         ensures value { result ≡ tag_lt self other }
@@ -26,7 +26,7 @@ impl Tag {
         self < other
     }
 
-    /// Whether the two tags are the same.
+    /// Returns whether the two tags are the same.
     pub fn is(self, other: Tag) -> bool
         ensures same { IsTrue result ↔ (self ≡ other) }
         ensures value { result ≡ tag_eq self other }
@@ -34,14 +34,14 @@ impl Tag {
         self == other
     }
 
-    /// The later of the two tags.
+    /// Returns the later of the two tags.
     pub fn later(self, other: Tag) -> Tag
         ensures { result ≡ later_tag self other }
     {
         if self < other { other } else { self }
     }
 
-    /// The tag of a write by the call of this number, where `self` is the greatest tag that its queries found.
+    /// Returns the tag of a write by the call of this number, where `self` is the greatest tag that its queries found.
     pub fn next(self, call: CallId) -> Tag
         requires { self.number + 1 < 2 ^ 64 }
         ensures { result ≡ next_tag self call }

@@ -2,6 +2,6 @@
 -- What a writer holds.
 use Rattle.std.specs.Prelude.{ℕ, List, Option}
 
--- the bytes that a writer holds; none where they are not known
+-- the bytes that a writer holds; none if they are not known
 abbrev pub Written : Type 0
 Written = Option (List ℕ)

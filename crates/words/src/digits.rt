@@ -2,7 +2,7 @@
 ghost use Rattle.std.specs.Prelude.{◌≡◌, ◌≤◌, ◌<◌, IfOk};
 ghost use Rattle.words.specs.Digits.{first_digit, with_digit};
 
-/// The number that its first digit writes. The fault is `bad` where the byte is no digit.
+/// Returns the number that its first digit writes. The fault is `bad` if the byte is no digit.
 #[tactic(auto, unfolding(crate::specs::Digits::first_digit))]
 pub fn first_digit<E: Copy>(byte: u8, bad: E) -> Result<u64, E>
     ensures small { IfOk result (λ number. number ≤ 9) }
@@ -14,8 +14,8 @@ pub fn first_digit<E: Copy>(byte: u8, bad: E) -> Result<u64, E>
     Ok(u64::from(byte - b'0'))
 }
 
-/// The number that the digits of `number` write with one more digit behind them. The fault is `bad` where the byte is
-/// no digit or `number` is a leading 0, and `above` where the result would be above `most`.
+/// Returns the number that the digits of `number` write with one more digit after them. The fault is `bad` if the byte
+/// is no digit or `number` is a leading 0, and `above` if the result would be above `most`.
 #[tactic(auto, unfolding(crate::specs::Digits::with_digit))]
 pub fn with_digit<E: Copy>(number: u64, byte: u8, most: u64, bad: E, above: E) -> Result<u64, E>
     ensures within { IfOk result (λ more. more ≤ most) }

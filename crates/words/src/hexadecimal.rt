@@ -11,8 +11,8 @@ use std::fmt;
 /// How many bytes are turned into digits at a time.
 const CHUNK: usize = 512;
 
-/// The bytes that a word spells: two hexadecimal digits of either case for each byte, or `.` for no bytes. None for any
-/// other word, such as the empty one or one with an odd number of digits.
+/// Returns the bytes that a word spells: two hexadecimal digits of either case for each byte, or `.` for no bytes.
+/// Returns none for any other word, such as the empty one or one with an odd number of digits.
 pub fn parse_bytes(alloc: Global, word: &str) -> Result<Option<Bytes>, AllocError>
     ensures { IfOk result (λ found. MatchOption found
         ((bytes : List ℕ) → ¬ (IsHexadecimal word.now bytes)) (IsHexadecimal word.now)) }
@@ -49,7 +49,7 @@ impl fmt::Display for Hexadecimal<'_> {
     }
 }
 
-/// The digits of `bytes`, which are written to the front of `digits`.
+/// Returns the digits of `bytes`, which are written to the front of `digits`.
 fn digits_of<'a>(bytes: &[u8], digits: &'a mut [u8]) -> &'a str
     requires { 2 * length bytes.now ≤ length digits.old }
     ensures { result.now ≡ encode_lower bytes.now }

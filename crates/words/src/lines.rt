@@ -5,9 +5,9 @@ ghost use Rattle.std.specs.Str.Lines.{lines, strip_carriage_return};
 
 use std::alloc::{AllocError, Global};
 
-/// The lines of a text, without their ends: line n, counted from 1, is at index n - 1. A line ends with a line feed,
-/// with or without a carriage return before it. The last line may lack its end, and a carriage return then belongs to
-/// the line. The error comes only where memory is refused for the list of lines.
+/// Returns the lines of a text, without their ends: line n, counted from 1, is at index n - 1. A line ends with a line
+/// feed, with or without a carriage return before it. The last line may lack its end, and a carriage return then
+/// belongs to the line. The error comes only if memory is refused for the list of lines.
 pub fn split_lines(alloc: Global, text: &[u8]) -> Result<Vec<&[u8]>, AllocError>
     ensures { IfOk result (λ all. map (λ l. l.now) all.items ≡ lines text.now) }
 {
@@ -23,7 +23,7 @@ pub fn split_lines(alloc: Global, text: &[u8]) -> Result<Vec<&[u8]>, AllocError>
     Ok(lines)
 }
 
-/// The first line, and what follows it; none where no line has an end.
+/// Returns the first line, and what follows it; none if no line has an end.
 fn first_line(text: &[u8]) -> Option<(&[u8], &[u8])>
     ensures shorter { IfSome result (λ p. length p.1.now < length text.now) }
     ensures cut { IfSome result (λ p. lines text.now ≡ p.0.now ∷ lines p.1.now) }

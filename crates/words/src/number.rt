@@ -2,7 +2,8 @@
 ghost use Rattle.std.specs.Prelude.{ℕ, MatchOption};
 ghost use Rattle.words.specs.Number.{IsNumber};
 
-/// The number that a word spells in decimal digits. None for any other word, for one with a sign, and from 2^64 on.
+/// Returns the number below 2^64 that a word spells in decimal digits, or none for any other word, such as one with a
+/// sign.
 pub fn parse_number(word: &str) -> Option<u64>
     ensures { MatchOption result ((n : ℕ) → ¬ (IsNumber word.now n)) (IsNumber word.now) }
 {
