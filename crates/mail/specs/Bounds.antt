@@ -1,5 +1,5 @@
 -- The bounds that are kept beside the messages, and by which the messages of a call are found.
-use Rattle.std.specs.Prelude.{◌≡◌, ◌≢◌, ℕ, zero, suc, ◌<◌, ◌≤◌, max, List, [], ◌∷◌, length, slice_index}
+use Rattle.std.specs.Prelude.{◌≢◌, ℕ, zero, suc, ◌<◌, ◌≤◌, max, List, [], ◌∷◌, length, slice_index}
 use Rattle.mail.specs.declared.message.Message.{Message}
 
 -- there are at least `from` messages, and the first `from` of them are of other calls
@@ -16,12 +16,12 @@ AreBounds least (message ∷ messages) [] = ⊥
 AreBounds least (message ∷ messages) (bound ∷ bounds) =
     (least ≤ bound) × (message.call ≤ bound) × AreBounds bound messages bounds
 
--- the last of the bounds, or `least` where there are none
+-- the last of the bounds, or `least` if there are none
 abbrev pub last_bound : (least : ℕ) → (bounds : List ℕ) → ℕ
 last_bound least [] = least
 last_bound least (bound ∷ bounds) = last_bound bound bounds
 
--- the bounds of messages behind one whose bound is `least`: the greatest call number so far, at least `least`
+-- the bounds of messages after one whose bound is `least`: the greatest call number so far, at least `least`
 abbrev pub bounds_from : (least : ℕ) → List Message → List ℕ
 bounds_from least [] = []
 bounds_from least (message ∷ messages) =

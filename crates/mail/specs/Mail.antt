@@ -1,4 +1,4 @@
--- The waiting messages in the order of their places, and what each operation makes of them.
+-- The waiting messages in the order of their places, and how each operation changes them.
 use Rattle.std.specs.Prelude.{◌≡◌, ℕ, nat_le, ◌&&◌, Bool, true, if◌then◌else◌, Option, Some, None}
 use Rattle.std.specs.Prelude.{List, [], ◌∷◌, ◌++◌, length, sum_by, slice_get, slice_set}
 use Rattle.tag.specs.declared.limits.TheConstants.{MOST_BYTES, MOST_MESSAGES}

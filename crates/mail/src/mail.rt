@@ -38,7 +38,7 @@ impl Model for Mail {
 }
 
 impl Mail {
-    /// An empty mail. It allocates no memory.
+    /// Makes an empty mail. It allocates no memory.
     pub fn new(alloc: Global) -> Mail
         ensures { result ≡ [] }
     {
@@ -49,7 +49,7 @@ impl Mail {
         }
     }
 
-    /// How many messages wait.
+    /// Returns how many messages wait.
     pub fn len(&self) -> usize
         ensures value { result ≡ length self.now }
         ensures within { result ≤ MOST_MESSAGES }
@@ -57,14 +57,14 @@ impl Mail {
         self.messages.len()
     }
 
-    /// Whether no message waits.
+    /// Returns whether no message waits.
     pub fn is_empty(&self) -> bool
         ensures { result ≡ (length self.now == 0) }
     {
         self.messages.is_empty()
     }
 
-    /// The message at a place, from 0.
+    /// Returns the message at a place, from 0.
     pub fn at(&self, place: usize) -> &Message
         requires { place < length self.now }
         ensures { slice_get self.now place ≡ Some result.now }
@@ -72,8 +72,8 @@ impl Mail {
         &self.messages[place]
     }
 
-    /// A place before which there is no message of the call. It is found by binary search, without a look at each
-    /// message. From this place on there may be messages of other calls, but none that was posted before the first
+    /// Returns a place before which there is no message of the call. It is found by binary search, without a look at
+    /// each message. From this place on there may be messages of other calls, but none that was posted before the first
     /// message of this call or of a call with a greater number.
     pub fn first_place(&self, call: CallId) -> usize
         ensures { AreOthers call result self.now }
@@ -81,7 +81,7 @@ impl Mail {
         first_at_least(&self.bounds, call)
     }
 
-    /// The number of bytes of the pieces in all messages. It is kept as a running total.
+    /// Returns the number of bytes of the pieces in all messages. It is kept as a running total.
     pub fn bytes(&self) -> u64
         ensures value { result ≡ mail_bytes self.now }
         ensures within { result ≤ MOST_BYTES }
@@ -89,8 +89,8 @@ impl Mail {
         self.bytes
     }
 
-    /// Appends all messages, or none. `Full` where more than `MOST_MESSAGES` messages would then wait, or their pieces
-    /// would have more than `MOST_BYTES` bytes. Else `NoMemory` where the list cannot grow.
+    /// Appends all messages, or none. Is refused with `Full` if more than `MOST_MESSAGES` messages would then wait, or
+    /// their pieces would have more than `MOST_BYTES` bytes, and otherwise with `NoMemory` if the list cannot grow.
     pub fn post_all(&mut self, messages: Vec<Message>) -> Result<(), Refusal>
         ensures posted { OnOk result (self.new ≡ self.old ++ messages.items) }
         ensures unchanged { OnErr result (self.new ≡ self.old) }
@@ -129,7 +129,7 @@ impl Mail {
         self.bytes += message.bytes();
     }
 
-    /// Removes the message at a place, and returns it. Those behind it move down by one place.
+    /// Removes the message at a place, and returns it. Later messages move forward by one place.
     pub fn take_out(&mut self, place: usize) -> Message
         requires { place < length self.old }
         ensures message { slice_get self.old place ≡ Some result }
@@ -141,7 +141,7 @@ impl Mail {
         message
     }
 
-    /// Removes the message at a place, so that it is lost. Those behind it move down by one place.
+    /// Removes the message at a place, so that it is lost. Later messages move forward by one place.
     pub fn lose(&mut self, place: usize)
         requires { place < length self.old }
         ensures { self.new ≡ remove self.old place }
@@ -149,8 +149,8 @@ impl Mail {
         self.take_out(place);
     }
 
-    /// Appends a copy of the message at a place. A piece shares its bytes with the copy. `Full` and `NoMemory` as for
-    /// `post_all`.
+    /// Appends a copy of the message at a place. A piece shares its bytes with the copy. Is refused with `Full` and
+    /// `NoMemory` as `post_all` is.
     pub fn repeat(&mut self, place: usize) -> Result<(), Refusal>
         requires { place < length self.old }
         ensures posted { OnOk result (self.new ≡ repeated self.old place) }

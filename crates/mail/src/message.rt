@@ -15,7 +15,7 @@ pub enum Body {
 impl Body {
     ghost use Rattle.mail.specs.Message.{body_kind};
 
-    /// The kind of the request that the message is, or is the reply to.
+    /// Returns the kind of the request that the message is, or is the reply to.
     pub fn kind(&self) -> Kind
         ensures { result ≡ body_kind self.now }
     {
@@ -44,7 +44,7 @@ pub struct Message {
 impl Message {
     ghost use Rattle.mail.specs.Message.{message_bytes, answered};
 
-    /// The number of bytes of the piece in the message, or 0 where it has none.
+    /// Returns the number of bytes of the piece in the message, or 0 if it has none.
     pub fn bytes(&self) -> u64
         ensures value { result ≡ message_bytes self.now }
         ensures bound { result < 2 ^ 63 }

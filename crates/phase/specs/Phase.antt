@@ -119,7 +119,8 @@ after_body p call number member (body.Reply k r) now = after_reply p call number
 abbrev pub after_take : Phase → Message → (now : ℕ) → Phase
 after_take p m now = after_body p m.call m.phase m.member m.body now
 
--- the invariant of `Phase`: one reply of a member at most, a quorum of them at most, and ended exactly with a quorum
+-- the invariant of `Phase`: at most one reply of each member, at most those of a quorum, and ended exactly with a
+-- quorum
 pub record IsRecord (members quorum : ℕ) (replies : List Taken) (end : Option ℕ) : Type 0 where
   pub distinct : IsDistinct nat_eq (members_of replies)
   pub room : (1 ≤ quorum) × (quorum ≤ members)

@@ -91,8 +91,8 @@ impl Phase {
     ghost use Rattle.phase.specs.Phase.{is_current, has_taken, makes_quorum, with_reply, lacks_pieces};
     ghost use Rattle.phase.specs.declared.phase.Took.TheVariants as took;
 
-    /// A phase that begins at step `now`. It is complete once `quorum` of the position's `members` have replied. If it
-    /// is a fetch, it needs `needed` pieces.
+    /// Makes a phase that begins at step `now`. It is complete once `quorum` of the position's `members` have replied.
+    /// If it is a fetch, it needs `needed` pieces.
     ///
     /// Room for the replies of a quorum is reserved, so that no take is refused. `NoMemory` is the only refusal.
     pub fn new(
@@ -119,7 +119,7 @@ impl Phase {
         })
     }
 
-    /// Whether the phase has the replies of a quorum.
+    /// Returns whether the phase has the replies of a quorum.
     pub fn complete(&self) -> bool
         ensures value { result ≡ is_some self.now.end }
         ensures kept { IsRecord self.now.members self.now.quorum self.now.replies self.now.end }
@@ -127,14 +127,14 @@ impl Phase {
         self.replies.len() >= usize::from(self.quorum)
     }
 
-    /// Whether a reply of the member was recorded.
+    /// Returns whether a reply of the member was recorded.
     pub fn has_taken(&self, member: u8) -> bool
         ensures { result ≡ has_taken self.now.replies member }
     {
         self.replies.iter().any(|taken| taken.member == member)
     }
 
-    /// Whether fewer replies carry a piece than a fetch needs.
+    /// Returns whether fewer replies carry a piece than a fetch needs.
     pub fn lacks_pieces(&self) -> bool
         ensures { result ≡ lacks_pieces self.now }
     {

@@ -7,35 +7,35 @@ use bank::Kind;
 use tag::Stamp;
 
 impl Phase {
-    /// The replies in the order in which they were taken.
+    /// Returns the replies in the order in which they were taken.
     pub fn replies(&self) -> &[Taken]
         ensures { result.now ≡ self.now.replies }
     {
         &self.replies
     }
 
-    /// The phase's number in its call, from 1.
+    /// Returns the phase's number in its call, from 1.
     pub fn number(&self) -> u32
         ensures { result ≡ self.now.number }
     {
         self.ask.number
     }
 
-    /// What each member is asked.
+    /// Returns what each member is asked.
     pub fn kind(&self) -> Kind
         ensures { result ≡ self.now.kind }
     {
         self.ask.kind
     }
 
-    /// The position whose members are asked, from 0.
+    /// Returns the position whose members are asked, from 0.
     pub fn position(&self) -> u32
         ensures { result ≡ self.now.position }
     {
         self.ask.position
     }
 
-    /// The step at which the phase began, and the step at which it got the last reply of a quorum, if it did.
+    /// Returns the step at which the phase began, and the step at which it got the last reply of a quorum, if it did.
     pub fn steps(&self) -> (Stamp, Option<Stamp>)
         ensures { (result.0 ≡ self.now.start) × (result.1 ≡ self.now.end) }
     {
@@ -55,14 +55,14 @@ impl Phase {
         }
     }
 
-    /// How many members the position has.
+    /// Returns how many members the position has.
     pub fn members(&self) -> u8
         ensures { result ≡ self.now.members }
     {
         self.members
     }
 
-    /// How many replies make a quorum.
+    /// Returns how many replies make a quorum.
     pub fn quorum(&self) -> u8
         ensures { result ≡ self.now.quorum }
     {

@@ -1,6 +1,5 @@
-use Rattle.std.proofs.Common.{List, ℕ, ◌≤◌, length, ◌∙◌, sym, subst}
-use Rattle.mail.specs.Bounds.{AreOthers, AreRising}
-use Rattle.mail.specs.declared.message.Message.{Message}
+use Rattle.std.proofs.Common.{sym, subst}
+use Rattle.mail.specs.Bounds.{AreRising}
 use Rattle.mail.proofs.CallBoundLemmas.{bounds_rise, others_below}
 use Rattle.mail.proofs.mail.Mail.first_place.Goals as goal
 
