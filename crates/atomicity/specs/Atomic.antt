@@ -32,7 +32,7 @@ IsRegister current (entry ∷ later) =
 abbrev pub IsAnsweredBefore : Entry → Entry → Type 0
 IsAnsweredBefore a b = (step : ℕ) × (a.answered ≡ Some step) × (step < b.called)
 
--- the list keeps answer before call: no entry stands behind one that was called after its answer
+-- the list keeps answer before call: an entry that was answered before another was called does not come after the other
 abbrev pub KeepsOrder : List Entry → Type 0
 KeepsOrder [] = Unit {0}
 KeepsOrder (entry ∷ later) = AllByRecursion (λ other. IsAnsweredBefore other entry → ⊥) later × KeepsOrder later

@@ -11,12 +11,12 @@ use Rattle.record.specs.Records.{Call, Object}
 use Rattle.record.specs.Journals.{tag_of}
 use Rattle.record.specs.Wants.{is_fetch}
 
--- the step at which the first of these phases begins, or `since` where there is none
+-- the step at which the first of these phases begins, or `since` if there is none
 abbrev pub first_start : (since : ℕ) → List Phase → ℕ
 first_start since [] = since
 first_start since (phase ∷ phases) = phase.start
 
--- the start of the phase after the last fetch before this place, or `since` where there is no such fetch
+-- the start of the phase after the last fetch before this place, or `since` if there is no such fetch
 abbrev pub last_beginning : (since : ℕ) → List Phase → (place : ℕ) → ℕ
 last_beginning since [] place = since
 last_beginning since (phase ∷ phases) zero = since

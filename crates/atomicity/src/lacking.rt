@@ -1,4 +1,4 @@
-//! Which pieces are kept where banks drop those of old versions, and when a read lacks pieces because of it.
+//! Which pieces are kept if banks drop those of old versions, and when a read lacks pieces because of it.
 ghost use Rattle.std.specs.Prelude.{◌≡◌, ◌<◌, ◌≤◌, ◌+◌, ◌↔◌, ◌⊎◌};
 ghost use Rattle.std.specs.Prelude.{ℕ, false, length, Option, Some, slice_get};
 ghost use Rattle.tag.specs.declared.tag.Tag.{Tag};
@@ -25,7 +25,7 @@ pub fn complete_fetches_have_enough()
         → HasEnough object phase ⊎ HasDropped object phase fetch.0 }
 {}
 
-/// A law: in a sound record a phase has pieces of at least k distinct members exactly where it does not lack pieces.
+/// A law: in a sound record a phase has pieces of at least k distinct members exactly if it does not lack pieces.
 pub fn lacking_is_to_have_too_few()
     ensures { (fragment : Code) (object : Object) (last index place : ℕ) (call : Call) (phase : Phase)
         → IsSound fragment object last → slice_get object.calls index ≡ Some call

@@ -4,18 +4,15 @@ use Rattle.std.proofs.Common.{Option, Some, None, IsSome, refl, sym, subst, ap, 
 use Rattle.std.proofs.lemmas.Option.{same_Some}
 use Rattle.std.specs.List.{AllByRecursion}
 use Rattle.bank.specs.declared.kind.Kind.{Kind}
-use Rattle.bank.specs.declared.kind.Kind.TheVariants as kinds
 use Rattle.phase.specs.Phase.{Phase}
-use Rattle.record.specs.declared.call.CallKind.{CallKind}
-use Rattle.record.specs.declared.call.CallKind.TheVariants.{Read, Write, Move}
+use Rattle.record.specs.declared.call.CallKind.TheVariants.{Move}
 use Rattle.record.specs.declared.call.Entry.{Entry}
-use Rattle.record.specs.declared.stage.Want.TheVariants as want
 use Rattle.record.specs.Fragments.{IsFetch}
 use Rattle.record.specs.Journals.{entry_value}
 use Rattle.record.specs.Legal.{IsLegal, due_of}
 use Rattle.record.specs.Records.{Call, Object}
 use Rattle.record.specs.Steps.{Step, on_call, answered_object}
-use Rattle.record.specs.Wants.{is_fetch, want_after, want_for, want_of_fetch}
+use Rattle.record.specs.Wants.{want_after, want_for}
 use Rattle.soundness.proofs.ListLemmas.{get_set, set_here}
 use Rattle.network.specs.Worlds.{World, NodeCall, without_call}
 use Rattle.network.specs.Events.{Event, on_open, answered_entry, answered_world}
@@ -81,30 +78,10 @@ entries_answered (first ∷ calls) (suc index) now call at alone =
     same_pred : (i index : ℕ) → suc i ≡ suc index → i ≡ index
     same_pred i index e = omega arith
 
--- the value of an answer does not depend on its step
-answer_value : (kind : CallKind) (settled : Option (List ℕ)) (s t : ℕ) →
-    entry_value kind (Some s) settled ≡ entry_value kind (Some t) settled
-answer_value Read settled s t = refl
-answer_value (Write value) settled s t = refl
-answer_value Move settled s t = refl
-
 entry_steps : (old : NodeCall) (call : Call) (now : ℕ) → old.id ≡ call.id → old.kind ≡ call.kind →
     old.settled ≡ call.settled → (entry : Entry) →
     answered_at call call.id (last_step_after now) (entry_in_steps entry) ≡ entry_in_steps (answered_entry old now entry)
-entry_steps old call now id kind settled entry =
-    ap (λ v. cond (eqb entry.call call.id) (answered v) (entry_in_steps entry))
-    (answer_value call.kind call.settled (last_step_after now) now ∙ ap (λ k. entry_value k (Some now) call.settled) (sym kind)
-    ∙ ap (entry_value old.kind (Some now)) (sym settled))
-    ∙ ap (λ n. cond (eqb entry.call n) (answered (entry_value old.kind (Some now) old.settled)) (entry_in_steps entry)) (sym id)
-    ∙ go (eqb entry.call old.id)
-  where
-    answered : Option (List ℕ) → Entry
-    answered value = record (entry_in_steps entry) { answered = Some (last_step_after now); value = value }
-
-    go : (b : Bool) → cond b (answered (entry_value old.kind (Some now) old.settled)) (entry_in_steps entry)
-        ≡ entry_in_steps (cond b (record entry { answered = Some now; value = entry_value old.kind (Some now) old.settled }) entry)
-    go true = refl
-    go false = refl
+entry_steps old call now id kind settled entry = grind arith
 
 entries_steps : (old : NodeCall) (call : Call) (now : ℕ) → old.id ≡ call.id → old.kind ≡ call.kind →
     old.settled ≡ call.settled → (history : List Entry) →
@@ -203,26 +180,9 @@ answered_follow world object old is legal follows =
 
 -- The event
 
-is_fetched : (kind : Kind) → is_fetch kind ≡ true → IsFetch kind
-is_fetched kinds.Next e = absurd (cc)
-is_fetched (kinds.Spread status) e = absurd (cc)
-is_fetched kinds.Query e = absurd (cc)
-is_fetched (kinds.PreWrite tag) e = absurd (cc)
-is_fetched (kinds.Finalize tag) e = absurd (cc)
-is_fetched (kinds.Fetch tag) e = (tag, refl)
-
 pub want_ready : (object : Object) (next : Option (Kind × ℕ)) (settled : Option (List ℕ)) (last : Phase) → IsSome last.end →
     (IsFetch last.kind → IsSome settled) → want_after object next settled (Some last) ≡ want_for object next
-want_ready object next settled last ended fetched =
-    ap (λ b. cond b
-    (cond (is_fetch last.kind) (cond (is_some settled) (want_for object next) (want_of_fetch object last)) (want_for object next))
-    want.Replies) ended
-    ∙ go (is_fetch last.kind) refl
-  where
-    go : (b : Bool) → is_fetch last.kind ≡ b →
-        cond b (cond (is_some settled) (want_for object next) (want_of_fetch object last)) (want_for object next) ≡ want_for object next
-    go true e = ap (λ s. cond s (want_for object next) (want_of_fetch object last)) (fetched (is_fetched last.kind e))
-    go false e = refl
+want_ready object next settled last ended fetched = grind arith
 
 pub answer_followed : (id : ℕ) → IsFollowed (Event.Answer id)
 answer_followed id fragment world object code sound follows may premised =

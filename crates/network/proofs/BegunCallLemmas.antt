@@ -1,5 +1,5 @@
 -- A world in which a node begins a call still follows the record, which begins the call too.
-use Rattle.std.proofs.Common.{◌≡◌, ℕ, zero, suc, ◌⊎◌, false, cond, eqb, eqb-true, List, [], ◌∷◌, ◌++◌, length, map}
+use Rattle.std.proofs.Common.{◌≡◌, ℕ, zero, suc, ◌⊎◌, false, cond, eqb, eqb-true, List, [], ◌∷◌, ◌++◌, length, map, arith}
 use Rattle.std.proofs.Common.{Some, None, take, get_or, refl, sym, ap, ◌∙◌, inl, inr, slice_get}
 use Rattle.std.proofs.lemmas.List.{map-append}
 use Rattle.std.proofs.lemmas.Option.{same_Some}
@@ -19,7 +19,7 @@ use Rattle.record.specs.PhaseOrder.{begun_at, stage_after}
 use Rattle.record.specs.Preconditions.{MayStep}
 use Rattle.record.specs.Records.{Call, Object, base_of, layout_at, no_layout}
 use Rattle.record.specs.Sending.{requests}
-use Rattle.record.specs.Steps.{Step, stepped, called_object, new_call, new_phase, with_phase}
+use Rattle.record.specs.Steps.{Step, stepped, called_object, new_call, new_phase}
 use Rattle.soundness.proofs.ListLemmas.{all_push, all_weaker, get_push}
 use Rattle.soundness.specs.Sound.{IsSound}
 use Rattle.network.specs.Unstamped.{unstamped_message}
@@ -191,16 +191,7 @@ added_follow world object follows node id kind stage phase_kind position unused 
 
 called_is : (object : Object) (id : ℕ) (kind : CallKind) (now : ℕ) → base_of object ≡ 0 →
     called_object object id kind now ≡ with_begun object id kind Next 0 now
-called_is object id kind now base =
-    ap (λ b. with_phase (record object { calls = object.calls ++ new_call id kind now ∷ [] }) (length object.calls)
-    (new_call id kind now) Next b now empty_piece) base
-    ∙ ap (λ calls. let o : Object = record object {
-      calls = calls;
-      mail = object.mail ++ requests id 1 Next 0 (layout_at object 0).members 0 empty_piece;
-    } in o)
-    (set-append_seam object.calls (new_call id kind now) [] (record (new_call id kind now) {
-      phases = new_phase id 1 Next 0 (layout_at object 0) now ∷ [];
-    }))
+called_is object id kind now base = grind (arith, set-append_seam)
 
 call_followed : (step : Step) (kind : CallKind) (fragment : Code) (world : World) (object : Object) (node id : ℕ) → IsCode fragment →
     IsSound fragment object (last_step_after world.now) → Follows world object → IsUnused world id →

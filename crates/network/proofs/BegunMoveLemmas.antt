@@ -1,19 +1,18 @@
 -- A world in which a node begins a move still follows the record, which begins the move too.
-use Rattle.std.proofs.Common.{◌≡◌, ℕ, suc, pred, List, [], ◌∷◌, ◌++◌, length, map, Option, Some, None, IsSome, get_or}
+use Rattle.std.proofs.Common.{◌≡◌, ℕ, suc, pred, List, [], ◌∷◌, ◌++◌, length, map, Option, Some, None, IsSome, get_or, arith}
 use Rattle.std.proofs.Common.{refl, sym, ap, ◌∙◌}
 use Rattle.std.proofs.lemmas.List.{map-append}
 use Rattle.std.proofs.Math.Seq.{set-append_seam}
 use Rattle.layout.specs.Layout.{Layout}
-use Rattle.bank.specs.Bank.{Bank, empty_piece}
+use Rattle.bank.specs.Bank.{Bank}
 use Rattle.bank.specs.declared.kind.Kind.TheVariants.{Spread}
 use Rattle.bank.specs.declared.status.Status.TheVariants.{Pending}
 use Rattle.record.specs.declared.call.CallKind.TheVariants.{Move}
 use Rattle.record.specs.declared.stage.Stage.TheVariants.{MoveSpread}
 use Rattle.record.specs.Legal.{moves_in}
 use Rattle.record.specs.Preconditions.{NoOpenMove}
-use Rattle.record.specs.Records.{Object, layout_at, no_bank}
-use Rattle.record.specs.Sending.{requests}
-use Rattle.record.specs.Steps.{Step, moving_object, new_call, new_phase, opened_banks}
+use Rattle.record.specs.Records.{Object, no_bank}
+use Rattle.record.specs.Steps.{Step, moving_object, opened_banks}
 use Rattle.soundness.proofs.ListLemmas.{all_weaker}
 use Rattle.network.specs.Unstamped.{unstamped_bank}
 use Rattle.network.specs.Worlds.{ClusterFile, World, new_banks}
@@ -21,6 +20,7 @@ use Rattle.network.specs.Events.{Event, moving_world}
 use Rattle.network.specs.Following.{Follows, IsOpenIn, last_step_after}
 use Rattle.network.specs.Followed.{IsFollowed}
 use Rattle.network.proofs.BegunCallLemmas.{added_follow, with_begun}
+use Rattle.network.proofs.ChangedCallLemmas.{still_open}
 use Rattle.network.proofs.EntryOfCallLemmas.{new_id}
 use Rattle.network.proofs.OneFileLemmas.{banks_opened}
 use Rattle.network.proofs.OpenCallLemmas.{found}
@@ -49,7 +49,7 @@ kept_longer (first ∷ later) servers delta now kept = kept
 
 longer_follow : (world : World) (object : Object) (layout : Layout) (now : ℕ) → Follows world object →
     Follows (longer_world world layout) (longer_object object layout now)
-longer_follow world object layout now follows = record {
+longer_follow world object layout now follows = let new = longer_object object layout now in record {
   one = follows.one;
   delta = follows.delta;
   layouts = ap (λ l. l ++ layout ∷ []) follows.layouts;
@@ -60,20 +60,7 @@ longer_follow world object layout now follows = record {
       ∙ ap (λ l. l ++ new_banks world.files layout.members 0 ∷ []) follows.banks;
   sent = follows.sent;
   history = follows.history;
-  calls = all_weaker (IsOpenIn object) (IsOpenIn (longer_object object layout now)) (λ other is. record {
-    index = is.index;
-    call = is.call;
-    at = is.at;
-    id = is.id;
-    kind = is.kind;
-    settled = is.settled;
-    unanswered = is.unanswered;
-    earlier = is.earlier;
-    last = is.last;
-    phases = is.phases;
-    phase = is.phase;
-    stage = is.stage;
-  }) world.calls follows.calls;
+  calls = all_weaker (IsOpenIn object) (IsOpenIn new) (still_open object new.layouts new.banks object.mail) world.calls follows.calls;
   moves = λ index call at kind none. let move = follows.moves index call at kind none in
       record { carried = move.carried; found = move.found; kind = move.kind; node = move.node };
   kept = kept_longer object.banks layout.members object.delta now follows.kept;
@@ -82,16 +69,7 @@ longer_follow world object layout now follows = record {
 moving_is : (object : Object) (id : ℕ) (layout : Layout) (now : ℕ) →
     moving_object object id layout now
     ≡ with_begun (longer_object object layout now) id Move (Spread Pending) (pred (length object.layouts)) now
-moving_is object id layout now =
-    let last = pred (length object.layouts) in
-    let longer = longer_object object layout now in
-    ap (λ calls. let o : Object = record longer {
-      calls = calls;
-      mail = object.mail ++ requests id 1 (Spread Pending) last (layout_at longer last).members 0 empty_piece;
-    } in o)
-    (set-append_seam object.calls (new_call id Move now) [] (record (new_call id Move now) {
-      phases = new_phase id 1 (Spread Pending) last (layout_at longer last) now ∷ [];
-    }))
+moving_is object id layout now = grind (arith, longer_object, set-append_seam)
 
 pub move_followed : (node id : ℕ) (layout : Layout) → IsFollowed (Event.BeginMove node id layout)
 move_followed node id layout fragment world object code sound follows may premised =

@@ -5,7 +5,7 @@ use Rattle.std.proofs.lemmas.List.{map-append}
 use Rattle.layout.specs.Layout.{Layout}
 use Rattle.piece.specs.declared.piece.Piece.{Piece}
 use Rattle.bank.specs.declared.kind.Kind.{Kind}
-use Rattle.bank.specs.declared.kind.Kind.TheVariants.{Next, Spread, Query, PreWrite, Finalize, Fetch}
+use Rattle.bank.specs.declared.kind.Kind.TheVariants.{PreWrite}
 use Rattle.mail.specs.declared.message.Message.{Message}
 use Rattle.phase.specs.Phase.{Phase, lacks_pieces}
 use Rattle.record.specs.declared.stage.Want.TheVariants as want
@@ -15,7 +15,7 @@ use Rattle.record.specs.PhaseOrder.{begun_at, stage_after}
 use Rattle.record.specs.Preconditions.{MayStep}
 use Rattle.record.specs.Records.{Call, Object, layout_at, no_layout}
 use Rattle.mail.specs.declared.message.Body.TheVariants as body
-use Rattle.record.specs.Sending.{fragment_piece, request_to, requests, sent_pieces, sent_value, value_or_empty}
+use Rattle.record.specs.Sending.{request_to, requests, sent_pieces}
 use Rattle.record.specs.Steps.{Step, stepped, on_call, asked_again, advanced_object, begun_object, new_phase, with_phase}
 use Rattle.record.specs.Steps.{supplied_by, supplied_object}
 use Rattle.record.specs.Wants.{current_phase, is_fetch, want_after, want_for, want_of, want_to_begin}
@@ -64,11 +64,7 @@ module _ (fragment : Code) (world : World) (object : Object) (old : NodeCall) (i
   same_layout = ap (λ layouts. get_or layouts position no_layout) (follows.layouts ∙ layouts_known world follows.one old.node)
 
   same_pieces : sent_pieces fragment object is.call position ≡ call_pieces fragment world old position
-  same_pieces =
-      ap (λ (l : Layout). fragment_piece fragment l (value_or_empty (sent_value is.call.kind is.call.settled))) same_layout
-      ∙ ap (λ k. fragment_piece fragment (known_layout world old.node position) (value_or_empty (sent_value k is.call.settled)))
-      (sym is.kind)
-      ∙ ap (λ v. fragment_piece fragment (known_layout world old.node position) (value_or_empty (sent_value old.kind v))) (sym is.settled)
+  same_pieces = grind (arith, same_layout)
 
   -- the phase that begins, as the node has it
   abbrev pub begun_open : NodeCall
@@ -152,11 +148,6 @@ begins_ready fragment object index call now next last at wants current ended = g
     }
 
     go : (kind : Kind) → want_of object index call ≡ want_to_begin kind (layout_at object next.1) → Begins fragment object index call now
-    go Next e = advances e
-    go (Spread status) e = advances e
-    go Query e = advances e
-    go (Finalize tag) e = advances e
-    go (Fetch tag) e = advances e
     go (PreWrite tag) e = record {
       step = Step.Supply index;
       may = record { call = call; takes = inl ((layout_at object next.1).k, length (layout_at object next.1).members, (at, e)) };
@@ -164,6 +155,7 @@ begins_ready fragment object index call now next last at wants current ended = g
           ∙ ap (supplied_by fragment object index call now) current
           ∙ ap (λ b. cond b (advanced_object fragment object index call now) (asked_again fragment object call (Some last))) ended;
     }
+    go _ e = advances e
 
 want_lacking : (object : Object) (next : Option (Kind × ℕ)) (settled : Option (List ℕ)) (last : Phase) → IsSome last.end →
     is_fetch last.kind ≡ true → settled ≡ None → lacks_pieces last ≡ true → want_after object next settled (Some last) ≡ want.Again

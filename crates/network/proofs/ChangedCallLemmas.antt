@@ -1,13 +1,13 @@
 -- A world follows the record still where one call is changed in both.
-use Rattle.std.proofs.Common.{◌≡◌, ℕ, zero, suc, Bool, true, false, cond, eqb, ◌⊎◌, List, [], ◌∷◌, map, set, Some, None}
+use Rattle.std.proofs.Common.{◌≡◌, ℕ, zero, suc, Bool, true, false, cond, eqb, ◌⊎◌, List, [], ◌∷◌, map, set, Some, None, arith}
 use Rattle.std.proofs.Common.{refl, sym, subst, ap, ◌∙◌, inl, inr, slice_get, eqb-true, eq-eqb}
 use Rattle.std.proofs.lemmas.Option.{same_Some}
+use Rattle.layout.specs.Layout.{Layout}
+use Rattle.bank.specs.Bank.{Bank}
 use Rattle.mail.specs.declared.message.Message.{Message}
 use Rattle.record.specs.declared.call.CallKind.TheVariants.{Move}
 use Rattle.record.specs.Journals.{entry_of}
 use Rattle.record.specs.declared.call.Entry.{Entry}
-use Rattle.record.specs.Legal.{first_stage}
-use Rattle.record.specs.PhaseOrder.{begun_at, stage_after}
 use Rattle.record.specs.Records.{Call, Object}
 use Rattle.soundness.proofs.ListLemmas.{get_set, set_there}
 use Rattle.soundness.proofs.Sound.ChangedCallLemmas.{Others, moves_set}
@@ -24,6 +24,24 @@ with_new object mail index new = Others object mail (set object.calls index new)
 abbrev pub own_entry : Call → Entry
 own_entry call = entry_of call.id call
 
+-- a call is open, too, where the record has other mail, banks and layouts
+pub still_open : (object : Object) (layouts : List Layout) (banks : List (List Bank)) (mail : List Message) (carried : NodeCall) →
+    IsOpenIn object carried → IsOpenIn (record object { layouts = layouts; banks = banks; mail = mail }) carried
+still_open object layouts banks mail carried is = record {
+  index = is.index;
+  call = is.call;
+  at = is.at;
+  id = is.id;
+  kind = is.kind;
+  settled = is.settled;
+  unanswered = is.unanswered;
+  earlier = is.earlier;
+  last = is.last;
+  phases = is.phases;
+  phase = is.phase;
+  stage = is.stage;
+}
+
 -- the entries of calls of which one is changed, but not its entry
 pub entries_set : (calls : List Call) (index : ℕ) (old new : Call) → slice_get calls index ≡ Some old →
     own_entry new ≡ own_entry old → map own_entry (set calls index new) ≡ map own_entry calls
@@ -36,26 +54,7 @@ entries_set (call ∷ calls) (suc index) old new at same = ap (λ l. own_entry c
 pub other_open : (object : Object) (mail : List Message) (index : ℕ) (old new : Call) (changed : ℕ) → changed ≡ old.id →
     slice_get object.calls index ≡ Some old → new.kind ≡ old.kind → (other : NodeCall) → eqb other.id changed ≡ false →
     IsOpenIn object other → IsOpenIn (with_new object mail index new) other
-other_open object mail index old new changed id at kind other differs is = record {
-  index = is.index;
-  call = is.call;
-  at = set_there object.calls index is.index new is.call
-      (λ same.
-      let one : is.call ≡ old = same_Some is.call old (sym is.at ∙ ap (slice_get object.calls) same ∙ at) in
-      let equal : eqb other.id changed ≡ true = eq-eqb other.id changed (is.id ∙ ap (λ (c : Call). c.id) one ∙ sym id) in
-      absurd (cc)) is.at;
-  id = is.id;
-  kind = is.kind;
-  settled = is.settled;
-  unanswered = is.unanswered;
-  earlier = is.earlier;
-  last = is.last;
-  phases = is.phases;
-  phase = is.phase;
-  stage = is.stage
-      ∙ ap (λ moves. begun_at (stage_after is.call.kind is.call.id (first_stage is.call.kind moves) is.earlier) is.last.position)
-      (sym (moves_set object.calls index is.index old new at kind));
-}
+other_open object mail index old new changed id at kind other differs is = grind (arith, eq-eqb, moves_set, same_Some, set_there)
 
 -- the world with a call changed, with other messages, one event later
 abbrev pub with_one : World → NodeCall → List Message → World

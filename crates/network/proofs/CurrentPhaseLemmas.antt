@@ -1,5 +1,5 @@
 -- What the current phase of an open call says: the stage that it leads to, and what the record's call wants.
-use Rattle.std.proofs.Common.{◌≡◌, ℕ, suc, ◌+◌, Bool, true, cond, nat_lt, is_some, List, [], ◌∷◌, ◌++◌, map}
+use Rattle.std.proofs.Common.{◌≡◌, ℕ, suc, ◌+◌, Bool, true, cond, nat_lt, is_some, List, [], ◌∷◌, ◌++◌, map, arith}
 use Rattle.std.proofs.Common.{Option, Some, None, IsSome, refl, sym, ap, ◌∙◌, get_or}
 use Rattle.std.proofs.lemmas.List.Sums.{sum_by-cons}
 use Rattle.tag.specs.Tag.{later_tag}
@@ -9,15 +9,10 @@ use Rattle.phase.specs.declared.phase.Taken.{Taken}
 use Rattle.phase.specs.Phase.{Phase, has_piece, lacks_pieces, pieces_in}
 use Rattle.record.specs.declared.call.CallKind.{CallKind}
 use Rattle.record.specs.declared.stage.Stage.{Stage}
-use Rattle.record.specs.declared.stage.Stage.TheVariants.{ReadBegin, ReadNext, ReadSpread, QueryFrom, FetchAt}
-use Rattle.record.specs.declared.stage.Stage.TheVariants.{PreWriteAt, FinalizeAt, AgainNext, AgainSpread}
-use Rattle.record.specs.declared.stage.Stage.TheVariants.{MoveSpread, MoveQuery, MoveFetch, MovePreWrite}
-use Rattle.record.specs.declared.stage.Stage.TheVariants.{MoveFinalize, MoveFinal, Ended, Moved}
 use Rattle.record.specs.Fragments.{IsFetch}
-use Rattle.record.specs.Legal.{due_of, first_stage, source_of, stage_of}
-use Rattle.record.specs.PhaseOrder.{after, after_again, after_next, after_query, begun_at, due, greatest_status}
+use Rattle.record.specs.Legal.{due_of, stage_of}
+use Rattle.record.specs.PhaseOrder.{after, greatest_status}
 use Rattle.record.specs.PhaseOrder.{greatest_tag, later_status, passed, shown_status, shown_tag, stage_after, stage_past}
-use Rattle.record.specs.declared.stage.Want.TheVariants as want
 use Rattle.record.specs.Records.{Object, base_of, no_bank, retired_first, retired_at}
 use Rattle.record.specs.Wants.{current_phase, is_fetch, want_after, want_of}
 use Rattle.network.specs.Unstamped.{unstamped, unstamped_phase, unstamped_taken}
@@ -46,24 +41,7 @@ tag-bare (t ∷ ts) = ap (later_tag (shown_tag t.reply.answer)) (tag-bare ts)
 
 after-bare : (kind : CallKind) (number : ℕ) (stage : Stage) (replies : List Taken) (lacks : Bool) →
     after kind number stage (map unstamped_taken replies) lacks ≡ after kind number stage replies lacks
-after-bare kind number ReadBegin replies lacks = refl
-after-bare kind number (ReadNext position finalized) replies lacks = ap (λ s. after_next s position finalized) (status-bare replies)
-after-bare kind number (ReadSpread position finalized status) replies lacks = refl
-after-bare kind number (QueryFrom position last greatest shown_at) replies lacks =
-    ap (λ t. after_query kind number t position last greatest shown_at) (tag-bare replies)
-after-bare kind number (FetchAt shown_at last tag) replies lacks = refl
-after-bare kind number (PreWriteAt last tag) replies lacks = refl
-after-bare kind number (FinalizeAt last tag) replies lacks = refl
-after-bare kind number (AgainNext last position tag) replies lacks = ap (λ s. after_again s last position tag) (status-bare replies)
-after-bare kind number (AgainSpread last position tag status) replies lacks = refl
-after-bare kind number (MoveSpread position) replies lacks = refl
-after-bare kind number (MoveQuery position) replies lacks = ap (λ t. MoveFetch position t) (tag-bare replies)
-after-bare kind number (MoveFetch position tag) replies lacks = refl
-after-bare kind number (MovePreWrite position tag) replies lacks = refl
-after-bare kind number (MoveFinalize position tag) replies lacks = refl
-after-bare kind number (MoveFinal position tag) replies lacks = refl
-after-bare kind number (Ended last tag) replies lacks = refl
-after-bare kind number (Moved position tag) replies lacks = refl
+after-bare kind number stage replies lacks = grind (arith, status-bare, tag-bare)
 
 passed-bare : (kind : CallKind) (number : ℕ) (stage : Stage) (end : Option ℕ) (replies : List Taken) (lacks : Bool) →
     passed kind number stage (unstamped end) (map unstamped_taken replies) lacks ≡ passed kind number stage end replies lacks
@@ -78,9 +56,8 @@ stage_last kind number stage [] last = refl
 stage_last kind number stage (p ∷ earlier) last = stage_last kind number (stage_past kind number stage p) earlier last
 
 current_last : (earlier : List Phase) (last : Phase) → current_phase (earlier ++ last ∷ []) ≡ Some last
-current_last [] last = refl
-current_last (p ∷ []) last = refl
 current_last (p ∷ q ∷ later) last = current_last (q ∷ later) last
+current_last _ last = refl
 
 -- with no retired position the base is 0
 pub base_zero : (object : Object) → retired_at object 0 ≡ None → base_of object ≡ 0
@@ -93,39 +70,20 @@ base_zero object kept = go object.banks kept
 module _ (object : Object) (carried : NodeCall) (is : IsOpenIn object carried) where
   -- the stage that the current phase leads to is that of the record's call
   pub reached_is : stage_reached carried ≡ stage_of object is.index is.call
-  reached_is =
-      let first = first_stage is.call.kind (source_of object is.index) in
-      let begun = begun_at (stage_after is.call.kind is.call.id first is.earlier) is.last.position in
-      ap (λ (p : Phase). passed carried.kind carried.id carried.stage p.end p.replies (lacks_pieces p)) is.phase
-      ∙ ap (λ b. passed carried.kind carried.id carried.stage (unstamped is.last.end) (map unstamped_taken is.last.replies) b)
-      (lacks-bare is.last)
-      ∙ passed-bare carried.kind carried.id carried.stage is.last.end is.last.replies (lacks_pieces is.last)
-      ∙ ap (λ s. passed carried.kind carried.id s is.last.end is.last.replies (lacks_pieces is.last)) is.stage
-      ∙ ap (λ k. passed k carried.id begun is.last.end is.last.replies (lacks_pieces is.last)) is.kind
-      ∙ ap (λ n. passed is.call.kind n begun is.last.end is.last.replies (lacks_pieces is.last)) is.id
-      ∙ sym (stage_last is.call.kind is.call.id first is.earlier is.last)
-      ∙ ap (stage_after is.call.kind is.call.id first) (sym is.phases)
+  reached_is = grind (arith, lacks-bare, passed-bare, stage_last)
 
   -- and so the phase that is due is the same
   pub next_is : retired_at object 0 ≡ None → due_phase carried ≡ due_of object is.index is.call
-  next_is kept = ap (λ s. due (begun_at s 0)) reached_is
-      ∙ ap (λ b. due (begun_at (stage_of object is.index is.call) b)) (sym (base_zero object kept))
+  next_is kept = grind (arith, base_zero, reached_is)
 
   pub current_is : current_phase is.call.phases ≡ Some is.last
   current_is = ap current_phase is.phases ∙ current_last is.earlier is.last
 
   pub want_is : want_of object is.index is.call ≡ want_after object (due_of object is.index is.call) is.call.settled (Some is.last)
-  want_is =
-      ap (λ (o : Option ℕ). cond (is_some o) want.Done
-      (want_after object (due_of object is.index is.call) is.call.settled (current_phase is.call.phases))) is.unanswered
-      ∙ ap (want_after object (due_of object is.index is.call) is.call.settled) current_is
+  want_is = grind (arith, current_is)
 
   pub ended_is : IsSome carried.phase.end → IsSome is.last.end
-  ended_is some = sym (step_came is.last.end) ∙ ap (λ (p : Phase). is_some p.end) (sym is.phase) ∙ some
-    where
-      step_came : (o : Option ℕ) → is_some (unstamped o) ≡ is_some o
-      step_came None = refl
-      step_came (Some step) = refl
+  ended_is some = grind arith
 
   pub kind_is : carried.phase.kind ≡ is.last.kind
   kind_is = ap (λ (p : Phase). p.kind) is.phase

@@ -1,5 +1,5 @@
 -- The entries of a world's history and the calls of the record that it follows.
-use Rattle.std.proofs.Common.{◌≡◌, ℕ, Option, Some, None, option_map, refl, sym, ap, ◌∙◌, slice_get}
+use Rattle.std.proofs.Common.{◌≡◌, ℕ, Option, Some, None, option_map, refl, sym, ap, ◌∙◌, slice_get, arith}
 use Rattle.std.proofs.lemmas.Option.{same_Some, slice_get-map}
 use Rattle.record.specs.declared.call.Entry.{Entry}
 use Rattle.record.specs.Records.{Call, Object, IsNewId}
@@ -39,7 +39,4 @@ entry_there world object follows index call at =
 
 -- an id that no entry has is one that no call has
 pub new_id : (world : World) (object : Object) → Follows world object → (id : ℕ) → IsUnused world id → IsNewId object id
-new_id world object follows id unused index call at = λ same.
-    let there = entry_there world object follows index call at in
-    all_get (λ (entry : Entry). entry.call ≡ id → ⊥) world.history index there.0 unused there.1
-    (ap (λ (entry : Entry). entry.call) there.2 ∙ same)
+new_id world object follows id unused index call at = grind (arith, all_get, entry_there)

@@ -1,13 +1,12 @@
 -- A world whose open calls become fewer, but for the moves, still follows the record.
-use Rattle.std.proofs.Common.{◌≡◌, ℕ, suc, Bool, true, false, ◌&&◌, not, eqb, eqb-true, List, Some, refl, sym, subst, ap, ◌∙◌}
+use Rattle.std.proofs.Common.{◌≡◌, ℕ, suc, Bool, true, false, ◌&&◌, not, eqb-true, List, Some, refl, arith}
 use Rattle.std.specs.List.{filter}
 use Rattle.bank.specs.Bank.{Bank}
-use Rattle.record.specs.Legal.{is_move}
 use Rattle.record.specs.Records.{Object}
 use Rattle.record.specs.declared.call.CallKind.TheVariants.{Move}
-use Rattle.network.specs.Worlds.{World, NodeCall, open_call, after_restart, without_call}
-use Rattle.network.specs.Events.{Event, happens}
-use Rattle.network.specs.Following.{Follows, LeadsOn, IsOpenIn, last_step_after}
+use Rattle.network.specs.Worlds.{World, NodeCall, open_call}
+use Rattle.network.specs.Events.{Event}
+use Rattle.network.specs.Following.{Follows, IsOpenIn}
 use Rattle.network.specs.Followed.{IsFollowed}
 use Rattle.network.proofs.OpenCallLemmas.{all_filter, found, found_filter}
 use Rattle.network.proofs.StepLemmas.{no_step}
@@ -43,17 +42,7 @@ stays false = refl
 
 pub restart_followed : (node : ℕ) (banks : List (List Bank)) (calls : List NodeCall) → IsFollowed (Event.Restart node banks calls)
 restart_followed node banks calls fragment world object code sound follows may premised =
-    let restarted = with_calls world (after_restart node world.calls) in
-    let new = happens fragment world (Event.Restart node banks calls) in
-    let same : restarted ≡ new =
-    ap (λ b. let w : World = record world { banks = b; calls = after_restart node world.calls; now = suc world.now } in w)
-    (sym premised.log.0)
-    ∙ ap (λ c. let w : World = record world { banks = banks; calls = c; now = suc world.now } in w) (sym premised.log.1) in
-    subst (LeadsOn fragment object (last_step_after world.now)) same
-    (no_step fragment object world.now restarted refl sound
-    (fewer_follow world object (λ call. not (eqb call.node node && not (is_move call.kind)))
-    (λ id call found kind.
-    subst (λ k. not (eqb call.node node && not (is_move k)) ≡ true) (sym kind) (stays (eqb call.node node))) follows))
+    grind (arith, fewer_follow, found, no_step, stays, with_calls)
 
 passes : (b : Bool) → (b ≡ true → ⊥) → not b ≡ true
 passes true no_true = absurd (no_true refl)
@@ -61,8 +50,4 @@ passes false no_true = refl
 
 pub give_up_followed : (id : ℕ) → IsFollowed (Event.GiveUp id)
 give_up_followed id fragment world object code sound follows may premised =
-    no_step fragment object world.now (with_calls world (without_call id world.calls)) refl sound
-    (fewer_follow world object (λ call. not (eqb call.id id))
-    (λ n call at kind. passes (eqb call.id id)
-    (λ same. (found (λ call. call.id ≡ id → call.kind ≡ Move → ⊥) world.calls n call may at).0
-    (eqb-true call.id id same) kind)) follows)
+    grind (arith, eqb-true, fewer_follow, found, no_step, passes, with_calls)

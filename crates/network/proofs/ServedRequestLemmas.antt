@@ -26,6 +26,7 @@ use Rattle.network.specs.Worlds.{World, member_bank}
 use Rattle.network.specs.Events.{Event, handled_world, served_world}
 use Rattle.network.specs.Following.{Follows, LeadsOn, IsOpenIn, last_step_after}
 use Rattle.network.specs.Followed.{IsFollowed}
+use Rattle.network.proofs.ChangedCallLemmas.{still_open}
 use Rattle.network.proofs.StepLemmas.{copy_and_step, get_end, message_there}
 use Rattle.network.proofs.UnstampedBankLemmas.{answer-bare, served-bare}
 use Rattle.network.proofs.UnstampedRowLemmas.{bare, entries-bare}
@@ -115,20 +116,8 @@ served_follow world object original asked now follows =
           ∙ ap (λ kind. world.sent ++ replied original kind (answer_to bank asked) ∷ []) (sym (kind-bare original.body))
           ∙ ap (λ answer. world.sent ++ replied original (body_kind (unstamped_body original.body)) answer ∷ []) answer_same;
       history = follows.history;
-      calls = all_weaker (IsOpenIn object) (IsOpenIn new) (λ call is. record {
-        index = is.index;
-        call = is.call;
-        at = is.at;
-        id = is.id;
-        kind = is.kind;
-        settled = is.settled;
-        unanswered = is.unanswered;
-        earlier = is.earlier;
-        last = is.last;
-        phases = is.phases;
-        phase = is.phase;
-        stage = is.stage;
-      }) world.calls follows.calls;
+      calls = all_weaker (IsOpenIn object) (IsOpenIn new) (still_open object object.layouts new.banks new.mail) world.calls
+          follows.calls;
       moves = λ index call at kind none. let move = follows.moves index call at kind none in
           record { carried = move.carried; found = move.found; kind = move.kind; node = move.node };
       kept = retired_set object.banks position member (served_bank bank asked now) (served-retired bank asked now) ∙ follows.kept;

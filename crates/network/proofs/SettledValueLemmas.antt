@@ -1,20 +1,15 @@
 -- A world in which a call settles a value still follows the record, where the call settles it too.
-use Rattle.std.proofs.Common.{◌≡◌, ℕ, suc, ◌≤◌, true, false, List, length, map, get_or, Option, Some, None, option_map, IsSome}
+use Rattle.std.proofs.Common.{◌≡◌, ℕ, suc, true, false, List, map, Option, Some, None, IsSome, arith}
 use Rattle.std.proofs.Common.{refl, sym, subst, ap, ◌∙◌, slice_get}
 use Rattle.std.proofs.lemmas.Option.{same_Some, slice_get-map}
-use Rattle.layout.specs.Layout.{Layout}
 use Rattle.bank.specs.declared.kind.Kind.{Kind}
 use Rattle.phase.specs.declared.phase.Taken.{Taken}
 use Rattle.phase.specs.Phase.{Phase, lacks_pieces}
-use Rattle.record.specs.declared.call.CallKind.{CallKind}
-use Rattle.record.specs.declared.call.CallKind.TheVariants.{Read, Write, Move}
-use Rattle.record.specs.declared.call.Entry.{Entry}
 use Rattle.record.specs.declared.stage.Want.TheVariants as want
-use Rattle.record.specs.Fragments.{Code, HasPiece, HasPieces, IsFragment}
-use Rattle.record.specs.Journals.{entry_value, operation_of}
+use Rattle.record.specs.Fragments.{Code, HasPieces}
 use Rattle.record.specs.Legal.{first_stage, due_of}
 use Rattle.record.specs.PhaseOrder.{begun_at, stage_after}
-use Rattle.record.specs.Records.{Call, Object, layout_at, no_layout}
+use Rattle.record.specs.Records.{Call, Object, layout_at}
 use Rattle.record.specs.Steps.{Step, on_call, settled_object}
 use Rattle.record.specs.Wants.{is_fetch, value_len, want_after}
 use Rattle.soundness.proofs.ListLemmas.{all_weaker, set_here}
@@ -32,54 +27,17 @@ use Rattle.network.proofs.StepLemmas.{one_step}
 
 taken_there : (xs : List Taken) (place : ℕ) (taken : Taken) → slice_get (map unstamped_taken xs) place ≡ Some taken →
     (original : Taken) × (slice_get xs place ≡ Some original) × (unstamped_taken original ≡ taken)
-taken_there xs place taken at = go (slice_get xs place) refl (sym (slice_get-map unstamped_taken xs place) ∙ at)
-  where
-    go : (o : Option Taken) → slice_get xs place ≡ o → option_map unstamped_taken o ≡ Some taken →
-        (original : Taken) × (slice_get xs place ≡ Some original) × (unstamped_taken original ≡ taken)
-    go None e is = absurd (cc)
-    go (Some original) e is = (original, e, same_Some (unstamped_taken original) taken is)
+taken_there xs place taken at = grind (arith, same_Some, slice_get-map)
 
 -- pieces that a phase without stamps took, the phase took
 has_pieces : (fragment : Code) (world : World) (node : ℕ) (object : Object) (phase : Phase) (value : List ℕ) →
     object.layouts ≡ known_layouts world node → HasPieces fragment (parts_of world node) (unstamped_phase phase) value →
     HasPieces fragment object phase value
-has_pieces fragment world node object phase value layouts has = record {
-  members = has.members;
-  distinct = has.distinct;
-  enough = subst (λ (l : Layout). l.k ≤ length has.members) same has.enough;
-  pieces = all_weaker (HasPiece fragment (parts_of world node) (unstamped_phase phase) value) (HasPiece fragment object phase value)
-      (λ member piece. let there = taken_there phase.replies piece.place piece.reply piece.within in record {
-        place = piece.place;
-        reply = there.0;
-        within = there.1;
-        same_member = ap (λ (t : Taken). t.member) there.2 ∙ piece.same_member;
-        piece = piece.piece;
-        same_piece = ap (λ (t : Taken). t.reply.answer) there.2 ∙ piece.same_piece;
-        is_fragment = subst (λ l. IsFragment fragment l member value piece.piece) same piece.is_fragment;
-      }) has.members has.pieces;
-}
-  where
-    same : get_or (known_layouts world node) phase.position no_layout ≡ get_or object.layouts phase.position no_layout
-    same = ap (λ layouts. get_or layouts phase.position no_layout) (sym layouts)
-
--- a value that is settled does not show in the entry before the answer
-value_same : (kind : CallKind) (old new : Option (List ℕ)) → entry_value kind None old ≡ entry_value kind None new
-value_same Read old new = refl
-value_same (Write value) old new = refl
-value_same Move old new = refl
+has_pieces fragment world node object phase value layouts has = grind (arith, all_weaker, taken_there)
 
 entry_settled : (call : Call) (settled : Option (List ℕ)) → call.answered ≡ None →
     own_entry (record call { settled = settled }) ≡ own_entry call
-entry_settled call settled none =
-    ap (λ v. let e : Entry = record {
-      call = call.id;
-      kind = operation_of call.kind;
-      called = call.called;
-      answered = call.answered;
-      value = v;
-    } in e)
-    (ap (λ o. entry_value call.kind o settled) none ∙ value_same call.kind settled call.settled
-    ∙ ap (λ o. entry_value call.kind o call.settled) (sym none))
+entry_settled call settled none = grind arith
 
 want_settle : (object : Object) (next : Option (Kind × ℕ)) (settled : Option (List ℕ)) (last : Phase) → IsSome last.end →
     is_fetch last.kind ≡ true → settled ≡ None → lacks_pieces last ≡ false →

@@ -1,5 +1,5 @@
 -- The steps of the record that an event needs: none, or a copy of a message and a step with the copy.
-use Rattle.std.proofs.Common.{◌≡◌, ℕ, suc, ◌<◌, ◌≤◌, List, [], ◌∷◌, ◌++◌, length, map, Option, Some, None, option_map}
+use Rattle.std.proofs.Common.{◌≡◌, ℕ, suc, ◌<◌, ◌≤◌, List, [], ◌∷◌, ◌++◌, length, map, Some}
 use Rattle.std.proofs.Common.{refl, sym, subst, ap, ◌∙◌, arith, slice_get}
 use Rattle.std.proofs.lemmas.Option.{same_Some, slice_get-map}
 use Rattle.mail.specs.declared.message.Message.{Message}
@@ -73,12 +73,7 @@ copy_and_step fragment object events place message second result new code now so
 -- the message of the record that a message of the world is
 pub message_there : (xs : List Message) (place : ℕ) (message : Message) → slice_get (map unstamped_message xs) place ≡ Some message →
     (original : Message) × (slice_get xs place ≡ Some original) × (unstamped_message original ≡ message)
-message_there xs place message at = go (slice_get xs place) refl (sym (slice_get-map unstamped_message xs place) ∙ at)
-  where
-    go : (o : Option Message) → slice_get xs place ≡ o → option_map unstamped_message o ≡ Some message →
-        (original : Message) × (slice_get xs place ≡ Some original) × (unstamped_message original ≡ message)
-    go None e is = absurd (cc)
-    go (Some original) e is = (original, e, same_Some (unstamped_message original) message is)
+message_there xs place message at = grind (arith, same_Some, slice_get-map)
 
 -- what stands at the end of a list
 pub get_end : {A : Type 0} (xs : List A) (x : A) → slice_get (xs ++ x ∷ []) (length xs) ≡ Some x

@@ -1,11 +1,10 @@
 -- A bank without stamps serves and answers as the bank does.
-use Rattle.std.proofs.Common.{◌≡◌, ℕ, ◌+◌, Bool, true, false, cond, ◌&&◌, ◌||◌, [], ◌∷◌, map, Option, Some, None, is_some, option_map}
-use Rattle.std.proofs.Common.{refl, sym, ap, ◌∙◌}
+use Rattle.std.proofs.Common.{◌≡◌, ℕ, ◌+◌, Bool, cond, ◌&&◌, [], ◌∷◌, map, Option, Some, None, is_some, option_map}
+use Rattle.std.proofs.Common.{refl, sym, ap, ◌∙◌, arith}
 use Rattle.std.specs.FinMap as map
 use Rattle.tag.specs.declared.tag.Tag.{Tag}
 use Rattle.tag.specs.Tag.{tag_cmp, tag_lt, later_tag}
 use Rattle.piece.specs.declared.piece.Piece.{Piece}
-use Rattle.bank.specs.declared.reply.Answer.TheVariants as answer
 use Rattle.bank.specs.declared.request.Request.{Request}
 use Rattle.bank.specs.declared.request.Request.TheVariants as request
 use Rattle.bank.specs.declared.row.Arrival.{Arrival}
@@ -16,10 +15,10 @@ use Rattle.bank.specs.declared.status.Pointer.{Pointer}
 use Rattle.bank.specs.declared.status.Pointer.TheVariants as pointer
 use Rattle.bank.specs.declared.status.Status.{Status}
 use Rattle.bank.specs.declared.status.Status.TheVariants as status
-use Rattle.bank.specs.Bank.{Bank, pre_written, finalized, row_after_pre_write, row_after_finalize, filled_arrival}
-use Rattle.bank.specs.Bank.{finalized_label, piece_of, piece_of_row, piece_that_came}
-use Rattle.bank.specs.Collect.{collected, emptied_arrival, emptied_row, kept_entry, fetched_piece}
-use Rattle.bank.specs.Knowledge.{row_finalized, is_finalized, count_above, finals_above, exceeds, is_dropped, finalized_at}
+use Rattle.bank.specs.Bank.{Bank, pre_written, finalized, row_after_pre_write, row_after_finalize}
+use Rattle.bank.specs.Bank.{piece_of, piece_of_row, piece_that_came}
+use Rattle.bank.specs.Collect.{collected, emptied_row, kept_entry, fetched_piece}
+use Rattle.bank.specs.Knowledge.{row_finalized, is_finalized, count_above, finals_above, is_dropped}
 use Rattle.bank.specs.Pointer.{raised, status_of}
 use Rattle.bank.specs.Serve.{served_bank, answer_to, greatest_among}
 use Rattle.bank.proofs.CollectedBankLemmas.{entries-collected}
@@ -52,22 +51,11 @@ above-bare : (b : Bank) (tag : Tag) → finals_above (unstamped_bank b) tag ≡ 
 above-bare b tag = ap (count_above is_finalized tag) (entries-bare b.rows) ∙ count-bare tag (map.entries b.rows)
 
 dropped-bare : (b : Bank) (tag : Tag) → is_dropped (unstamped_bank b) tag ≡ is_dropped b tag
-dropped-bare b tag =
-    ap (λ r. r || (is_some (finalized_at (unstamped_bank b) tag) && exceeds b.delta (finals_above (unstamped_bank b) tag)))
-    (came-bare b.retired)
-    ∙ ap (λ f. is_some b.retired || (f && exceeds b.delta (finals_above (unstamped_bank b) tag)))
-    (ap (λ o. is_some (row_finalized o)) (get-bare b.rows tag) ∙ row_final-bare (map.get b.rows tag))
-    ∙ ap (λ n. is_some b.retired || (is_some (finalized_at b tag) && exceeds b.delta n)) (above-bare b tag)
-
-emptied-bare : (a : Option Arrival) → option_map unstamped_arrival (emptied_arrival a) ≡ emptied_arrival (option_map unstamped_arrival a)
-emptied-bare None = refl
-emptied-bare (Some a) = refl
+dropped-bare b tag = grind (arith, above-bare, came-bare, get-bare, row_final-bare)
 
 rest-bare : (drops : Bool) (r : Row) →
     unstamped_row (cond drops (emptied_row r) r) ≡ cond drops (emptied_row (unstamped_row r)) (unstamped_row r)
-rest-bare true r =
-    ap (λ a. let o : Row = record { label = unstamped_label r.label; arrival = a } in o) (emptied-bare r.arrival)
-rest-bare false r = refl
+rest-bare drops r = grind arith
 
 kept-bare : (b : Bank) (es : Rows) →
     map unstamped_entry (map (kept_entry b) es) ≡ map (kept_entry (unstamped_bank b)) (map unstamped_entry es)
@@ -85,79 +73,44 @@ abbrev bare_with : Bank → map.FinMap tag_cmp Row → Bank
 bare_with b rows = record { rows = rows; pointer = unstamped_pointer b.pointer; delta = b.delta; retired = unstamped b.retired }
 
 pub collected-bare : (b : Bank) → unstamped_bank (collected b) ≡ collected (unstamped_bank b)
-collected-bare b =
-    ap (bare_with b)
-    (map.same_entries_map (bare (collected b).rows) (collected (unstamped_bank b)).rows
-    (entries-bare (collected b).rows ∙ ap (map unstamped_entry) (entries-collected b) ∙ kept-bare b (map.entries b.rows)
-    ∙ ap (map (kept_entry (unstamped_bank b))) (sym (entries-bare b.rows)) ∙ sym (entries-collected (unstamped_bank b))))
+collected-bare b = grind (arith, bare, bare_with, entries-bare, entries-collected, kept-bare)
 
 -- Requests
 
 pub raised-bare : (p : Pointer) (s : Status) (now : ℕ) → unstamped_pointer (raised p s now) ≡ raised (unstamped_pointer p) s 0
-raised-bare pointer.Unset status.Unset now = refl
-raised-bare pointer.Unset status.Pending now = refl
-raised-bare pointer.Unset status.Final now = refl
-raised-bare (pointer.Pending since) status.Unset now = refl
-raised-bare (pointer.Pending since) status.Pending now = refl
-raised-bare (pointer.Pending since) status.Final now = refl
-raised-bare (pointer.Final pending since) status.Unset now = refl
-raised-bare (pointer.Final pending since) status.Pending now = refl
-raised-bare (pointer.Final pending since) status.Final now = refl
-
-filled-bare : (a : Option Arrival) (p : Piece) (now : ℕ) →
-    option_map unstamped_arrival (filled_arrival a p now) ≡ filled_arrival (option_map unstamped_arrival a) p 0
-filled-bare None p now = refl
-filled-bare (Some a) p now = refl
+raised-bare p s now = grind arith
 
 after_pre_write-bare : (o : Option Row) (p : Piece) (now : ℕ) →
     unstamped_row (row_after_pre_write o p now) ≡ row_after_pre_write (option_map unstamped_row o) p 0
-after_pre_write-bare None p now = refl
-after_pre_write-bare (Some r) p now =
-    ap (λ a. let o : Row = record { label = unstamped_label r.label; arrival = a } in o) (filled-bare r.arrival p now)
-
-label-bare : (l : Label) (now : ℕ) → unstamped_label (finalized_label l now) ≡ finalized_label (unstamped_label l) 0
-label-bare (PreWritten since) now = refl
-label-bare (Finalized since) now = refl
+after_pre_write-bare o p now = grind arith
 
 after_finalize-bare : (o : Option Row) (now : ℕ) →
     unstamped_row (row_after_finalize o now) ≡ row_after_finalize (option_map unstamped_row o) 0
-after_finalize-bare None now = refl
-after_finalize-bare (Some r) now =
-    ap (λ l. let o : Row = record { label = l; arrival = option_map unstamped_arrival r.arrival } in o) (label-bare r.label now)
+after_finalize-bare o now = grind arith
 
 pre_written-bare : (b : Bank) (tag : Tag) (p : Piece) (now : ℕ) →
     unstamped_bank (pre_written b tag p now) ≡ pre_written (unstamped_bank b) tag p 0
-pre_written-bare b tag p now =
-    ap (bare_with b)
-    (insert-bare b.rows tag (row_after_pre_write (map.get b.rows tag) p now)
-    ∙ ap (map.insert (bare b.rows) tag)
-    (after_pre_write-bare (map.get b.rows tag) p now ∙ ap (λ o. row_after_pre_write o p 0) (sym (get-bare b.rows tag))))
+pre_written-bare b tag p now = grind (arith, after_pre_write-bare, bare, bare_with, get-bare, insert-bare)
 
 finalized-bare : (b : Bank) (tag : Tag) (now : ℕ) → unstamped_bank (finalized b tag now) ≡ finalized (unstamped_bank b) tag 0
-finalized-bare b tag now =
-    ap (bare_with b)
-    (insert-bare b.rows tag (row_after_finalize (map.get b.rows tag) now)
-    ∙ ap (map.insert (bare b.rows) tag)
-    (after_finalize-bare (map.get b.rows tag) now ∙ ap (λ o. row_after_finalize o 0) (sym (get-bare b.rows tag))))
+finalized-bare b tag now = grind (arith, after_finalize-bare, bare, bare_with, get-bare, insert-bare)
 
 -- the bank after a request, without stamps
 pub served-bare : (b : Bank) (q : Request) (now : ℕ) → unstamped_bank (served_bank b q now) ≡ served_bank (unstamped_bank b) q 0
-served-bare b request.Next now = refl
 served-bare b (request.Spread status) now =
     ap (λ p. let o : Bank = record { rows = bare b.rows; pointer = p; delta = b.delta; retired = unstamped b.retired } in o)
     (raised-bare b.pointer status now)
-served-bare b request.Query now = refl
 served-bare b (request.PreWrite tag piece) now =
     collected-bare (pre_written b tag piece now) ∙ ap collected (pre_written-bare b tag piece now)
 served-bare b (request.Finalize tag) now = collected-bare (finalized b tag now) ∙ ap collected (finalized-bare b tag now)
 served-bare b (request.Fetch tag) now = collected-bare (finalized b tag now) ∙ ap collected (finalized-bare b tag now)
+served-bare b _ now = refl
 
 -- Answers
 
 status-bare : (p : Pointer) → status_of (unstamped_pointer p) ≡ status_of p
 status-bare pointer.Unset = refl
-status-bare (pointer.Pending since) = refl
-status-bare (pointer.Final pending since) = refl
+status-bare _ = refl
 
 greatest-bare : (es : Rows) → greatest_among (map unstamped_entry es) ≡ greatest_among es
 greatest-bare [] = refl
@@ -178,17 +131,8 @@ pub piece_of-bare : (b : Bank) (tag : Tag) → piece_of (unstamped_bank b) tag �
 piece_of-bare b tag = ap piece_of_row (get-bare b.rows tag) ∙ row_piece-bare (map.get b.rows tag)
 
 fetched-bare : (b : Bank) (tag : Tag) → fetched_piece (unstamped_bank b) tag ≡ fetched_piece b tag
-fetched-bare b tag =
-    ap (λ r. cond (r || exceeds b.delta (finals_above (unstamped_bank b) tag)) None (piece_of (unstamped_bank b) tag))
-    (came-bare b.retired)
-    ∙ ap (λ n. cond (is_some b.retired || exceeds b.delta n) None (piece_of (unstamped_bank b) tag)) (above-bare b tag)
-    ∙ ap (λ p. cond (is_some b.retired || exceeds b.delta (finals_above b tag)) None p) (piece_of-bare b tag)
+fetched-bare b tag = grind (arith, above-bare, came-bare, piece_of-bare)
 
 -- the answer of a bank does not depend on stamps
 pub answer-bare : (b : Bank) (q : Request) → answer_to (unstamped_bank b) q ≡ answer_to b q
-answer-bare b request.Next = ap answer.Pointer (status-bare b.pointer)
-answer-bare b (request.Spread status) = refl
-answer-bare b request.Query = ap answer.Greatest (ap greatest_among (entries-bare b.rows) ∙ greatest-bare (map.entries b.rows))
-answer-bare b (request.PreWrite tag piece) = refl
-answer-bare b (request.Finalize tag) = refl
-answer-bare b (request.Fetch tag) = ap answer.Piece (fetched-bare b tag)
+answer-bare b q = grind (arith, entries-bare, fetched-bare, greatest-bare, status-bare)

@@ -1,6 +1,6 @@
 -- A phase without stamps takes a message as the phase does.
-use Rattle.std.proofs.Common.{◌≡◌, ℕ, suc, ◌+◌, Bool, true, false, cond, ◌&&◌, ◌||◌, not, eqb, nat_lt, List, [], ◌∷◌, ◌++◌, length, map}
-use Rattle.std.proofs.Common.{Option, Some, None, is_some, refl, sym, ap, ◌∙◌}
+use Rattle.std.proofs.Common.{◌≡◌, ℕ, suc, ◌+◌, Bool, true, false, cond, ◌||◌, not, eqb, nat_lt, List, [], ◌∷◌, ◌++◌, length, map}
+use Rattle.std.proofs.Common.{Option, Some, None, is_some, refl, ap, arith}
 use Rattle.std.proofs.lemmas.List.{map-append}
 use Rattle.bank.specs.declared.reply.Reply.{Reply}
 use Rattle.mail.specs.declared.message.Body.{Body}
@@ -8,7 +8,7 @@ use Rattle.mail.specs.declared.message.Body.TheVariants as body
 use Rattle.mail.specs.declared.message.Message.{Message}
 use Rattle.mail.specs.Message.{body_kind}
 use Rattle.phase.specs.declared.phase.Taken.{Taken}
-use Rattle.phase.specs.Phase.{Phase, after_body, after_reply, after_take, has_taken, is_current, makes_quorum, with_reply}
+use Rattle.phase.specs.Phase.{Phase, after_body, after_reply, after_take, has_taken, makes_quorum, with_reply}
 use Rattle.record.specs.Steps.{taking_phases}
 use Rattle.network.specs.Unstamped.{unstamped, unstamped_body, unstamped_message, unstamped_phase, unstamped_reply, unstamped_taken}
 
@@ -37,33 +37,17 @@ replied p replies end = record p { start = 0; replies = replies; end = end }
 
 with-bare : (p : Phase) (member : ℕ) (r : Reply) (now : ℕ) →
     with_reply (unstamped_phase p) member (unstamped_reply r) 0 ≡ unstamped_phase (with_reply p member r now)
-with-bare p member r now =
-    let new : Taken = record { member = member; reply = r; step = now } in
-    ap (λ l. replied p l (cond (makes_quorum (unstamped_phase p)) (Some 0) None))
-    (sym (map-append unstamped_taken p.replies (new ∷ [])))
-    ∙ ap (λ o. replied p (map unstamped_taken (p.replies ++ new ∷ [])) o)
-    (ap (λ b. cond b (Some 0) None) (quorum-bare p) ∙ sym (end-bare (makes_quorum p) now))
+with-bare p member r now = grind (arith, end-bare, map-append, quorum-bare, replied)
 
 choice-bare : (current doubled : Bool) (p with : Phase) →
     cond current (cond doubled (unstamped_phase p) (unstamped_phase with)) (unstamped_phase p)
     ≡ unstamped_phase (cond current (cond doubled p with) p)
 choice-bare true true p with = refl
-choice-bare true false p with = refl
-choice-bare false doubled p with = refl
+choice-bare _ _ p with = refl
 
 reply-bare : (p : Phase) (call number member : ℕ) (r : Reply) (now : ℕ) →
     after_reply (unstamped_phase p) call number member (unstamped_reply r) 0 ≡ unstamped_phase (after_reply p call number member r now)
-reply-bare p call number member r now =
-    ap (λ b. cond (eqb call p.call && (eqb number p.number && not b))
-    (cond (has_taken (map unstamped_taken p.replies) member) (unstamped_phase p)
-    (with_reply (unstamped_phase p) member (unstamped_reply r) 0))
-    (unstamped_phase p)) (step-bare p.end)
-    ∙ ap (λ b. cond (is_current p call number)
-    (cond b (unstamped_phase p) (with_reply (unstamped_phase p) member (unstamped_reply r) 0)) (unstamped_phase p))
-    (taken-bare p.replies member)
-    ∙ ap (λ q. cond (is_current p call number) (cond (has_taken p.replies member) (unstamped_phase p) q) (unstamped_phase p))
-    (with-bare p member r now)
-    ∙ choice-bare (is_current p call number) (has_taken p.replies member) p (with_reply p member r now)
+reply-bare p call number member r now = grind (arith, choice-bare, step-bare, taken-bare, with-bare)
 
 body-bare : (p : Phase) (call number member : ℕ) (b : Body) (now : ℕ) →
     after_body (unstamped_phase p) call number member (unstamped_body b) 0 ≡ unstamped_phase (after_body p call number member b now)
@@ -80,16 +64,8 @@ pub kind-bare : (b : Body) → body_kind (unstamped_body b) ≡ body_kind b
 kind-bare (body.Request asked) = refl
 kind-bare (body.Reply kind made) = refl
 
-position_choice : (current doubled : Bool) (p with : Phase) → with.position ≡ p.position →
-    (cond current (cond doubled p with) p).position ≡ p.position
-position_choice true true p with same = refl
-position_choice true false p with same = same
-position_choice false doubled p with same = refl
-
 position_body : (p : Phase) (call number member : ℕ) (b : Body) (now : ℕ) → (after_body p call number member b now).position ≡ p.position
-position_body p call number member (body.Request asked) now = refl
-position_body p call number member (body.Reply kind made) now =
-    position_choice (is_current p call number) (has_taken p.replies member) p (with_reply p member made now) refl
+position_body p call number member b now = grind arith
 
 -- a take leaves the position of a phase
 pub position_kept : (p : Phase) (m : Message) (now : ℕ) → (after_take p m now).position ≡ p.position
@@ -98,6 +74,5 @@ position_kept p m now = position_body p m.call m.phase m.member m.body now
 -- of several phases the last takes the message
 pub taking_last : (earlier : List Phase) (last : Phase) (m : Message) (now : ℕ) →
     taking_phases (earlier ++ last ∷ []) m now ≡ earlier ++ after_take last m now ∷ []
-taking_last [] last m now = refl
-taking_last (p ∷ []) last m now = refl
 taking_last (p ∷ q ∷ later) last m now = ap (λ l. p ∷ l) (taking_last (q ∷ later) last m now)
+taking_last _ last m now = refl

@@ -1,5 +1,5 @@
 -- The rows of a bank without stamps.
-use Rattle.std.proofs.Common.{◌≡◌, Bool, true, false, cond, ◌&&◌, [], ◌∷◌, map, T, Some, option_map}
+use Rattle.std.proofs.Common.{◌≡◌, Bool, true, false, cond, ◌&&◌, [], ◌∷◌, map, T, Some, option_map, arith}
 use Rattle.std.proofs.Common.{refl, sym, subst, ap, ◌∙◌}
 use Rattle.std.specs.FinMap as map
 use Rattle.std.specs.FinMap.Entries.{below_all, by_order}
@@ -45,9 +45,7 @@ find-bare q (e ∷ es) = go (eq_by_cmp tag_cmp q e.0) (find-bare q es)
     go false rest = rest
 
 pub get-bare : (rows : map.FinMap tag_cmp Row) (q : Tag) → map.get (bare rows) q ≡ option_map unstamped_row (map.get rows q)
-get-bare rows q =
-    map.get-from_sorted tag_cmp (map unstamped_entry (map.entries rows)) q (bare_in_order rows)
-    ∙ find-bare q (map.entries rows) ∙ ap (option_map unstamped_row) (sym (map.get-entries rows q))
+get-bare rows q = grind (arith, bare_in_order, find-bare, map.get-entries, map.get-from_sorted)
 
 put-bare : (k : Tag) (v : Row) (es : Rows) →
     map unstamped_entry (map.put tag_cmp k v es) ≡ map.put tag_cmp k (unstamped_row v) (map unstamped_entry es)

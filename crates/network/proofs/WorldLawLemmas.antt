@@ -17,7 +17,7 @@ use Rattle.record.specs.Steps.{opened_object}
 use Rattle.atomicity.specs.Atomic.{IsAtomic}
 use Rattle.std.proofs.lemmas.Option.{same_Some}
 use Rattle.record.specs.declared.call.CallKind.{CallKind}
-use Rattle.record.specs.declared.call.CallKind.TheVariants.{Read, Write, Move}
+use Rattle.record.specs.declared.call.CallKind.TheVariants.{Read}
 use Rattle.record.specs.declared.call.Entry.{Entry}
 use Rattle.record.specs.declared.call.Operation.TheVariants as operation
 use Rattle.atomicity.proofs.AtomicRunLemmas.{sound_atomic}
@@ -109,26 +109,11 @@ value_there world object legal follows tag value (inr written) =
 -- two entries with one id are one
 one_entry : (world : World) (object : Object) → IsLegal object → Follows world object → (p q : ℕ) (a b : Entry) →
     slice_get world.history p ≡ Some a → slice_get world.history q ≡ Some b → a.call ≡ b.call → a ≡ b
-one_entry world object legal follows p q a b at there same =
-    let c = call_there world object follows p a at in
-    let d = call_there world object follows q b there in
-    let place : p ≡ q = legal.ids p q c.0 d.0 c.1 d.1
-    (ap (λ (x : Entry). x.call) c.2 ∙ same ∙ sym (ap (λ (x : Entry). x.call) d.2)) in
-    same_Some a b (sym at ∙ ap (slice_get world.history) place ∙ there)
+one_entry world object legal follows p q a b at there same = grind (arith, call_there, same_Some)
 
 one_value : (world : World) (object : Object) → IsLegal object → Follows world object → (tag : Tag) (v w : List ℕ) →
     IsValueOf world tag v → IsValueOf world tag w → v ≡ w
-one_value world object legal follows tag v w (inl a) (inl b) = a.1 ∙ sym b.1
-one_value world object legal follows tag v w (inl a) (inr b) =
-    let above = b.0 in
-    let opens : tag.number ≡ 0 = ap (λ (t : Tag). t.number) a.0 in absurd (omega arith)
-one_value world object legal follows tag v w (inr a) (inl b) =
-    let above = a.0 in
-    let opens : tag.number ≡ 0 = ap (λ (t : Tag). t.number) b.0 in absurd (omega arith)
-one_value world object legal follows tag v w (inr a) (inr b) =
-    let one = one_entry world object legal follows a.1.place b.1.place a.1.entry b.1.entry a.1.at b.1.at
-    (a.1.same_id ∙ sym b.1.same_id) in
-    same_Some v w (sym a.1.writes ∙ ap (λ (x : Entry). x.value) one ∙ b.1.writes)
+one_value world object legal follows tag v w known given = grind (arith, one_entry, same_Some)
 
 -- Fragments
 
@@ -159,8 +144,7 @@ coded_there fragment world object legal follows node position member tag piece o
 
 is_read : (kind : CallKind) → operation_of kind ≡ operation.Read → kind ≡ Read
 is_read Read e = refl
-is_read (Write value) e = absurd (cc)
-is_read Move e = absurd (cc)
+is_read _ e = absurd (cc)
 
 some_step : (o p : Option ℕ) → o ≡ option_map last_step_after p → is_some p ≡ true → (step : ℕ) × (o ≡ Some step)
 some_step o None e some = absurd (cc)

@@ -1,10 +1,8 @@
 -- Every run of worlds follows a run of the record.
 use Rattle.std.proofs.Common.{◌≡◌, ℕ, suc, ◌≤◌, List, [], ◌∷◌, ◌++◌, map, get_or, Option, None}
-use Rattle.std.proofs.Common.{refl, sym, subst, ap, ◌∙◌, arith}
+use Rattle.std.proofs.Common.{refl, ap, ◌∙◌, arith}
 use Rattle.std.specs.FinMap as map
-use Rattle.bank.specs.Bank.{Bank, opened_bank, opening_row}
-use Rattle.bank.specs.declared.status.Pointer.TheVariants as pointer
-use Rattle.tag.specs.Tag.{opening_tag}
+use Rattle.bank.specs.Bank.{opened_bank}
 use Rattle.record.specs.Fragments.{Code, IsCode}
 use Rattle.record.specs.Records.{Object, no_bank}
 use Rattle.record.specs.Steps.{Step, stepped, opened_banks, opened_object}
@@ -42,14 +40,7 @@ may_append fragment (step ∷ first) second last middle end object a b =
 -- an event, and then others
 leads_on : (fragment : Code) (object : Object) (last : ℕ) (middle world : World) (first : LeadsOn fragment object last middle) →
     LeadsOn fragment (run_numbered fragment first.steps object) (last_step_after middle.now) world → LeadsOn fragment object last world
-leads_on fragment object last middle world first second =
-    let same = sym (run_append fragment first.steps second.steps object) in record {
-      steps = first.steps ++ second.steps;
-      may = may_append fragment first.steps second.steps last (last_step_after middle.now) (last_step_after world.now) object
-          first.may second.may;
-      sound = subst (λ o. IsSound fragment o (last_step_after world.now)) same second.sound;
-      follows = subst (Follows world) same second.follows;
-    }
+leads_on fragment object last middle world first second = grind (arith, may_append, run_append)
 
 pub run_followed : ((event : Event) → IsFollowed event) → (fragment : Code) → IsCode fragment → (events : List Event)
     (world : World) (object : Object) → IsSound fragment object (last_step_after world.now) → Follows world object →
@@ -69,9 +60,7 @@ run_followed each fragment code (event ∷ events) world object sound follows ma
 -- An opened world
 
 opened-bare : (point now : ℕ) (delta : Option ℕ) → unstamped_bank (opened_bank point delta now) ≡ opened_bank point delta 0
-opened-bare point now delta =
-    ap (λ rows. let b : Bank = record { rows = rows; pointer = pointer.Unset; delta = delta; retired = None } in b)
-    (insert-bare map.empty opening_tag (opening_row point now) ∙ ap (λ rows. map.insert rows opening_tag (opening_row point 0)) bare_empty)
+opened-bare point now delta = grind (arith, bare_empty, insert-bare)
 
 pub opened_banks-bare : (servers : List ℕ) (member now : ℕ) (delta : Option ℕ) →
     map unstamped_bank (opened_banks servers member delta now) ≡ opened_banks servers member delta 0
@@ -86,20 +75,7 @@ unretired (server ∷ servers) delta = refl
 
 opened_follow : (files : ℕ → ClusterFile) → IsOneFile files →
     Follows (opened_world files) (opened_object (files 0).first (files 0).delta 0)
-opened_follow files one = record {
-  one = one;
-  delta = refl;
-  layouts = refl;
-  banks = ap (λ banks. banks ∷ []) (opened_banks-bare (files 0).first.members 0 0 (files 0).delta
-      ∙ banks_opened files one (files 0).first.members 0);
-  sent = refl;
-  history = refl;
-  calls = tt;
-  moves = λ index call at kind none. absurd (cc);
-  kept = unretired (files 0).first.members (files 0).delta;
-}
+opened_follow files one = grind (arith, banks_opened, opened_banks-bare, unretired)
 
 pub runs_followed : ((event : Event) → IsFollowed event) → RunsAreFollowed
-runs_followed each fragment files events code one lawful may =
-    run_followed each fragment code events (opened_world files) (opened_object (files 0).first (files 0).delta 0)
-    (opening_sound fragment code (files 0).first (files 0).delta 0 lawful) (opened_follow files one) may
+runs_followed each fragment files events code one lawful may = grind (arith, opened_follow, opening_sound, run_followed)

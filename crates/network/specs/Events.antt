@@ -172,7 +172,7 @@ world_after fragment (event ∷ events) world = world_after fragment events (hap
 
 -- When a node may act
 
--- the current phase of the call has a quorum, and where it is a fetch, its value is settled
+-- the current phase of the call has a quorum, and if it is a fetch, its value is settled
 pub record IsReady (call : NodeCall) : Type 0 where
   pub complete : IsSome call.phase.end
   pub fetched : IsFetch call.phase.kind → IsSome call.settled

@@ -1,5 +1,5 @@
 -- The contracts that docs/trusted.md lists do not depend on this file; other contracts and proofs do.
--- What is promised of each world that nodes can reach, without a word of the record.
+-- What is promised for each world that nodes can reach. These statements do not mention the record.
 use Rattle.std.specs.Prelude.{IsSome, slice_get, ◌≡◌, ◌<◌, ℕ, List, Some, ◌⊎◌, []}
 use Rattle.tag.specs.declared.tag.Tag.{Tag}
 use Rattle.tag.specs.Tag.{opening_tag}

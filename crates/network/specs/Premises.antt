@@ -1,5 +1,5 @@
 -- The contracts that docs/trusted.md lists do not depend on this file; other contracts and proofs do.
--- The premises of the theorem: what is assumed of the network, of disks, and of how nodes are set up.
+-- The premises of the theorem: what is assumed about the network, about disks, and about how nodes are set up.
 use Rattle.std.specs.Prelude.{◌≡◌, ◌≢◌, ℕ, List, [], ◌∷◌, Some, slice_get}
 use Rattle.std.specs.List.{AllByRecursion}
 use Rattle.mail.specs.declared.message.Message.{Message}

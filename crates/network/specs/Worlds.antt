@@ -23,7 +23,7 @@ pub record NodeCall : Type 0 where
   pub stage : Stage
   pub phase : Phase
 
--- a cluster file: how many finalized versions banks keep beside the newest (None: all), which node moves objects, and
+-- a cluster file: how many finalized versions banks keep besides the newest (None: all), which node moves objects, and
 -- the layout of the object's position 0
 pub record ClusterFile : Type 0 where
   pub delta : Option ℕ
@@ -32,7 +32,7 @@ pub record ClusterFile : Type 0 where
 
 -- a world: the cluster file that each node runs with; the layouts of the positions from 1 on, and the banks by position
 -- (each bank is kept by the node that the layout names); the nodes' open calls; all messages ever sent; and as history
--- entries, and how many events
+-- the entries of the calls, and how many events there were
 pub record World : Type 0 where
   pub files : (node : ℕ) → ClusterFile
   pub later : List Layout

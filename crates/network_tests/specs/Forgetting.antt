@@ -19,7 +19,7 @@ use Rattle.network_tests.specs.Examples.{read_ended, write_asked, write_kept, wr
 
 -- The rule
 
--- the banks of a position's members, from `member` on, where this node has opened its own anew
+-- the banks of a position's members, from `member` on, if this node has opened its own anew
 abbrev pub forgotten_by : (node : ℕ) → (delta : Option ℕ) → (servers : List ℕ) → (member : ℕ) → List Bank → List Bank
 forgotten_by node delta [] member banks = banks
 forgotten_by node delta (server ∷ servers) member [] = []
@@ -27,7 +27,7 @@ forgotten_by node delta (server ∷ servers) member (bank ∷ banks) =
     (if server == node then opened_bank member delta 0 else bank)
     ∷ forgotten_by node delta servers (suc member) banks
 
--- the banks of all positions, where this node has opened its own anew
+-- the banks of all positions, if this node has opened its own anew
 abbrev pub forgotten_banks : (node : ℕ) → (delta : Option ℕ) → List Layout → List (List Bank) → List (List Bank)
 forgotten_banks node delta [] banks = banks
 forgotten_banks node delta (layout ∷ layouts) [] = []
@@ -47,7 +47,7 @@ pub record IsPremisedForgetting (world : World) (event : Event) : Type 0 where
   pub forgets : IsForgotten world event
   pub ids : HasNewId world event
 
--- these events may happen one after another, where nodes forget
+-- these events may happen one after another, if nodes forget
 abbrev pub MayRunForgetting : Code → List Event → World → Type 0
 MayRunForgetting fragment [] world = Unit {0}
 MayRunForgetting fragment (event ∷ events) world =

@@ -23,7 +23,7 @@ pub record IsPremisedInventing (world : World) (event : Event) : Type 0 where
   pub log : IsKeptByLog world event
   pub ids : HasNewId world event
 
--- these events may happen one after another, where the network may invent messages
+-- these events may happen one after another, if the network may invent messages
 abbrev pub MayRunInventing : Code → List Event → World → Type 0
 MayRunInventing fragment [] world = Unit {0}
 MayRunInventing fragment (event ∷ events) world =

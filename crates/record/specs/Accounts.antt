@@ -46,7 +46,7 @@ mailed object = mail_bytes object.mail
 abbrev pub server_at : Object → (position member : ℕ) → ℕ
 server_at object position member = get_or (layout_at object position).members member 0
 
--- this number of bytes if the two servers are the same, and else 0
+-- this number of bytes if the two servers are the same, and otherwise 0
 abbrev pub for_server : (server other bytes : ℕ) → ℕ
 for_server server other bytes = if other == server then bytes else 0
 
@@ -55,7 +55,7 @@ abbrev pub member_sum : (ℕ → ℕ) → (member count : ℕ) → ℕ
 member_sum f member zero = 0
 member_sum f member (suc count) = f member + member_sum f (suc member) count
 
--- f of the value, or 0 where there is no value
+-- f of the value, or 0 if there is no value
 abbrev pub some_bytes : {A : Type 0} → Option A → (A → ℕ) → ℕ
 some_bytes None f = 0
 some_bytes (Some x) f = f x

@@ -52,7 +52,7 @@ TakesTag Read number greatest tag = tag ≡ greatest
 TakesTag (Write value) number greatest tag = tag ≡ next_tag greatest number
 TakesTag Move number greatest tag = ⊥
 
--- the position of the last query that shows the tag, where the first is at `position`, or `place` where none does
+-- the position of the last query that shows the tag, where the first is at `position`, or `place` if none does
 abbrev pub place_shown : Tag → (position place : ℕ) → List Phase → ℕ
 place_shown tag position place [] = place
 place_shown tag position place (query ∷ later) =
@@ -122,7 +122,8 @@ IsRound tag position round =
     Asks round.pre_write (PreWrite tag) position × Asks round.finalize (Finalize tag) position
     × IsReadingTo position round.reading round.last
 
--- the rounds after a reading from one position to another: none where it ended where it began, else the first at `to`
+-- the rounds after a reading from one position to another: none if it ended where it began; otherwise the first is at
+-- `to`
 abbrev pub AreRounds : Tag → (from to : ℕ) → List Round → Type 0
 AreRounds tag from to [] = to ≡ from
 AreRounds tag from to (round ∷ later) = (to ≢ from) × IsRound tag to round × AreRounds tag to round.last later

@@ -20,7 +20,7 @@ pub record IsSized (layout : Layout) (phase : Phase) : Type 0 where
   pub quorum : phase.quorum ≡ quorum_of layout
   pub needed : phase.needed ≡ layout.k
 
--- the phase took true replies, one of a member, and where it is complete those of a quorum, all taken by its end
+-- the phase took true replies, one from each member, and if it is complete those of a quorum, all taken by its end
 pub record IsTruePhase (object : Object) (phase : Phase) : Type 0 where
   pub placed : phase.position < length object.layouts
   pub sized : IsSized (layout_at object phase.position) phase

@@ -20,12 +20,12 @@ use Rattle.record.specs.declared.stage.Stage.TheVariants.{PreWriteAt, FinalizeAt
 use Rattle.record.specs.declared.stage.Stage.TheVariants.{MoveSpread, MoveQuery, MoveFetch, MovePreWrite}
 use Rattle.record.specs.declared.stage.Stage.TheVariants.{MoveFinalize, MoveFinal, Ended, Moved}
 
--- the status of a pointer that an answer shows, or unset where it shows none
+-- the status of a pointer that an answer shows, or unset if it shows none
 abbrev pub shown_status : Answer → Status
 shown_status (answer.Pointer status) = status
 shown_status _ = Unset
 
--- the tag that an answer shows, or the opening tag where it shows none
+-- the tag that an answer shows, or the opening tag if it shows none
 abbrev pub shown_tag : Answer → Tag
 shown_tag (answer.Greatest tag) = tag
 shown_tag _ = opening_tag
@@ -34,22 +34,22 @@ shown_tag _ = opening_tag
 abbrev pub later_status : Status → Status → Status
 later_status s t = if status_le s t then t else s
 
--- the greatest status that the replies show, or unset where they show none
+-- the greatest status that the replies show, or unset if they show none
 abbrev pub greatest_status : List Taken → Status
 greatest_status [] = Unset
 greatest_status (taken ∷ replies) = later_status (shown_status taken.reply.answer) (greatest_status replies)
 
--- the greatest tag that the replies show, or the opening tag where they show none
+-- the greatest tag that the replies show, or the opening tag if they show none
 abbrev pub greatest_tag : List Taken → Tag
 greatest_tag [] = opening_tag
 greatest_tag (taken ∷ replies) = later_tag (shown_tag taken.reply.answer) (greatest_tag replies)
 
--- the stage once its phase begins at a position: where a first reading is to begin, it begins there
+-- the stage once its phase begins at a position: if a first reading is to begin, it begins there
 abbrev pub begun_at : Stage → (position : ℕ) → Stage
 begun_at ReadBegin position = ReadNext position position
 begun_at stage position = stage
 
--- the phase due at a stage, with its position (for ReadBegin see `begun_at`), or none where the call is finished
+-- the phase due at a stage, with its position (for ReadBegin see `begun_at`), or none if the call is finished
 abbrev pub due : Stage → Option (Kind × ℕ)
 due ReadBegin = Some (Next, 0)
 due (ReadNext position finalized) = Some (Next, position)
@@ -99,7 +99,8 @@ after_query kind number found position last greatest shown_at =
 abbrev pub after_fetch : (shown_at last : ℕ) → Tag → Stage
 after_fetch shown_at last tag = if shown_at == last then AgainNext last last tag else PreWriteAt last tag
 
--- the stage after a later reading found this status: if unset, the call ends or puts the tag there; else it is spread
+-- the stage after a later reading found this status: if unset, the call ends or puts the tag there; otherwise it is
+-- spread
 abbrev pub after_again : Status → (last position : ℕ) → Tag → Stage
 after_again Unset last position tag = if position == last then Ended last tag else PreWriteAt position tag
 after_again Pending last position tag = AgainSpread last position tag Pending
@@ -133,7 +134,7 @@ abbrev pub passed : CallKind → (number : ℕ) → Stage → Option ℕ → Lis
 passed kind number stage None replies lacks = stage
 passed kind number stage (Some end) replies lacks = after kind number stage replies lacks
 
--- the stage to which a phase leads; where a first reading is to begin, it begins at the phase's position
+-- the stage to which a phase leads; if a first reading is to begin, it begins at the phase's position
 abbrev pub stage_past : CallKind → (number : ℕ) → Stage → Phase → Stage
 stage_past kind number stage phase =
     passed kind number (begun_at stage phase.position) phase.end phase.replies (lacks_pieces phase)

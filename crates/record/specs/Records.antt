@@ -20,7 +20,7 @@ pub record Call : Type 0 where
   pub settled : Option (List ℕ)
   pub phases : List Phase
 
--- an object: versions kept beside the newest (None: all), layouts and banks by position, waiting messages, and calls
+-- an object: versions kept besides the newest (None: all), layouts and banks by position, waiting messages, and calls
 pub record Object : Type 0 where
   pub delta : Option ℕ
   pub layouts : List Layout
@@ -28,7 +28,7 @@ pub record Object : Type 0 where
   pub mail : List Message
   pub calls : List Call
 
--- the index of the first call with this id, or the number of calls where none has it
+-- the index of the first call with this id, or the number of calls if none has it
 abbrev pub index_by_id : List Call → (id : ℕ) → ℕ
 index_by_id [] id = 0
 index_by_id (call ∷ calls) id = if call.id == id then 0 else suc (index_by_id calls id)

@@ -22,7 +22,7 @@ sent_value Read settled = settled
 sent_value (Write value) settled = Some value
 sent_value Move settled = settled
 
--- the value, or the empty value where there is none
+-- the value, or the empty value if there is none
 abbrev pub value_or_empty : Option (List ℕ) → List ℕ
 value_or_empty None = []
 value_or_empty (Some value) = value

@@ -55,7 +55,7 @@ AreBegun (phase ∷ later) = IsEndedBefore phase later × AreBegun later
 abbrev pub SameReplies : Phase → Phase → Type 0
 SameReplies phase other = (other.replies ≡ phase.replies) × (other.needed ≡ phase.needed)
 
--- the others begin with these phases: each asks the same and, where it is complete, has the same need and replies
+-- the others begin with these phases: each asks the same and, if it is complete, has the same need and replies
 abbrev pub Begin : List Phase → List Phase → Type 0
 Begin [] others = Unit {0}
 Begin (phase ∷ later) [] = ⊥
@@ -70,7 +70,7 @@ pub record IsBeginning (kind : CallKind) (number from : ℕ) (phases : List Phas
   pub is_whole : IsSentence kind number from whole tag
   pub begin : Begin phases whole
 
--- a law: the phases of a call are those that were due exactly where they are the beginning of a whole call's phases
+-- a law: the phases of a call are those that were due exactly if they are the beginning of a whole call's phases
 abbrev pub CoursesAreBeginnings : Type 0
 CoursesAreBeginnings =
     (kind : CallKind) (number from : ℕ) (phases : List Phase) →

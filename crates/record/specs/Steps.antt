@@ -45,8 +45,7 @@ with_phase object index call kind position now piece =
     record object {
       calls = slice_set object.calls index
           (record call {
-            phases = call.phases
-                ++ new_phase call.id number kind position (layout_at object position) now ∷ [];
+            phases = call.phases ++ new_phase call.id number kind position (layout_at object position) now ∷ [];
           });
       mail = object.mail ++ requests call.id number kind position (layout_at object position).members 0 piece;
     }
@@ -57,7 +56,7 @@ opened_banks [] member delta now = []
 opened_banks (server ∷ servers) member delta now =
     opened_bank member delta now ∷ opened_banks servers (suc member) delta now
 
--- a new object with this layout, whose banks keep `delta` finalized versions beside the newest
+-- a new object with this layout, whose banks keep `delta` finalized versions besides the newest
 abbrev pub opened_object : Layout → (delta : Option ℕ) → (now : ℕ) → Object
 opened_object layout delta now = record {
   delta = delta;
@@ -110,8 +109,6 @@ settled_object object index call value = with_call object index (record call { s
 -- the record after the call at this index is answered
 abbrev pub answered_object : Object → (index : ℕ) → Call → (now : ℕ) → Object
 answered_object object index call now = with_call object index (record call { answered = Some now })
-
--- Messages
 
 -- the record after a server serves a request: its bank changes, and the reply takes the place of the request
 abbrev pub handled_object : Object → (place : ℕ) → Message → Request → (now : ℕ) → Object
@@ -190,8 +187,6 @@ retired_object object now =
     record object {
       banks = slice_set object.banks base (map (λ bank. retired_bank bank now) (get_or object.banks base []));
     }
-
--- Steps
 
 -- the steps of an object; a call that begins gets an id, and is then named by its index, and a message by its place in
 -- the mail, both from 0

@@ -26,17 +26,17 @@ abbrev pub is_fetch : Kind → Bool
 is_fetch (Fetch tag) = true
 is_fetch _ = false
 
--- the length of the value that a piece states, or the other length where there is no piece
+-- the length of the value that a piece states, or the other length if there is no piece
 abbrev pub len_or : Option Piece → ℕ → ℕ
 len_or None other = other
 len_or (Some piece) other = piece.len
 
--- the length of the value that the first piece of these replies states, or 0 where there is no piece
+-- the length of the value that the first piece of these replies states, or 0 if there is no piece
 abbrev pub value_len : List Taken → ℕ
 value_len [] = 0
 value_len (taken ∷ replies) = len_or (answer_piece taken.reply.answer) (value_len replies)
 
--- what is wanted to begin a phase of this kind: the pieces of the value if it sends them, and else only to advance
+-- what is wanted to begin a phase of this kind: the pieces of the value if it sends them, and otherwise only to advance
 abbrev pub want_to_begin : Kind → Layout → Want
 want_to_begin (PreWrite tag) layout = want.Supply layout.k (length layout.members)
 want_to_begin _ layout = want.Advance
@@ -46,13 +46,13 @@ abbrev pub want_for : Object → Option (Kind × ℕ) → Want
 want_for object None = want.Answer
 want_for object (Some next) = want_to_begin next.0 (layout_at object next.1)
 
--- what is wanted after a complete fetch with no settled value: to settle one, or to restart where pieces are lacking
+-- what is wanted after a complete fetch with no settled value: to settle one, or to restart if pieces are lacking
 abbrev pub want_of_fetch : Object → Phase → Want
 want_of_fetch object phase =
     if lacks_pieces phase then want.Again
     else want.Settle (layout_at object phase.position).k (value_len phase.replies)
 
--- what a call that is not answered wants: replies, after a fetch a value or a restart, and else what comes next
+-- what a call that is not answered wants: replies, after a fetch a value or a restart, and otherwise what comes next
 abbrev pub want_after : Object → Option (Kind × ℕ) → (settled : Option (List ℕ)) → Option Phase → Want
 want_after object next settled None = want.Replies
 want_after object next settled (Some phase) =
@@ -78,7 +78,7 @@ abbrev pub phase_tag : Option Phase → Option Tag → Option Tag
 phase_tag None other = other
 phase_tag (Some phase) other = fetched_or phase.kind other
 
--- the tag that a view of the call shows: while its current phase is a fetch that phase's tag, and else the call's
+-- the tag that a view of the call shows: while its current phase is a fetch that phase's tag, and otherwise the call's
 abbrev pub viewed_tag : Object → (index : ℕ) → Call → Option Tag
 viewed_tag object index call = phase_tag (current_phase call.phases) (tag_of object index call)
 

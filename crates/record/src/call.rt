@@ -33,13 +33,13 @@ pub struct Entry {
     pub kind: Operation,
     /// The number of the step that began the call.
     pub called: Stamp,
-    /// The number of the step that answered the call. None while it is not answered.
+    /// The number of the step that answered the call, or none while it is not answered.
     pub answered: Option<Stamp>,
-    /// The value that a write writes, or that an answered read returned. None for any other call.
+    /// The value that a write writes, or that an answered read returned, or none for any other call.
     pub value: Option<Bytes>,
 }
 
-/// What the order by tags needs to know of a call.
+/// What the order by tags needs to know about a call.
 #[derive(Clone, Copy, Debug, PartialEq, Eq)]
 pub struct TaggedCall {
     /// The call's number in its object, from 1: its place among the object's calls.

@@ -19,8 +19,8 @@ pub fn readings_come_before_tags()
 {}
 
 /// A law: the table of stages and the shape of whole calls agree for finished calls. The phases of a call are those
-/// that were due, up to a stage where none is due, exactly where they are the phases of a whole read, write or move,
-/// each ended before the next began.
+/// that were due, up to a stage where none is due, exactly if they are the phases of a whole read, write or move, each
+/// ended before the next began.
 pub fn finished_calls_are_whole()
     ensures { FinishedAreWhole }
 {}
@@ -30,7 +30,7 @@ pub fn answered_calls_are_whole()
     ensures { AnsweredAreWhole }
 {}
 
-/// A law: the table and the shape agree for calls under way. The phases of a call are those that were due exactly where
+/// A law: the table and the shape agree for calls under way. The phases of a call are those that were due exactly if
 /// they are the beginning of the phases of a whole read, write or move.
 pub fn courses_are_beginnings()
     ensures { CoursesAreBeginnings }

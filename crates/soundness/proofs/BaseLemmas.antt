@@ -1,7 +1,8 @@
 -- The base: the positions before it are retired, and it stays where they do.
+use Rattle.std.proofs.lemmas.Grind.{common_steps}
 use Rattle.std.proofs.Common.{◌≡◌, ℕ, zero, suc, ◌<◌, ◌≤◌, Bool, true, false, cond, is_some}
 use Rattle.std.proofs.Common.{List, [], ◌∷◌, ◌++◌, length, set, Option, Some, None, get_or, slice_get}
-use Rattle.std.proofs.Common.{refl, sym, subst, ap, ◌∙◌, arith, leb-true, le-leb}
+use Rattle.std.proofs.Common.{refl, sym, subst, ap, ◌∙◌, arith}
 use Rattle.std.proofs.lemmas.Option.{same_Some}
 use Rattle.std.specs.List.{AllByRecursion}
 use Rattle.bank.specs.Bank.{Bank}
@@ -32,8 +33,7 @@ below_base (first ∷ later) step j h =
 
 -- what came by a step came at one
 pub came_at : (o : Option ℕ) (step : ℕ) → came_by o step ≡ true → (at : ℕ) × (o ≡ Some at) × (at ≤ step)
-came_at None step e = absurd (cc)
-came_at (Some at) step e = (at, refl, leb-true at step e)
+came_at o step e = grind arith
 
 -- the base of a step is the same where the same positions were retired by then
 pub base_same : (xs ys : List (List Bank)) (step : ℕ) →
@@ -55,8 +55,7 @@ first_same (x ∷ xs) (y ∷ ys) same =
     ∙ ap (λ n. cond (is_some (get_or y 0 no_bank).retired) (suc n) 0) (first_same xs ys (λ j. same (suc j)))
 
 came_some : (o : Option ℕ) (step : ℕ) → ((at : ℕ) → o ≡ Some at → at ≤ step) → came_by o step ≡ is_some o
-came_some None step past = refl
-came_some (Some at) step past = le-leb at step (past at refl)
+came_some o step past = grind arith
 
 -- the base is that of any step by which all that is retired was
 pub base_now : (banks : List (List Bank)) (step : ℕ) → ((j at : ℕ) → RetiredOf banks j ≡ Some at → at ≤ step) →
@@ -88,9 +87,7 @@ bases_same old new same step = base_same new.banks old.banks step (λ j. ap (λ 
 pub leading_same : (old new : Object) → RetiredSame old new →
     ((position : ℕ) → base_of old ≤ position → retired_at old position ≡ None) →
     (position : ℕ) → base_of new ≤ position → retired_at new position ≡ None
-leading_same old new same leading position h =
-    let base : base_of new ≡ base_of old = first_same new.banks old.banks same in
-    same position ∙ leading position (omega arith)
+leading_same old new same leading position h = grind (arith, first_same)
 
 -- first readings that begin at the base, begin at another that is the same at their starts
 pub base_kept : (base other : ℕ → ℕ) (kind : CallKind) (number : ℕ) (phases : List Phase) (stage : Stage) →
@@ -115,22 +112,20 @@ base_push base kind number (phase ∷ phases) stage next begins at =
 pub base_set : (base : ℕ → ℕ) (kind : CallKind) (number : ℕ) (phases : List Phase) (stage : Stage) (place : ℕ) (old new : Phase) →
     BeginAtBase base kind number stage phases → slice_get phases place ≡ Some old → suc place ≡ length phases →
     new.position ≡ old.position → new.start ≡ old.start → BeginAtBase base kind number stage (set phases place new)
-base_set base kind number [] stage place old new begins at last p s = absurd (cc)
 base_set base kind number (phase ∷ []) stage zero old new begins at last p s =
     let same = same_Some phase old at in (
       (λ first. p ∙ sym (ap (λ (q : Phase). q.position) same) ∙ begins.0 first
           ∙ ap base (ap (λ (q : Phase). q.start) same ∙ sym s)),
       tt,
     )
-base_set base kind number (phase ∷ []) stage (suc place) old new begins at last p s = absurd (cc)
 base_set base kind number (phase ∷ next ∷ phases) stage zero old new begins at last p s = absurd (omega arith)
 base_set base kind number (phase ∷ next ∷ phases) stage (suc place) old new begins at last p s =
     (begins.0, base_set base kind number (next ∷ phases) (stage_past kind number stage phase) place old new begins.1 at (omega arith) p s)
+base_set base kind number _ stage _ old new begins at last p s = absurd (cc)
 
 -- no position is retired from the first that is not
 first_none : (banks : List (List Bank)) → RetiredOf banks 0 ≡ None → retired_first banks ≡ 0
-first_none [] e = refl
-first_none (first ∷ later) e = ap (λ (o : Option ℕ). cond (is_some o) (suc (retired_first later)) 0) e
+first_none banks e = grind (arith, common_steps)
 
 -- the base goes up by one where its banks are retired, and those of the next position are not
 pub base_raised : (banks : List (List Bank)) (fresh : List Bank) (now : ℕ) → retired_first banks < length banks →

@@ -1,5 +1,6 @@
 -- What is so of each element of a list, and of lists in which one element is put or set.
-use Rattle.std.proofs.Common.{nat_eq, ◌≡◌, ℕ, zero, suc, ◌⊎◌, List, [], ◌∷◌}
+use Rattle.std.proofs.lemmas.Grind.{common_steps}
+use Rattle.std.proofs.Common.{nat_eq, ◌≡◌, ℕ, zero, suc, ◌⊎◌, List, [], ◌∷◌, arith}
 use Rattle.std.proofs.Common.{◌++◌, set, Some, refl, subst, ap, inl, inr, slice_get}
 use Rattle.std.proofs.lemmas.Option.{same_Some}
 use Rattle.std.specs.List.{AllByRecursion, IsDistinct}
@@ -12,8 +13,7 @@ all_get P (y ∷ ys) (suc i) x all e = all_get P ys i x all.1 e
 
 -- one more
 pub all_push : {A : Type 0} (P : A → Type 0) (xs : List A) (y : A) → AllByRecursion P xs → P y → AllByRecursion P (xs ++ y ∷ [])
-all_push P [] y all p = (p, tt)
-all_push P (x ∷ xs) y all p = (all.0, all_push P xs y all.1 p)
+all_push P xs y all p = grind (arith, common_steps)
 
 pub get_push : {A : Type 0} (xs : List A) (y x : A) (i : ℕ) → slice_get xs i ≡ Some x → slice_get (xs ++ y ∷ []) i ≡ Some x
 get_push [] y x i e = absurd (cc)
@@ -25,13 +25,12 @@ pub get_set : {A : Type 0} (xs : List A) (i j : ℕ) (old new x : A) → slice_g
     slice_get (set xs i new) j ≡ Some x → ((j ≡ i) × (new ≡ x)) ⊎ (slice_get xs j ≡ Some x)
 get_set [] i j old new x at e = absurd (cc)
 get_set (y ∷ ys) zero zero old new x at e = inl (refl, same_Some new x e)
-get_set (y ∷ ys) zero (suc j) old new x at e = inr e
-get_set (y ∷ ys) (suc i) zero old new x at e = inr e
 get_set (y ∷ ys) (suc i) (suc j) old new x at e = go (get_set ys i j old new x at e)
   where
     go : ((j ≡ i) × (new ≡ x)) ⊎ (slice_get ys j ≡ Some x) → ((suc j ≡ suc i) × (new ≡ x)) ⊎ (slice_get ys j ≡ Some x)
     go (inl here) = inl (ap suc here.0, here.1)
     go (inr there) = inr there
+get_set (y ∷ ys) _ _ old new x at e = inr e
 
 pub set_here : {A : Type 0} (xs : List A) (i : ℕ) (old new : A) → slice_get xs i ≡ Some old →
     slice_get (set xs i new) i ≡ Some new
@@ -43,9 +42,8 @@ pub set_there : {A : Type 0} (xs : List A) (i j : ℕ) (new x : A) → (j ≡ i 
     slice_get (set xs i new) j ≡ Some x
 set_there [] i j new x other e = absurd (cc)
 set_there (y ∷ ys) zero zero new x other e = absurd (other refl)
-set_there (y ∷ ys) zero (suc j) new x other e = e
-set_there (y ∷ ys) (suc i) zero new x other e = e
 set_there (y ∷ ys) (suc i) (suc j) new x other e = set_there ys i j new x (λ s. other (ap suc s)) e
+set_there (y ∷ ys) _ _ new x other e = e
 
 -- none stands twice in the empty list
 pub none_twice : IsDistinct nat_eq []
@@ -54,9 +52,7 @@ none_twice = tt
 
 pub all_set : {A : Type 0} (P : A → Type 0) (xs : List A) (i : ℕ) (y : A) → AllByRecursion P xs → P y →
     AllByRecursion P (set xs i y)
-all_set P [] i y all p = tt
-all_set P (x ∷ xs) zero y all p = (p, all.1)
-all_set P (x ∷ xs) (suc i) y all p = (all.0, all_set P xs i y all.1 p)
+all_set P xs i y all p = grind (arith, common_steps)
 
 pub all_weaker : {A : Type 0} (P Q : A → Type 0) → ((x : A) → P x → Q x) → (xs : List A) →
     AllByRecursion P xs → AllByRecursion Q xs

@@ -123,16 +123,4 @@ Respects x y = IsAnsweredBefore x.entry y.entry → IsAtMost x.tag y.tag × (y.r
 pub answered_in_order : (x y : Item) → Respects y x → (x.reads ≡ 0) ⊎ (x.reads ≡ 1) → (y.reads ≡ 0) ⊎ (y.reads ≡ 1) →
     x.entry.called ≡ x.called → ((step : ℕ) → y.entry.answered ≡ Some step → y.called ≤ step) → Before x y →
     IsAnsweredBefore y.entry x.entry → ⊥
-answered_in_order x y respects kx ky called later before answered =
-    let r = respects answered in
-    let low = later answered.0 answered.1 in
-    let less = answered.2 in
-    go kx ky r.0 r.1
-  where
-    go : (x.reads ≡ 0) ⊎ (x.reads ≡ 1) → (y.reads ≡ 0) ⊎ (y.reads ≡ 1) → IsAtMost y.tag x.tag →
-        (x.reads ≡ 0 → IsBelow y.tag x.tag) → ⊥
-    go (inl w) k at_most below = let b = below w in let p = before in grind arith
-    go (inr r) k at_most below =
-        let low = later answered.0 answered.1 in
-        let less = answered.2 in
-        let p = before in grind arith
+answered_in_order x y respects kx ky called later before answered = grind arith

@@ -1,5 +1,5 @@
 -- Items in the order of their tags, and what is so of each list that is ordered and keeps its writes.
-use Rattle.std.proofs.Common.{◌≡◌, ℕ, ◌<◌, ◌⊎◌, List, [], ◌∷◌, map, Some, refl, sym, ap, ◌∙◌, inl, inr, arith}
+use Rattle.std.proofs.Common.{◌≡◌, ℕ, ◌<◌, ◌⊎◌, List, [], ◌∷◌, map, Some, refl, ap, ◌∙◌, inl, inr, arith}
 use Rattle.std.specs.List.{AllByRecursion}
 use Rattle.tag.specs.declared.tag.Tag.{Tag}
 use Rattle.tag.specs.Tag.{IsBelow}
@@ -7,7 +7,6 @@ use Rattle.record.specs.declared.call.Entry.{Entry}
 use Rattle.atomicity.specs.Atomic.{IsRegister}
 use Rattle.record.specs.declared.call.Operation.TheVariants as operation
 use Rattle.soundness.proofs.ListLemmas.{all_weaker, all_pairs}
-use Rattle.record.proofs.TagOrderLemmas.{IsAtMost}
 
 -- a call that stands in the list
 pub record Item : Type 0 where
@@ -26,12 +25,6 @@ Before a b = (a.tag.number < b.tag.number)
 
 pub before_trans : (a b c : Item) → Before a b → Before b c → Before a c
 before_trans a b c p q = grind arith
-
-pub before_cases : (a b : Item) → (a.called ≡ b.called → ⊥) → Before a b ⊎ Before b a
-before_cases a b h = grind arith
-
-before_tags : (a b : Item) → Before a b → IsAtMost a.tag b.tag
-before_tags a b p = grind arith
 
 -- each stands before all that follow
 abbrev pub IsOrdered : List Item → Type 0
@@ -69,46 +62,21 @@ AllPairs R (x ∷ xs) = AllByRecursion (R x) xs × AllPairs R xs
 abbrev pub Rests : Tag → List ℕ → List Item → Item → Type 0
 Rests last current xs r = r.reads ≡ 1 → ((r.tag ≡ last) × (r.value ≡ current)) ⊎ Some_of (Wrote r) xs
 
-same_tag_at_most : (a b : Tag) → a ≡ b → IsAtMost a b
-same_tag_at_most a b e =
-    let n : a.number ≡ b.number = ap (λ (t : Tag). t.number) e in
-    let c : a.call ≡ b.call = ap (λ (t : Tag). t.call) e in
-    grind arith
-
 tag_parts : (a b : Tag) → a ≡ b → (a.number ≡ b.number) × (a.call ≡ b.call)
 tag_parts a b e = (ap (λ (t : Tag). t.number) e, ap (λ (t : Tag). t.call) e)
 
 after_write : (x r : Item) (last : Tag) (current : List ℕ) (xs : List Item) → x.reads ≡ 0 → IsBelow last x.tag → Before x r →
     Rests last current (x ∷ xs) r → Rests x.tag x.value xs r
-after_write x r last current xs w above before rests = λ reads. go reads (rests reads)
-  where
-    go : r.reads ≡ 1 → ((r.tag ≡ last) × (r.value ≡ current)) ⊎ (Wrote r x ⊎ Some_of (Wrote r) xs) →
-        ((r.tag ≡ x.tag) × (r.value ≡ x.value)) ⊎ Some_of (Wrote r) xs
-    go reads (inl old) = absurd (let t = tag_parts r.tag last old.0 in grind arith)
-    go reads (inr (inl here)) = inl (sym here.1, sym here.2)
-    go reads (inr (inr there)) = inr there
+after_write x r last current xs w above before rests = grind arith
 
 after_read : (x r : Item) (last : Tag) (current : List ℕ) (xs : List Item) → x.reads ≡ 1 → Rests last current (x ∷ xs) r →
     Rests last current xs r
-after_read x r last current xs w rests = λ reads. go (rests reads)
-  where
-    go : ((r.tag ≡ last) × (r.value ≡ current)) ⊎ (Wrote r x ⊎ Some_of (Wrote r) xs) →
-        ((r.tag ≡ last) × (r.value ≡ current)) ⊎ Some_of (Wrote r) xs
-    go (inl old) = inl old
-    go (inr (inl here)) = absurd (let z = here.0 in omega arith)
-    go (inr (inr there)) = inr there
+after_read x r last current xs w rests = grind arith
 
 -- a read's write does not come behind it
 rests_here : (x : Item) (last : Tag) (current : List ℕ) (xs : List Item) → x.reads ≡ 1 → AllByRecursion (Before x) xs →
     Rests last current (x ∷ xs) x → (x.tag ≡ last) × (x.value ≡ current)
-rests_here x last current xs reads ordered rests = go (rests reads)
-  where
-    go : ((x.tag ≡ last) × (x.value ≡ current)) ⊎ (Wrote x x ⊎ Some_of (Wrote x) xs) → (x.tag ≡ last) × (x.value ≡ current)
-    go (inl old) = old
-    go (inr (inl here)) = absurd (let z = here.0 in omega arith)
-    go (inr (inr there)) =
-        let found = some_and_all (Wrote x) (Before x) xs there ordered in
-        absurd (let w = found.1.0 in let t = tag_parts found.0.tag x.tag found.1.1 in let b = found.2 in grind arith)
+rests_here x last current xs reads ordered rests = grind (arith, some_and_all, tag_parts)
 
 pub register : (xs : List Item) (last : Tag) (current : List ℕ) → IsOrdered xs → AllPairs Apart xs → AllByRecursion IsKept xs →
     AllByRecursion (λ x. x.reads ≡ 0 → IsBelow last x.tag) xs → AllByRecursion (Rests last current xs) xs →

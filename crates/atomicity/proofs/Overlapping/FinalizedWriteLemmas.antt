@@ -1,5 +1,5 @@
 -- A tag that was finalized anywhere is that of a write that was called before.
-use Rattle.std.proofs.Common.{◌≡◌, ℕ, zero, suc, ◌<◌, ◌≤◌, ◌⊎◌, List, [], ◌∷◌}
+use Rattle.std.proofs.Common.{◌≡◌, ℕ, zero, suc, ◌<◌, ◌≤◌, ◌⊎◌, List, ◌∷◌}
 use Rattle.std.proofs.Common.{Some, refl, sym, subst, ap, ◌∙◌, inl, inr, arith, slice_get}
 use Rattle.std.proofs.lemmas.Option.{same_Some}
 use Rattle.std.specs.List.{AllByRecursion}
@@ -9,7 +9,7 @@ use Rattle.layout.specs.Layout.{IsLawful}
 use Rattle.bank.specs.Bank.{Bank}
 use Rattle.bank.specs.Knowledge.{finalized_at, HasFinalized, IsTrueAnswer}
 use Rattle.bank.specs.declared.kind.Kind.{Kind}
-use Rattle.bank.specs.declared.kind.Kind.TheVariants.{Next, Spread, Query, PreWrite, Finalize, Fetch}
+use Rattle.bank.specs.declared.kind.Kind.TheVariants.{Finalize, Fetch}
 use Rattle.bank.specs.declared.reply.Answer.{Answer}
 use Rattle.bank.specs.declared.reply.Answer.TheVariants as answer
 use Rattle.phase.specs.declared.phase.Taken.{Taken}
@@ -51,15 +51,7 @@ pub record IsWrittenBefore (object : Object) (tag : Tag) (step : ℕ) : Type 0 w
 -- the tag that a true answer shows
 shown_true : (bank : Bank) (made : ℕ) (kind : Kind) (answer : Answer) → IsTrueAnswer bank made kind answer →
     (shown_tag answer ≡ opening_tag) ⊎ HasFinalized bank (shown_tag answer) made
-shown_true bank made kind answer.Done says = inl refl
-shown_true bank made kind (answer.Pointer status) says = inl refl
-shown_true bank made kind (answer.Piece piece) says = inl refl
-shown_true bank made Query (answer.Greatest tag) says = inr says.0
-shown_true bank made Next (answer.Greatest tag) says = absurd says
-shown_true bank made (Spread status) (answer.Greatest tag) says = absurd says
-shown_true bank made (PreWrite other) (answer.Greatest tag) says = absurd says
-shown_true bank made (Finalize other) (answer.Greatest tag) says = absurd says
-shown_true bank made (Fetch other) (answer.Greatest tag) says = absurd says
+shown_true bank made kind answer says = grind arith
 
 -- what the replies of a complete phase show, was finalized by its end
 phase_shows : (object : Object) (phase : Phase) (end step : ℕ) → IsTruePhase object phase → phase.end ≡ Some end → end ≤ step →
@@ -95,9 +87,7 @@ ended_earlier : (object : Object) → AllByRecursion IsLawful object.layouts →
     (stage : Stage) → IsCourse kind number stage phases → AllByRecursion (IsTruePhase object) phases → (early late : ℕ)
     (other phase : Phase) → early < late → slice_get phases early ≡ Some other → slice_get phases late ≡ Some phase →
     EndedBefore other phase
-ended_earlier object lawful kind number [] stage course truth early late other phase less a b = absurd (cc)
 ended_earlier object lawful kind number (first ∷ phases) stage course truth early zero other phase less a b = absurd (omega arith)
-ended_earlier object lawful kind number (first ∷ []) stage course truth early (suc late) other phase less a b = absurd (cc)
 ended_earlier object lawful kind number (first ∷ next ∷ later) stage course truth zero (suc zero) other phase less a b =
     let same = same_Some first other a in
     let follows = same_Some next phase b in
@@ -120,6 +110,7 @@ ended_earlier object lawful kind number (first ∷ next ∷ later) stage course 
 ended_earlier object lawful kind number (first ∷ next ∷ later) stage course truth (suc early) (suc late) other phase less a b =
     ended_earlier object lawful kind number (next ∷ later) (stage_past kind number stage first) course.2
     truth.1 early late other phase (omega arith) a b
+ended_earlier object lawful kind number _ stage course truth early _ other phase less a b = absurd (cc)
 
 module _ (fragment : Code) (object : Object) (last : ℕ) (sound : IsSound fragment object last) where
   -- the tag that a phase of no write sends was shown before

@@ -1,8 +1,7 @@
 -- Calls with greater tags, and numbers that are apart.
 use Rattle.std.proofs.Common.{◌≡◌, ℕ, false, List, [], ◌∷◌}
-use Rattle.std.proofs.Common.{Some, refl, sym, subst, ap, ◌∙◌, arith, slice_get}
+use Rattle.std.proofs.Common.{Some, refl, arith, slice_get}
 use Rattle.std.proofs.lemmas.Bool.Decides.{nat_tests}
-use Rattle.std.proofs.lemmas.Option.{same_Some}
 use Rattle.std.specs.List.{AllByRecursion}
 use Rattle.tag.specs.declared.tag.Tag.{Tag}
 use Rattle.tag.specs.Tag.{IsBelow}
@@ -25,11 +24,4 @@ pub record HasAbove (object : Object) (tag : Tag) (index : ℕ) : Type 0 where
 
 pub one_tag : (object : Object) (tag : Tag) (i j : ℕ) (call : Call) → slice_get object.calls j ≡ Some call →
     tag_of object j call ≡ Some tag → HasAbove object tag i → i ≡ j → ⊥
-one_tag object tag i j call at tagged above same =
-    let calls : above.call ≡ call = same_Some above.call call (sym above.at ∙ ap (λ k. slice_get object.calls k) same ∙ at) in
-    let tags : above.greater ≡ tag = same_Some above.greater tag
-    (sym above.tagged ∙ ap (λ (c : Call). tag_of object i c) calls ∙ ap (λ k. tag_of object k call) same ∙ tagged) in
-    itself tag (subst (λ t. IsBelow tag t) tags above.above)
-  where
-    itself : (t : Tag) → IsBelow t t → ⊥
-    itself t below = absurd (grind arith)
+one_tag object tag i j call at tagged above same = grind arith

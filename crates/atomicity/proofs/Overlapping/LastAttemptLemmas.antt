@@ -1,24 +1,21 @@
 -- What is so of a read at a fetch, since it last began.
 use Rattle.std.proofs.Common.{◌≡◌, ℕ, zero, suc, ◌≤◌, Bool, true, false, cond, List, [], ◌∷◌, Some, le_trans}
 use Rattle.std.proofs.Common.{refl, sym, subst, ap, ◌∙◌, arith, le_refl, le_of_lt, slice_get}
-use Rattle.std.proofs.lemmas.Option.{same_Some, some_pair_parts}
+use Rattle.std.proofs.lemmas.Option.{same_Some}
 use Rattle.std.specs.List.{AllByRecursion}
 use Rattle.tag.specs.declared.tag.Tag.{Tag}
 use Rattle.layout.specs.Layout.{IsLawful}
 use Rattle.bank.specs.declared.kind.Kind.{Kind}
-use Rattle.bank.specs.declared.kind.Kind.TheVariants.{Next, Spread, Query, PreWrite, Finalize, Fetch}
-use Rattle.bank.specs.declared.status.Status.TheVariants.{Pending, Final}
+use Rattle.bank.specs.declared.kind.Kind.TheVariants.{Fetch}
 use Rattle.phase.specs.declared.phase.Taken.{Taken}
 use Rattle.phase.specs.Phase.{Phase, lacks_pieces}
 use Rattle.record.specs.declared.call.CallKind.{CallKind}
-use Rattle.record.specs.declared.call.CallKind.TheVariants.{Read, Move}
+use Rattle.record.specs.declared.call.CallKind.TheVariants.{Read}
 use Rattle.record.specs.Records.{Call, Object, base_at}
 use Rattle.record.specs.Knowledge.{IsTruePhase}
 use Rattle.record.specs.PhaseOrder.{due, after, passed, IsCourse, stage_past, begun_at, BeginAtBase}
 use Rattle.record.specs.declared.stage.Stage.{Stage}
-use Rattle.record.specs.declared.stage.Stage.TheVariants.{ReadBegin, ReadNext, ReadSpread, QueryFrom, FetchAt, PreWriteAt}
-use Rattle.record.specs.declared.stage.Stage.TheVariants.{FinalizeAt, AgainNext, AgainSpread, MoveSpread, MoveQuery}
-use Rattle.record.specs.declared.stage.Stage.TheVariants.{MoveFetch, MovePreWrite, MoveFinalize, MoveFinal, Ended, Moved}
+use Rattle.record.specs.declared.stage.Stage.TheVariants.{ReadBegin}
 use Rattle.record.specs.Legal.{source_of, first_stage, IsLegal}
 use Rattle.record.specs.Wants.{is_fetch}
 use Rattle.atomicity.specs.Lacking.{first_start, last_beginning}
@@ -46,37 +43,7 @@ none_late kind number (first ∷ phases) stage tag late course (suc place) phase
 reads_anew : (object : Object) (from number since now : ℕ) (stage : Stage) (replies : List Taken) (tag : Tag) (position : ℕ) →
     Facts object Read from number since now stage → due stage ≡ Some (Fetch tag, position) →
     after Read number stage replies true ≡ ReadBegin
-reads_anew object from number since now (FetchAt q l t) replies tag position facts e = refl
-reads_anew object from number since now (MoveFetch p t) replies tag position facts e =
-    absurd (let clash : Read ≡ Move = facts.0.0 in cc)
-reads_anew object from number since now ReadBegin replies tag position facts e =
-    absurd (let other = (some_pair_parts Next (Fetch tag) 0 position e).0 in cc)
-reads_anew object from number since now (ReadNext a b) replies tag position facts e =
-    absurd (let other = (some_pair_parts Next (Fetch tag) a position e).0 in cc)
-reads_anew object from number since now (ReadSpread a b c) replies tag position facts e =
-    absurd (let other = (some_pair_parts (Spread c) (Fetch tag) a position e).0 in cc)
-reads_anew object from number since now (QueryFrom a b c d) replies tag position facts e =
-    absurd (let other = (some_pair_parts Query (Fetch tag) a position e).0 in cc)
-reads_anew object from number since now (PreWriteAt a b) replies tag position facts e =
-    absurd (let other = (some_pair_parts (PreWrite b) (Fetch tag) a position e).0 in cc)
-reads_anew object from number since now (FinalizeAt a b) replies tag position facts e =
-    absurd (let other = (some_pair_parts (Finalize b) (Fetch tag) a position e).0 in cc)
-reads_anew object from number since now (AgainNext a b c) replies tag position facts e =
-    absurd (let other = (some_pair_parts Next (Fetch tag) b position e).0 in cc)
-reads_anew object from number since now (AgainSpread a b c d) replies tag position facts e =
-    absurd (let other = (some_pair_parts (Spread d) (Fetch tag) b position e).0 in cc)
-reads_anew object from number since now (MoveSpread a) replies tag position facts e =
-    absurd (let other = (some_pair_parts (Spread Pending) (Fetch tag) a position e).0 in cc)
-reads_anew object from number since now (MoveQuery a) replies tag position facts e =
-    absurd (let other = (some_pair_parts Query (Fetch tag) a position e).0 in cc)
-reads_anew object from number since now (MovePreWrite a b) replies tag position facts e =
-    absurd (let other = (some_pair_parts (PreWrite b) (Fetch tag) (suc a) position e).0 in cc)
-reads_anew object from number since now (MoveFinalize a b) replies tag position facts e =
-    absurd (let other = (some_pair_parts (Finalize b) (Fetch tag) (suc a) position e).0 in cc)
-reads_anew object from number since now (MoveFinal a b) replies tag position facts e =
-    absurd (let other = (some_pair_parts (Spread Final) (Fetch tag) a position e).0 in cc)
-reads_anew object from number since now (Ended a b) replies tag position facts e = absurd (cc)
-reads_anew object from number since now (Moved a b) replies tag position facts e = absurd (cc)
+reads_anew object from number since now stage replies tag position facts e = grind arith
 
 module _ (object : Object) (base : ℕ → ℕ) (rests : Rests object base) (from number : ℕ)
     (lawful : AllByRecursion IsLawful object.layouts) (phase : Phase) (tag : Tag) (fetch : phase.kind ≡ Fetch tag) where
@@ -94,7 +61,6 @@ module _ (object : Object) (base : ℕ → ℕ) (rests : Rests object base) (fro
       BeginAtBase base Read number stage phases →
       AllByRecursion (IsTruePhase object) phases → since ≤ now → StartsFrom now phases → Facts object Read from number since now stage →
       (place : ℕ) → slice_get phases place ≡ Some phase → AtFetch (last_beginning since phases place)
-  at_fetch [] since now stage course begins truth order starts facts place at = absurd (cc)
   at_fetch (first ∷ phases) since now stage course begins truth order starts facts zero at =
       subst (λ p. AtPhase object Read from number since p) (same_Some first phase at)
       (record {
@@ -105,7 +71,6 @@ module _ (object : Object) (base : ℕ → ℕ) (rests : Rests object base) (fro
         is_due = course.0;
         facts = first_at object base Read from number since now stage first phases rests begins starts facts;
       })
-  at_fetch (first ∷ []) since now stage course begins truth order starts facts (suc place) at = absurd (cc)
   at_fetch (first ∷ next ∷ later) since now stage course begins truth order starts facts (suc place) at =
       by_kind (is_fetch first.kind) refl (lacks_pieces first) refl
       (λ since now stage course begins order starts facts.
@@ -155,6 +120,7 @@ module _ (object : Object) (base : ℕ → ℕ) (rests : Rests object base) (fro
           absurd (none_late Read number (next ∷ later) (stage_past Read number stage first) found.0
           (subst (λ o. IsLateWith found.0 (passed Read number stage' o first.replies (lacks_pieces first))) (sym ended) late)
           course.2 place phase tag at fetch)
+  at_fetch _ since now stage course begins truth order starts facts _ at = absurd (cc)
 
 -- the tag that a read fetches is the greatest that its queries found since it last began
 pub fetched_since : (object : Object) → IsLegal object → (index place : ℕ) (call : Call) (phase : Phase) (tag : Tag) →

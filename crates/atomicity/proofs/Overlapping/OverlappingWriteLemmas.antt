@@ -1,6 +1,6 @@
 -- A read's complete fetch that lacks pieces has enough writes beside it.
-use Rattle.std.proofs.Common.{nat_eq, ◌≡◌, ℕ, suc, ◌+◌, ◌<◌, ◌≤◌, ◌⊎◌, ◌&&◌, ◌||◌, Bool, true, false, List, [], ◌∷◌}
-use Rattle.std.proofs.Common.{length, get_or, Option, Some, None, refl, sym, subst, ap, ◌∙◌, inl, inr, arith, leb-true}
+use Rattle.std.proofs.Common.{nat_eq, ◌≡◌, ℕ, suc, ◌+◌, ◌<◌, ◌≤◌, ◌⊎◌, ◌&&◌, Bool, true, false, List, [], ◌∷◌}
+use Rattle.std.proofs.Common.{length, get_or, Option, Some, refl, sym, subst, ap, ◌∙◌, inl, inr, arith}
 use Rattle.std.proofs.lemmas.Bool.{and_parts, cases_lt}
 use Rattle.std.proofs.lemmas.Option.{same_Some}
 use Rattle.std.specs.FinMap as map
@@ -145,18 +145,10 @@ module _ (fragment : Code) (object : Object) (last : ℕ) (sound : IsSound fragm
 -- what was dropped by a step was exceeded by it, or the bank was retired
 exceeded : (bank : Bank) (tag : Tag) (step : ℕ) → is_dropped_at bank tag step ≡ true →
     (came_by bank.retired step ≡ true) ⊎ (exceeds bank.delta (finals_above_at bank tag step) ≡ true)
-exceeded bank tag step dropped =
-    go (came_by bank.retired step) (came_by (finalized_at bank tag) step)
-    (exceeds bank.delta (finals_above_at bank tag step)) dropped
-  where
-    go : (r f e : Bool) → (r || (f && e)) ≡ true → (r ≡ true) ⊎ (e ≡ true)
-    go true f e h = inl refl
-    go false true e h = inr h
-    go false false e h = absurd (cc)
+exceeded bank tag step dropped = grind arith
 
 exceeds_some : (delta : Option ℕ) (n : ℕ) → exceeds delta n ≡ true → (d : ℕ) × (delta ≡ Some d) × (d + 1 ≤ n)
-exceeds_some None n e = absurd (cc)
-exceeds_some (Some d) n e = (d, refl, leb-true (d + 1) n e)
+exceeds_some delta n e = grind arith
 
 pub lacking_overlapped : (fragment : Code) (object : Object) (last : ℕ) → IsSound fragment object last → (index place end : ℕ)
     (call : Call) (phase : Phase) (tag : Tag) → IsLackingFetch object index place call phase tag end →

@@ -1,6 +1,5 @@
 -- The tags of answered calls stand in the order of the calls.
-use Rattle.std.proofs.Common.{◌≡◌, ℕ, ◌≤◌, false, List, Some, None, refl, sym, subst, ap, arith, slice_get}
-use Rattle.std.proofs.lemmas.Option.{same_Some}
+use Rattle.std.proofs.Common.{◌≡◌, ℕ, ◌≤◌, false, List, Some, None, sym, subst, arith, slice_get}
 use Rattle.tag.specs.declared.tag.Tag.{Tag}
 use Rattle.tag.specs.Tag.{IsBelow}
 use Rattle.record.specs.declared.call.CallKind.{CallKind}
@@ -8,9 +7,6 @@ use Rattle.record.specs.Records.{Call, Object}
 use Rattle.record.specs.declared.call.CallKind.TheVariants.{Read, Write, Move}
 use Rattle.record.specs.declared.stage.Stage.{Stage}
 use Rattle.record.specs.PhaseOrder.{due}
-use Rattle.record.specs.declared.stage.Stage.TheVariants.{ReadBegin, ReadNext, ReadSpread, QueryFrom, FetchAt, PreWriteAt}
-use Rattle.record.specs.declared.stage.Stage.TheVariants.{FinalizeAt, AgainNext, AgainSpread, MoveSpread, MoveQuery}
-use Rattle.record.specs.declared.stage.Stage.TheVariants.{MoveFetch, MovePreWrite, MoveFinalize, MoveFinal, Ended, Moved}
 use Rattle.record.specs.Legal.{is_move, source_of, stage_of, IsLegal}
 use Rattle.record.specs.Journals.{stage_tag}
 use Rattle.atomicity.proofs.Stages.CallFactLemmas.{call_at_end}
@@ -22,29 +18,7 @@ use Rattle.record.proofs.TagOrderLemmas.{below-next_tag, IsAtMost}
 pub tag_facts : (object : Object) (kind : CallKind) (from number called now : ℕ) (stage : Stage) (tag : Tag) →
     stage_tag stage ≡ Some tag → is_move kind ≡ false → Facts object kind from number called now stage →
     HasTag object kind number called tag
-tag_facts object kind from number called now (FetchAt a b t) tag e reads facts =
-    subst (λ u. HasTag object kind number called u) (same_Some t tag e) facts.1
-tag_facts object kind from number called now (PreWriteAt a t) tag e reads facts =
-    subst (λ u. HasTag object kind number called u) (same_Some t tag e) facts.1
-tag_facts object kind from number called now (FinalizeAt a t) tag e reads facts =
-    subst (λ u. HasTag object kind number called u) (same_Some t tag e) facts.1
-tag_facts object kind from number called now (AgainNext a b t) tag e reads facts =
-    subst (λ u. HasTag object kind number called u) (same_Some t tag e) facts.1
-tag_facts object kind from number called now (AgainSpread a b t c) tag e reads facts =
-    subst (λ u. HasTag object kind number called u) (same_Some t tag e) facts.1
-tag_facts object kind from number called now (Ended a t) tag e reads facts =
-    subst (λ u. HasTag object kind number called u) (same_Some t tag e) facts.1
-tag_facts object kind from number called now ReadBegin tag e reads facts = absurd (cc)
-tag_facts object kind from number called now (ReadNext a b) tag e reads facts = absurd (cc)
-tag_facts object kind from number called now (ReadSpread a b c) tag e reads facts = absurd (cc)
-tag_facts object kind from number called now (QueryFrom a b c d) tag e reads facts = absurd (cc)
-tag_facts object kind from number called now (MoveSpread a) tag e reads facts = absurd (cc)
-tag_facts object kind from number called now (MoveQuery a) tag e reads facts = absurd (cc)
-tag_facts object kind from number called now (MoveFetch a b) tag e reads facts = absurd (let m = ap is_move facts.0.0 in cc)
-tag_facts object kind from number called now (MovePreWrite a b) tag e reads facts = absurd (let m = ap is_move facts.0.0 in cc)
-tag_facts object kind from number called now (MoveFinalize a b) tag e reads facts = absurd (let m = ap is_move facts.0.0 in cc)
-tag_facts object kind from number called now (MoveFinal a b) tag e reads facts = absurd (let m = ap is_move facts.0.0 in cc)
-tag_facts object kind from number called now (Moved a b) tag e reads facts = absurd (let m = ap is_move facts.0.0 in cc)
+tag_facts object kind from number called now stage tag e reads facts = grind arith
 
 -- an answered read or write has put its tag
 pub record Finished (object : Object) (stage : Stage) (now : ℕ) : Type 0 where
@@ -56,24 +30,7 @@ pub record Finished (object : Object) (stage : Stage) (now : ℕ) : Type 0 where
 
 finished_facts : (object : Object) (kind : CallKind) (from number called now : ℕ) (stage : Stage) → due stage ≡ None →
     is_move kind ≡ false → Facts object kind from number called now stage → Finished object stage now
-finished_facts object kind from number called now (Ended a t) e reads facts =
-    record { last = a; tag = t; tagged = refl; reached = facts.0; put = facts.2 }
-finished_facts object kind from number called now (Moved a b) e reads facts = absurd (let m = ap is_move facts.0.0 in cc)
-finished_facts object kind from number called now ReadBegin e reads facts = absurd (cc)
-finished_facts object kind from number called now (ReadNext a b) e reads facts = absurd (cc)
-finished_facts object kind from number called now (ReadSpread a b c) e reads facts = absurd (cc)
-finished_facts object kind from number called now (QueryFrom a b c d) e reads facts = absurd (cc)
-finished_facts object kind from number called now (FetchAt a b c) e reads facts = absurd (cc)
-finished_facts object kind from number called now (PreWriteAt a b) e reads facts = absurd (cc)
-finished_facts object kind from number called now (FinalizeAt a b) e reads facts = absurd (cc)
-finished_facts object kind from number called now (AgainNext a b c) e reads facts = absurd (cc)
-finished_facts object kind from number called now (AgainSpread a b c d) e reads facts = absurd (cc)
-finished_facts object kind from number called now (MoveSpread a) e reads facts = absurd (cc)
-finished_facts object kind from number called now (MoveQuery a) e reads facts = absurd (cc)
-finished_facts object kind from number called now (MoveFetch a b) e reads facts = absurd (cc)
-finished_facts object kind from number called now (MovePreWrite a b) e reads facts = absurd (cc)
-finished_facts object kind from number called now (MoveFinalize a b) e reads facts = absurd (cc)
-finished_facts object kind from number called now (MoveFinal a b) e reads facts = absurd (cc)
+finished_facts object kind from number called now stage e reads facts = grind arith
 
 pub answered_facts : (object : Object) → IsLegal object → (index : ℕ) (call : Call) →
     slice_get object.calls index ≡ Some call → is_move call.kind ≡ false → (step : ℕ) → call.answered ≡ Some step →

@@ -1,18 +1,18 @@
 -- The items that stand: answered reads and writes, and writes that were read.
 use Rattle.std.proofs.Common.{◌≡◌, ℕ, zero, suc, ◌+◌, ◌<◌, List, [], ◌∷◌, Option}
-use Rattle.std.proofs.Common.{Some, None, refl, sym, subst, ◌∙◌, inl, inr, ap₂, arith, slice_get}
+use Rattle.std.proofs.Common.{Some, None, refl, sym, subst, ◌∙◌, inl, ap₂, arith, slice_get}
 use Rattle.std.proofs.lemmas.Option.{same_Some}
 use Rattle.std.specs.List.{AllByRecursion}
 use Rattle.tag.specs.declared.tag.Tag.{Tag}
 use Rattle.record.specs.declared.call.CallKind.{CallKind}
 use Rattle.record.specs.Records.{Call, Object}
-use Rattle.record.specs.declared.call.CallKind.TheVariants.{Read, Write, Move}
+use Rattle.record.specs.declared.call.CallKind.TheVariants.{Read, Write}
 use Rattle.record.specs.Legal.{IsLegal}
 use Rattle.record.specs.declared.call.Entry.{Entry}
 use Rattle.record.specs.Journals.{tag_of, entry_of}
 use Rattle.atomicity.proofs.Orders.ItemSortLemmas.{Differ, sort, all_sort, some_sort, ordered_sort}
 use Rattle.atomicity.proofs.Orders.OrderedItemLemmas.{Item, IsOrdered, AllPairs, Some_of}
-use Rattle.atomicity.proofs.Sequences.ObjectItemLemmas.{Does, IsItem}
+use Rattle.atomicity.proofs.Sequences.ObjectItemLemmas.{IsItem}
 use Rattle.soundness.proofs.ListLemmas.{all_weaker}
 
 -- the items of the calls
@@ -35,35 +35,9 @@ abbrev pub items : Object → ℕ → List Call → List Item
 items object index [] = []
 items object index (call ∷ calls) = with (item_of object index call) (items object (suc index) calls)
 
--- what an item says of the call that it was made of
-abbrev IsChosen : (number called : ℕ) → Entry → CallKind → Option ℕ → Option (List ℕ) → Option Tag → Item → Type 0
-IsChosen number called entry kind answered settled tag x =
-    (x.number ≡ number) × (tag ≡ Some x.tag) × (x.called ≡ called) × (x.entry ≡ entry) ×
-    Does x kind answered settled
-
-chosen : (number called : ℕ) (entry : Entry) (kind : CallKind) (answered : Option ℕ) (settled : Option
-    (List ℕ)) (tag : Option Tag) (x : Item) → choose number called entry kind answered settled tag ≡ Some x →
-    IsChosen number called entry kind answered settled tag x
-chosen number called entry Read (Some step) (Some value) (Some tag) x e =
-    subst (λ y. IsChosen number called entry Read (Some step) (Some value) (Some tag) y)
-    (same_Some (record { number = number; tag = tag; reads = 1; called = called; value = value; entry = entry }) x e)
-    (refl, refl, refl, refl, inr (refl, refl, step, refl, refl))
-chosen number called entry (Write value) answered settled (Some tag) x e =
-    subst (λ y. IsChosen number called entry (Write value) answered settled (Some tag) y)
-    (same_Some (record { number = number; tag = tag; reads = 0; called = called; value = value; entry = entry }) x e)
-    (refl, refl, refl, refl, inl (refl, refl))
-chosen number called entry Read None settled tag x e = absurd (cc)
-chosen number called entry Read (Some step) None tag x e = absurd (cc)
-chosen number called entry Read (Some step) (Some value) None x e = absurd (cc)
-chosen number called entry (Write value) answered settled None x e = absurd (cc)
-chosen number called entry Move answered settled tag x e = absurd (cc)
-
 item_is : (object : Object) (index : ℕ) (call : Call) (x : Item) → slice_get object.calls index ≡ Some call →
     item_of object index call ≡ Some x → IsItem object x
-item_is object index call x at e =
-    let c = chosen (suc index) call.called (entry_of call.id call) call.kind call.answered call.settled
-    (tag_of object index call) x e in
-    record { index = index; call = call; at = at; number = c.0; tagged = c.1; called = c.2; entry = c.3; what = c.4 }
+item_is object index call x at e = grind arith
 
 -- calls from `index` on
 abbrev AreFrom : Object → ℕ → List Call → Type 0
@@ -105,9 +79,7 @@ items_are object index (call ∷ calls) from =
 
 later_called : (object : Object) → IsLegal object → (x y : Item) → IsItem object x → IsItem object y →
     x.number < y.number → Differ x y
-later_called object legal x y ix iy less same =
-    let order = legal.in_turn ix.index iy.index ix.call iy.call ix.at iy.at (let a = ix.number in let b = iy.number in omega arith) in
-    absurd (let a = ix.called in let b = iy.called in omega arith)
+later_called object legal x y ix iy less same = grind arith
 
 items_differ : (object : Object) → IsLegal object → (index : ℕ) (calls : List Call) → AreFrom object index calls →
     AllPairs Differ (items object index calls)
@@ -130,8 +102,7 @@ items_differ object legal index (call ∷ calls) from =
         )
 
 some_with : (P : Item → Type 0) (o : Option Item) (xs : List Item) → Some_of P xs → Some_of P (with o xs)
-some_with P None xs some = some
-some_with P (Some x) xs some = inr some
+some_with P o xs some = grind arith
 
 items_have : (object : Object) (P : Item → Type 0) (index : ℕ) (calls : List Call) (j : ℕ) (call : Call) (x : Item) →
     slice_get calls j ≡ Some call → item_of object (index + j) call ≡ Some x → P x → Some_of P (items object index calls)
@@ -153,10 +124,7 @@ all_from : (object : Object) → AreFrom object 0 object.calls
 all_from object j call e = let same : j ≡ 0 + j = omega arith in subst (λ k. slice_get object.calls k ≡ Some call) same e
 
 pub sequence_items : (object : Object) → AllByRecursion (IsItem object) (sequence object)
-sequence_items object =
-    all_sort (IsItem object) (items object 0 object.calls)
-    (all_weaker (IsItemFrom object 0) (IsItem object) (λ x p. p.0) (items object 0 object.calls)
-    (items_are object 0 object.calls (all_from object)))
+sequence_items object = grind (arith, all_from, all_sort, all_weaker, items, items_are)
 
 pub sequence_ordered : (object : Object) → IsLegal object → IsOrdered (sequence object)
 sequence_ordered object legal = ordered_sort (items object 0 object.calls) (items_differ object legal 0 object.calls (all_from object))

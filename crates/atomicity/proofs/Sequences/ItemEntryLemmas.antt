@@ -1,6 +1,6 @@
 -- The items and the entries of the calls.
 use Rattle.std.proofs.Common.{◌≡◌, ℕ, suc, ◌≤◌, ◌≢◌, false, List, [], ◌∷◌, map}
-use Rattle.std.proofs.Common.{Option, Some, None, IsSome, is_some, refl, sym, ap, ◌∙◌, inl, inr, ap₂, arith, slice_get}
+use Rattle.std.proofs.Common.{Option, Some, IsSome, refl, sym, ap, ◌∙◌, ap₂, arith, slice_get}
 use Rattle.std.proofs.lemmas.Option.{get_or_from_slice_get, slice_get-map, unwrap_or-slice_get}
 use Rattle.std.specs.List.{AllByRecursion}
 use Rattle.std.specs.Prelude.{option_map, unwrap_or}
@@ -17,7 +17,7 @@ use Rattle.atomicity.proofs.Orders.ItemSortLemmas.{numbers, answered_in_order}
 use Rattle.atomicity.proofs.Orders.OrderedItemLemmas.{Item, Before}
 use Rattle.atomicity.proofs.Sequences.AnsweredTagLemmas.{answered_facts}
 use Rattle.atomicity.proofs.Sequences.ItemChoiceLemmas.{choose, item_of}
-use Rattle.atomicity.proofs.Sequences.ObjectItemLemmas.{Does, IsItem, reads_or_writes, no_move, items_respect}
+use Rattle.atomicity.proofs.Sequences.ObjectItemLemmas.{IsItem, reads_or_writes, no_move, items_respect}
 
 -- the entry of each call stands at the call's place
 pub entries-get : (object : Object) (index : ℕ) →
@@ -37,19 +37,7 @@ same_entries entries [] all = refl
 same_entries entries (x ∷ xs) all = ap₂ (λ e es. e ∷ es) all.0 (same_entries entries xs all.1)
 
 pub may_stand : (object : Object) (x : Item) → IsItem object x → MayStand x.entry
-may_stand object x ix = go ix.what
-  where
-    kind_is : x.entry.kind ≡ operation_of ix.call.kind
-    kind_is = ap (λ (e : Entry). e.kind) ix.entry
-
-    go : Does x ix.call.kind ix.call.answered ix.call.settled →
-        MayStand x.entry
-    go (inl w) =
-        let k : x.entry.kind ≡ operation.Write = kind_is ∙ ap operation_of w.1 in
-        ((λ e. cc), (λ e. absurd (cc)))
-    go (inr r) =
-        let k : x.entry.kind ≡ operation.Read = kind_is ∙ ap operation_of r.1 in
-        ((λ e. cc), (λ e. ap (λ (y : Entry). is_some y.answered) ix.entry ∙ ap is_some r.3))
+may_stand object x ix = grind arith
 
 answers_later : (object : Object) → IsLegal object → (y : Item) → IsItem object y → (step : ℕ) →
     y.entry.answered ≡ Some step → y.called ≤ step
@@ -69,8 +57,7 @@ in_order object legal x y ix iy before =
 
 -- an answered read or write has an item
 pub some_step : (o : Option ℕ) → IsSome o → (step : ℕ) × (o ≡ Some step)
-some_step None h = absurd (cc)
-some_step (Some step) h = (step, refl)
+some_step o h = grind arith
 
 choose_read : (number called : ℕ) (entry : Entry) (kind : CallKind) (answered : Option ℕ) (settled : Option
     (List ℕ)) (tag : Option Tag) (step : ℕ) (value : List ℕ) (t : Tag) → kind ≡ Read → answered ≡ Some step →
@@ -111,6 +98,4 @@ entry_of_call object index o e =
     (entries-get object index ∙ ap (λ q. option_map (λ (c : Call). entry_of c.id c) q) e)
 
 pub stays : (kind : CallKind) → operation_of kind ≢ operation.Move → is_move kind ≡ false
-stays Read stands = refl
-stays (Write value) stands = refl
-stays Move stands = absurd (stands refl)
+stays kind stands = grind arith

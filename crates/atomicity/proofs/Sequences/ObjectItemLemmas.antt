@@ -1,6 +1,6 @@
 -- The items of an object: its calls that stand in a sequence.
 use Rattle.std.proofs.Common.{◌≡◌, ℕ, suc, ◌+◌, ◌⊎◌, false, List, Option, Some}
-use Rattle.std.proofs.Common.{sym, subst, ap, ◌∙◌, inl, inr, ap₂, arith, slice_get}
+use Rattle.std.proofs.Common.{sym, subst, ap, ◌∙◌, inl, inr, arith, slice_get}
 use Rattle.std.proofs.lemmas.Option.{same_Some}
 use Rattle.tag.specs.declared.tag.Tag.{Tag}
 use Rattle.tag.specs.Tag.{opening_tag, IsBelow}
@@ -9,7 +9,7 @@ use Rattle.record.specs.Records.{Call, Object}
 use Rattle.record.specs.declared.call.CallKind.TheVariants.{Read, Write}
 use Rattle.record.specs.Legal.{is_move, source_of, stage_of, IsLegal}
 use Rattle.record.specs.declared.call.Entry.{Entry}
-use Rattle.record.specs.Journals.{tag_of, returned, operation_of, entry_value, entry_of}
+use Rattle.record.specs.Journals.{tag_of, entry_of}
 use Rattle.atomicity.proofs.Orders.ItemSortLemmas.{Respects}
 use Rattle.atomicity.proofs.Orders.OrderedItemLemmas.{Item, Before, IsKept, Apart}
 use Rattle.atomicity.proofs.Sequences.AnsweredTagLemmas.{tag_facts, answered_facts, tag_order}
@@ -34,38 +34,13 @@ pub record IsItem (object : Object) (x : Item) : Type 0 where
   pub what : Does x call.kind call.answered call.settled
 
 pub reads_or_writes : (object : Object) (x : Item) → IsItem object x → (x.reads ≡ 0) ⊎ (x.reads ≡ 1)
-reads_or_writes object x is = go is.what
-  where
-    go : Does x is.call.kind is.call.answered is.call.settled →
-        (x.reads ≡ 0) ⊎ (x.reads ≡ 1)
-    go (inl w) = inl w.0
-    go (inr r) = inr r.0
+reads_or_writes object x is = grind arith
 
 pub no_move : (object : Object) (x : Item) → (is : IsItem object x) → is_move is.call.kind ≡ false
-no_move object x is = go is.what
-  where
-    go : Does x is.call.kind is.call.answered is.call.settled →
-        is_move is.call.kind ≡ false
-    go (inl w) = ap is_move w.1
-    go (inr r) = ap is_move r.1
+no_move object x is = grind arith
 
 pub kept_item : (object : Object) (x : Item) → IsItem object x → IsKept x
-kept_item object x is = go is.what
-  where
-    kind_is : x.entry.kind ≡ operation_of is.call.kind
-    kind_is = ap (λ (e : Entry). e.kind) is.entry
-
-    value_is : x.entry.value ≡ entry_value is.call.kind is.call.answered is.call.settled
-    value_is = ap (λ (e : Entry). e.value) is.entry
-
-    go : Does x is.call.kind is.call.answered is.call.settled →
-        IsKept x
-    go (inl w) = inl (w.0, kind_is ∙ ap operation_of w.1, value_is ∙ ap (λ k. entry_value k is.call.answered is.call.settled) w.1)
-    go (inr r) = inr (
-      r.0,
-      kind_is ∙ ap operation_of r.1,
-      value_is ∙ ap (λ k. entry_value k is.call.answered is.call.settled) r.1 ∙ ap (λ a. returned a is.call.settled) r.3 ∙ r.4,
-    )
+kept_item object x is = grind arith
 
 -- x answered before y is called
 pub items_respect : (object : Object) → IsLegal object → (x y : Item) → IsItem object x → IsItem object y → Respects x y
@@ -93,29 +68,9 @@ pub same_call : (object : Object) (i j : ℕ) (a b : Call) → slice_get object.
     slice_get object.calls j ≡ Some b → i ≡ j → a ≡ b
 same_call object i j a b p q e = same_Some a b (sym p ∙ ap (λ k. slice_get object.calls k) e ∙ q)
 
-kind_clash : (object : Object) (x y : Item) (a b : Call) → a ≡ b →
-    Does x a.kind a.answered a.settled →
-    Does y b.kind b.answered b.settled →
-    x.reads ≡ y.reads
-kind_clash object x y a b e (inl w) (inl v) = w.0 ∙ sym v.0
-kind_clash object x y a b e (inl w) (inr r) = absurd (let k = sym w.1 ∙ ap (λ (c : Call). c.kind) e ∙ r.1 in cc)
-kind_clash object x y a b e (inr r) (inl w) = absurd (let k = sym r.1 ∙ ap (λ (c : Call). c.kind) e ∙ w.1 in cc)
-kind_clash object x y a b e (inr r) (inr s) = r.0 ∙ sym s.0
-
-not_before_itself : (x y : Item) → Before x y → x.tag ≡ y.tag → x.reads ≡ y.reads → x.called ≡ y.called → ⊥
-not_before_itself x y before tags reads called =
-    let n : x.tag.number ≡ y.tag.number = ap (λ (t : Tag). t.number) tags in
-    let c : x.tag.call ≡ y.tag.call = ap (λ (t : Tag). t.call) tags in
-    grind arith
-
 -- items in order have two numbers
 pub two_numbers : (object : Object) (x y : Item) → IsItem object x → IsItem object y → Before x y → x.number ≡ y.number → ⊥
-two_numbers object x y ix iy before e =
-    let place : ix.index ≡ iy.index = (let a = ix.number in let b = iy.number in omega arith) in
-    let one = same_call object ix.index iy.index ix.call iy.call ix.at iy.at place in
-    let tags : x.tag ≡ y.tag = same_Some x.tag y.tag (sym ix.tagged ∙ ap₂ (λ i c. tag_of object i c) place one ∙ iy.tagged) in
-    not_before_itself x y before tags (kind_clash object x y ix.call iy.call one ix.what iy.what)
-    (ix.called ∙ ap (λ (c : Call). c.called) one ∙ sym iy.called)
+two_numbers object x y ix iy before e = grind arith
 
 -- a write's tag has its call's id, and is above the opening tag
 pub write_tag : (object : Object) → IsLegal object → (x : Item) → (ix : IsItem object x) → x.reads ≡ 0 →

@@ -39,8 +39,7 @@ record Fits (x : Item) (call : TaggedCall) (tag : Tag) : Type 0 where
 
 reads_as : (x : Item) (kind : CallKind) (answered : Option ℕ) (settled : Option (List ℕ)) → Does x kind answered settled →
     ReadsAs (operation_of kind) x.reads
-reads_as x kind answered settled (inl w) = inl (ap operation_of w.1, w.0)
-reads_as x kind answered settled (inr r) = inr (ap operation_of r.1, r.0)
+reads_as x kind answered settled known = grind arith
 
 fits_item : (object : Object) (x : Item) → IsItem object x → (call : TaggedCall) (tag : Tag) →
     IsTagged (tagged_calls object) x.number call tag → Fits x call tag
@@ -60,15 +59,7 @@ fits_item object x ix call tag tagged =
 within : (p q : Operation) (rx ry cx cy a b : ℕ) → cx ≡ a → cy ≡ b →
     ((p ≡ operation.Write) × (q ≡ operation.Read)) ⊎ ((p ≡ q) × (a < b)) → ReadsAs p rx → ReadsAs q ry →
     (rx < ry) ⊎ ((rx ≡ ry) × (cx < cy))
-within p q rx ry cx cy a b ea eb w (inl x) (inl y) = inr (x.1 ∙ sym y.1, less w)
-  where
-    less : ((p ≡ operation.Write) × (q ≡ operation.Read)) ⊎ ((p ≡ q) × (a < b)) → cx < cy
-    less (inl apart) = absurd (let clash = sym apart.1 ∙ y.0 in cc)
-    less (inr same) = let l = same.1 in omega arith
-within p q rx ry cx cy a b ea eb w (inl x) (inr y) = inl (let r = x.1 in let s = y.1 in omega arith)
-within p q rx ry cx cy a b ea eb (inl apart) (inr x) y = absurd (let clash = sym apart.0 ∙ x.0 in cc)
-within p q rx ry cx cy a b ea eb (inr same) (inr x) (inl y) = absurd (let clash = sym y.0 ∙ sym same.0 ∙ x.0 in cc)
-within p q rx ry cx cy a b ea eb (inr same) (inr x) (inr y) = inr (x.1 ∙ sym y.1, let l = same.1 in omega arith)
+within p q rx ry cx cy a b ea eb w known given = grind arith
 
 precedes_before : (object : Object) (x y : Item) → IsItem object x → IsItem object y →
     Precedes (tagged_calls object) x.number y.number → Before x y
@@ -159,15 +150,7 @@ write_listed object r ir reads w = go ir.what
 -- the item of that write is the write that the read returned
 item_wrote : (object : Object) (r : Item) (w : IsWritten object r.tag r.value) (x : Item) → IsItem object x →
     x.number ≡ suc w.index → Wrote r x
-item_wrote object r w x ix e =
-    let place : ix.index ≡ w.index = (let a = ix.number in omega arith) in
-    let one = same_call object ix.index w.index ix.call w.call ix.at w.at place in
-    let tags : x.tag ≡ r.tag = same_Some x.tag r.tag (sym ix.tagged ∙ ap₂ (λ i c. tag_of object i c) place one ∙ w.tagged) in
-    go (ap (λ (c : Call). c.kind) one ∙ w.kind) tags ix.what
-  where
-    go : ix.call.kind ≡ Write r.value → x.tag ≡ r.tag → Does x ix.call.kind ix.call.answered ix.call.settled → Wrote r x
-    go kind tags (inl writes) = (writes.0, tags, let same = sym writes.1 ∙ kind in cc)
-    go kind tags (inr read) = absurd (let clash = sym read.1 ∙ kind in cc)
+item_wrote object r w x ix e = grind arith
 
 -- the list that the tags give is a sequence of the entries
 pub sequence_of_tags : (object : Object) → IsLegal object → ReadsJournaled object → (order : List ℕ) →

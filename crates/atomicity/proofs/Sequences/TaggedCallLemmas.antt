@@ -1,11 +1,11 @@
 -- The calls of an object, and what the order of the tags needs of them.
 use Rattle.std.proofs.Common.{◌≡◌, ◌≢◌, ℕ, zero, suc, ◌+◌, false, List, [], ◌∷◌}
-use Rattle.std.proofs.Common.{Option, Some, None, slice_get, refl, sym, ap, ◌∙◌, arith}
+use Rattle.std.proofs.Common.{Some, slice_get, refl, ap, ◌∙◌, arith}
 use Rattle.std.specs.Prelude.{option_map}
 use Rattle.std.proofs.lemmas.Option.{same_Some}
 use Rattle.tag.specs.declared.tag.Tag.{Tag}
 use Rattle.record.specs.declared.call.CallKind.{CallKind}
-use Rattle.record.specs.declared.call.CallKind.TheVariants.{Read, Write, Move}
+use Rattle.record.specs.declared.call.CallKind.TheVariants.{Move}
 use Rattle.record.specs.declared.call.TaggedCall.{TaggedCall}
 use Rattle.record.specs.Records.{Call, Object}
 use Rattle.record.specs.Legal.{is_move}
@@ -27,10 +27,7 @@ tagged_from-get object first (call ∷ calls) (suc index) =
 -- each call of the object stands at its place
 pub tagged_calls-get : (object : Object) (index : ℕ) →
     slice_get (tagged_calls object) index ≡ option_map (λ call. tagged_call object index call) (slice_get object.calls index)
-tagged_calls-get object index =
-    let same : 0 + index ≡ index = omega arith in
-    tagged_from-get object 0 object.calls index
-    ∙ ap (λ i. option_map (λ call. tagged_call object i call) (slice_get object.calls index)) same
+tagged_calls-get object index = grind (arith, tagged_from-get)
 
 -- a tagged call is a call of the object
 pub record Found (object : Object) (number : ℕ) (x : TaggedCall) (tag : Tag) : Type 0 where
@@ -43,21 +40,7 @@ pub record Found (object : Object) (number : ℕ) (x : TaggedCall) (tag : Tag) :
 
 pub found : (object : Object) (number : ℕ) (x : TaggedCall) (tag : Tag) → IsTagged (tagged_calls object) number x tag →
     Found object number x tag
-found object number x tag t = go (slice_get object.calls t.index) refl (sym (tagged_calls-get object t.index) ∙ t.at)
-  where
-    go : (o : Option Call) → slice_get object.calls t.index ≡ o →
-        option_map (λ call. tagged_call object t.index call) o ≡ Some x → Found object number x tag
-    go None e made = absurd (cc)
-    go (Some call) e made =
-        let same = same_Some (tagged_call object t.index call) x made in
-        record {
-          index = t.index;
-          call = call;
-          at = e;
-          same = same;
-          numbered = t.numbered ∙ ap (λ (c : TaggedCall). c.call) (sym same);
-          tagged = ap (λ (c : TaggedCall). c.tag) same ∙ t.tagged;
-        }
+found object number x tag t = grind (arith, same_Some, tagged_calls-get)
 
 -- a read or a write of the object that has its tag is a tagged call
 pub tagged_of : (object : Object) (index : ℕ) (call : Call) (tag : Tag) → slice_get object.calls index ≡ Some call →
@@ -72,6 +55,4 @@ tagged_of object index call tag at stands tagged = record {
 }
 
 pub moves_not : (kind : CallKind) → is_move kind ≡ false → operation_of kind ≢ operation.Move
-moves_not Read h e = absurd (cc)
-moves_not (Write value) h e = absurd (cc)
-moves_not Move h e = absurd (cc)
+moves_not kind h e = grind arith

@@ -1,20 +1,19 @@
 -- What is so of a call at each of its phases, and at its end.
 use Rattle.std.proofs.Common.{◌≡◌, ℕ, zero, suc, ◌<◌, ◌≤◌, List, [], ◌∷◌, Option, Some}
-use Rattle.std.proofs.Common.{None, refl, sym, subst, ◌∙◌, inl, inr, arith, le_refl, le_trans, le_of_lt, slice_get}
+use Rattle.std.proofs.Common.{None, refl, sym, subst, ◌∙◌, arith, le_refl, le_trans, le_of_lt, slice_get}
 use Rattle.std.proofs.lemmas.Option.{same_Some}
 use Rattle.std.specs.List.{AllByRecursion}
 use Rattle.layout.specs.Layout.{IsLawful}
 use Rattle.phase.specs.Phase.{Phase, lacks_pieces}
 use Rattle.record.specs.declared.call.CallKind.{CallKind}
 use Rattle.record.specs.Records.{Call, Object, retired_at, base_at}
-use Rattle.record.specs.declared.call.CallKind.TheVariants.{Read, Write, Move}
 use Rattle.record.specs.Knowledge.{IsTruePhase}
 use Rattle.record.specs.declared.stage.Stage.{Stage}
 use Rattle.record.specs.declared.stage.Stage.TheVariants.{ReadBegin}
 use Rattle.record.specs.PhaseOrder.{begun_at, due, passed, stage_past, stage_after, IsCourse, BeginAtBase, EndsBefore}
 use Rattle.record.specs.Legal.{first_stage, source_of, stage_of, BeginsAt, IsLegal}
 use Rattle.atomicity.proofs.Stages.PhaseFactLemmas.{facts_after}
-use Rattle.atomicity.proofs.Stages.StageFactLemmas.{done_of, Facts, facts_later, IsLeft, IsBased}
+use Rattle.atomicity.proofs.Stages.StageFactLemmas.{done_of, Facts, facts_later, IsLeft}
 use Rattle.soundness.proofs.BaseLemmas.{below_base, came_at}
 use Rattle.record.proofs.BegunStageLemmas.{begun_has}
 use Rattle.soundness.proofs.PhaseStartLemmas.{StartsFrom}
@@ -40,25 +39,12 @@ Rests object base = (step : ℕ) → LeftBefore object (base step) step
 pub begun_facts : (object : Object) (kind : CallKind) (from number called now : ℕ) (stage : Stage) (position start : ℕ) →
     now ≤ start → (stage ≡ ReadBegin → LeftBefore object position start) → Facts object kind from number called now stage →
     Facts object kind from number called start (begun_at stage position)
-begun_facts object kind from number called now stage position start before left facts =
-    begun_has (λ s. Facts object kind from number called start s) stage position
-    (λ first. (
-      (λ j below. inr (left first j below)),
-      le_refl position,
-      based position (left first),
-      subst (λ s. Facts object kind from number called now s) first facts,
-    ))
-    (facts_later object kind from number called now start stage before facts)
-  where
-    based : (p : ℕ) → LeftBefore object p start → IsBased object p start
-    based zero all = inl refl
-    based (suc q) all = inr (q, refl, inr (all q (omega arith)))
+begun_facts object kind from number called now stage position start before left facts = grind (arith, begun_has, facts_later, le_refl)
 
 -- a phase that begins a first reading begins it where the positions before were left
 begun_left : (object : Object) (base : ℕ → ℕ) → Rests object base → (stage : Stage) (phase : Phase) →
     (stage ≡ ReadBegin → phase.position ≡ base phase.start) → stage ≡ ReadBegin → LeftBefore object phase.position phase.start
-begun_left object base rests stage phase at first =
-    subst (λ p. LeftBefore object p phase.start) (sym (at first)) (rests phase.start)
+begun_left object base rests stage phase at first = grind arith
 
 -- one complete phase
 pub one_phase : (object : Object) (kind : CallKind) (from number called now end : ℕ) (stage : Stage) (phase : Phase) →
@@ -165,13 +151,10 @@ at_end object base kind from number called lawful rests (first ∷ next ∷ late
 
 pub first_facts : (object : Object) (kind : CallKind) (from number called : ℕ) →
     Facts object kind from number called called (first_stage kind from)
-first_facts object Read from number called = refl
-first_facts object (Write value) from number called = refl
-first_facts object Move from number called = (refl, refl)
+first_facts object kind from number called = grind arith
 
 pub starts_from : (phases : List Phase) (called : ℕ) → BeginsAt phases called → StartsFrom called phases
-starts_from [] called begins = tt
-starts_from (phase ∷ phases) called begins = omega (arith, begins)
+starts_from phases called begins = grind arith
 
 -- of a legal record: the positions before the base of a step were left by then
 pub legal_rests : (object : Object) → IsLegal object → Rests object (base_at object)
@@ -198,10 +181,4 @@ call_at_phase object legal index call at place phase within =
 
 pub call_at_end : (object : Object) → IsLegal object → (index : ℕ) (call : Call) → slice_get object.calls index ≡ Some call →
     AtEnd object call.kind (source_of object index) call.id call.called (stage_of object index call) call.phases
-call_at_end object legal index call at =
-    let c = legal.calls index call at in
-    at_end object (base_at object) call.kind (source_of object index) call.id call.called legal.layouts
-    (legal_rests object legal) call.phases call.called
-    (first_stage call.kind (source_of object index))
-    c.course c.from_base c.phases (le_refl call.called) (starts_from call.phases call.called c.begins)
-    (first_facts object call.kind (source_of object index) call.id call.called)
+call_at_end object legal index call at = grind (arith, at_end, first_facts, le_refl, legal_rests, starts_from)

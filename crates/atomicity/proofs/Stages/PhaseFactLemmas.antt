@@ -9,7 +9,6 @@ use Rattle.phase.specs.declared.phase.Taken.{Taken}
 use Rattle.record.specs.declared.call.CallKind.{CallKind}
 use Rattle.record.specs.Records.{Object}
 use Rattle.record.specs.Legal.{is_move}
-use Rattle.record.specs.declared.call.CallKind.TheVariants.{Read, Write, Move}
 use Rattle.bank.specs.declared.status.Status.TheVariants.{Unset, Pending, Final}
 use Rattle.bank.specs.declared.kind.Kind.TheVariants.{Next, Fetch}
 use Rattle.record.specs.PhaseOrder.{greatest_status, due, after, after_fetch, after_again}
@@ -71,9 +70,7 @@ again_facts object kind from number called now last p tag start end replies Fina
 -- a call with such a tag is no move
 no_move : (object : Object) (kind : CallKind) (number called : ℕ) (tag : Tag) → HasTag object kind number called tag →
     is_move kind ≡ false
-no_move object Read number called tag has = refl
-no_move object (Write value) number called tag has = refl
-no_move object Move number called tag has = absurd has
+no_move object kind number called tag has = grind arith
 
 -- a complete phase that was due leads from facts to facts
 pub facts_after : (object : Object) (kind : CallKind) (from number called now : ℕ) (stage : Stage) (asked : Kind) (position start

@@ -1,8 +1,7 @@
 -- Readings and queries keep what is so of a call.
 use Rattle.std.proofs.Common.{◌≡◌, ℕ, suc, ◌<◌, ◌≤◌, ◌⊎◌, false, cond, eqb, List, Option}
-use Rattle.std.proofs.Common.{Some, refl, sym, subst, subst₂, inl, inr, arith, le_trans, le_refl, eqb-true}
+use Rattle.std.proofs.Common.{Some, refl, subst, inl, inr, arith, le_trans, le_refl, eqb-true}
 use Rattle.std.proofs.lemmas.Bool.{cond_both, eqb-false, cases_lt}
-use Rattle.std.proofs.lemmas.Option.{some_pair_parts}
 use Rattle.tag.specs.declared.tag.Tag.{Tag}
 use Rattle.tag.specs.Tag.{tag_lt, later_tag}
 use Rattle.bank.specs.declared.status.Status.{Status}
@@ -12,7 +11,6 @@ use Rattle.record.specs.declared.call.CallKind.{CallKind}
 use Rattle.record.specs.Records.{Object}
 use Rattle.bank.specs.declared.status.Status.TheVariants.{Unset, Pending, Final}
 use Rattle.bank.specs.declared.kind.Kind.TheVariants.{Next, Spread, Query}
-use Rattle.record.specs.declared.call.CallKind.TheVariants.{Read, Write, Move}
 use Rattle.record.specs.PhaseOrder.{greatest_status, greatest_tag, after_next, after_spread, after_query, tagged}
 use Rattle.record.specs.Legal.{is_move}
 use Rattle.record.specs.declared.stage.Stage.TheVariants.{ReadNext, ReadSpread, QueryFrom}
@@ -23,9 +21,7 @@ use Rattle.record.proofs.TagOrderLemmas.{IsAtMost, at_most_trans, later_tag-left
 pub done_at : (object : Object) (k kind : Kind) (p position start end : ℕ) (replies : List Taken) →
     Done object kind position start end replies → ◌≡◌ {A = Option (Kind × ℕ)} (Some (k, p)) (Some (kind, position)) →
     Done object k p start end replies
-done_at object k kind p position start end replies done e =
-    let parts = some_pair_parts k kind p position e in
-    subst₂ (λ kind position. Done object kind position start end replies) (sym parts.0) (sym parts.1) done
+done_at object k kind p position start end replies done e = grind arith
 
 pub next_facts :
     (object : Object) (kind : CallKind) (from number called now p m start end : ℕ) (replies : List Taken) (status : Status) →
@@ -117,9 +113,7 @@ found_more object called last j start end replies greatest f onward done = recor
 tagged_facts : (object : Object) (kind : CallKind) (from number called now place last : ℕ) (greatest : Tag) →
     Reached object last now → Found object called last (suc last) greatest → is_move kind ≡ false →
     Facts object kind from number called now (tagged kind number place last greatest)
-tagged_facts object Read from number called now place last greatest reached found reads = (reached, (last, found))
-tagged_facts object (Write value) from number called now place last greatest reached found reads = (reached, (greatest, refl, last, found))
-tagged_facts object Move from number called now place last greatest reached found reads = absurd (cc)
+tagged_facts object kind from number called now place last greatest reached found reads = grind arith
 
 pub query_facts : (object : Object) (kind : CallKind) (from number called now j last : ℕ) (greatest : Tag) (shown_at start
     end : ℕ) (replies : List Taken) → Done object Query j start end replies → now ≤ start →

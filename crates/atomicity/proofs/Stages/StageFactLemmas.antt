@@ -155,9 +155,7 @@ reached_more object position s u h reached pointed = λ j below. go j below (cas
     go j below (inr more) = let same : position ≡ j = omega arith in inl (subst (λ q. Pointed object q u) same pointed)
 
 pub based_later : (object : Object) (finalized s u : ℕ) → s ≤ u → IsBased object finalized s → IsBased object finalized u
-based_later object finalized s u h (inl zero_at) = inl zero_at
-based_later object finalized s u h (inr (before, e, inl seen)) = inr (before, e, inl (final_later object before s u h seen))
-based_later object finalized s u h (inr (before, e, inr left)) = inr (before, e, inr (left_later object before s u h left))
+based_later object finalized s u h known = grind arith
 
 -- the facts last
 pub facts_later : (object : Object) (kind : CallKind) (from number called s u : ℕ) (stage : Stage) → s ≤ u →
@@ -189,12 +187,6 @@ facts_later object kind from number called s u (AgainSpread last position tag st
 )
 facts_later object kind from number called s u (MoveSpread position) h facts = facts
 facts_later object kind from number called s u (MoveQuery position) h facts = (facts.0, pointed_later object position s u h facts.1)
-facts_later object kind from number called s u (MoveFetch position tag) h facts =
-    (facts.0, facts.1, pointed_later object position s u h facts.2)
-facts_later object kind from number called s u (MovePreWrite position tag) h facts =
-    (facts.0, facts.1, pointed_later object position s u h facts.2)
-facts_later object kind from number called s u (MoveFinalize position tag) h facts =
-    (facts.0, facts.1, pointed_later object position s u h facts.2)
 facts_later object kind from number called s u (MoveFinal position tag) h facts =
     (facts.0, facts.1, stored_later object (suc position) tag s u h facts.2, pointed_later object position s u h facts.3)
 facts_later object kind from number called s u (Moved position tag) h facts =
@@ -209,3 +201,4 @@ facts_later object kind from number called s u (Ended last tag) h facts = (
     unpointed = facts.2.unpointed;
   },
 )
+facts_later object kind from number called s u _ h facts = (facts.0, facts.1, pointed_later object _ s u h facts.2)

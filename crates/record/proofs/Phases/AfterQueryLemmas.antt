@@ -1,13 +1,12 @@
 -- What follows the queries of a call.
-use Rattle.std.proofs.Common.{◌≡◌, ◌≢◌, ◌⊎◌, ℕ, Bool, true, false, cond, eqb, List, [], ◌∷◌}
-use Rattle.std.proofs.Common.{length, refl, sym, subst, ap, ◌∙◌, inl, inr, le_refl, eqb-true, eq-eqb, ne_eqb}
+use Rattle.std.proofs.Common.{◌≡◌, ◌≢◌, ◌⊎◌, ℕ, Bool, cond, eqb, List, [], ◌∷◌, arith}
+use Rattle.std.proofs.Common.{length, refl, sym, subst, ap, inl, inr, le_refl, eqb-true, eq-eqb, ne_eqb}
 use Rattle.tag.specs.declared.tag.Tag.{Tag}
-use Rattle.tag.specs.Tag.{next_tag}
 use Rattle.bank.specs.declared.status.Status.TheVariants.{Unset}
 use Rattle.bank.specs.declared.kind.Kind.TheVariants.{PreWrite, Finalize, Fetch}
 use Rattle.phase.specs.Phase.{Phase}
 use Rattle.record.specs.declared.call.CallKind.{CallKind}
-use Rattle.record.specs.declared.call.CallKind.TheVariants.{Read, Write, Move}
+use Rattle.record.specs.declared.call.CallKind.TheVariants.{Read, Write}
 use Rattle.record.specs.declared.stage.Stage.{Stage}
 use Rattle.record.specs.declared.stage.Stage.TheVariants.{FetchAt, PreWriteAt, FinalizeAt, AgainNext, Ended}
 use Rattle.record.specs.PhaseOrder.{after, after_fetch, after_again, tagged}
@@ -95,28 +94,12 @@ put_path kind number phases position tag put =
 fetched_of : (number place last : ℕ) (tag : Tag) (later : List Phase) (end : Stage) → IsLast end → (b : Bool) →
     eqb place last ≡ b → IsPath Read number (cond b (AgainNext last last tag) (PreWriteAt last tag)) later end →
     ((place ≡ last) × IsReread tag last later) ⊎ ((place ≢ last) × IsPut tag last later)
-fetched_of number place last tag later end ends true h path =
-    inl (eqb-true place last h, reread_of Read number later end last tag ends path)
-fetched_of number place last tag later end ends false h path =
-    inr ((λ e. let clash : true ≡ false = sym (eq-eqb place last e) ∙ h in cc), put_of Read number later end last tag ends path)
+fetched_of number place last tag later end ends b h path = grind (arith, eq-eqb, eqb-true, put_of, reread_of)
 
 pub rest_of : (kind : CallKind) (number place last : ℕ) (greatest : Tag) (rest : List Phase) (end : Stage) (tag : Tag) → IsLast end →
     TakesTag kind number greatest tag → HasPiecesFirst kind rest →
     IsPath kind number (tagged kind number place last greatest) rest end → IsRest kind tag place last rest
-rest_of Read number place last greatest [] end tag ends takes enough path =
-    absurd (not_end (FetchAt place last greatest) end (Fetch greatest, place) refl ends path)
-rest_of Read number place last greatest (fetch ∷ later) end tag ends takes enough path =
-    let has = enough refl fetch later refl in
-    subst (λ t. IsRest Read t place last (fetch ∷ later)) (sym takes) (
-      asks_of (Fetch greatest) place fetch path.0,
-      has,
-      fetched_of number place last greatest later end ends (eqb place last) refl
-          (subst (λ b. IsPath Read number (after Read number (FetchAt place last greatest) fetch.replies b) later end) has path.1),
-    )
-rest_of (Write value) number place last greatest rest end tag ends takes enough path =
-    let own = next_tag greatest number in
-    subst (λ t. IsPut t last rest) (sym takes) (put_of (Write value) number rest end last own ends path)
-rest_of Move number place last greatest rest end tag ends takes enough path = absurd takes
+rest_of kind number place last greatest rest end tag ends takes enough path = grind (arith, asks_of, fetched_of, not_end, put_of)
 
 fetched_path : (number place last : ℕ) (tag : Tag) (later : List Phase) →
     ((place ≡ last) × IsReread tag last later) ⊎ ((place ≢ last) × IsPut tag last later) →
@@ -135,7 +118,6 @@ fetched_path number place last tag later (inr there) =
 pub rest_path : (kind : CallKind) (number place last : ℕ) (greatest : Tag) (rest : List Phase) (tag : Tag) →
     TakesTag kind number greatest tag → IsRest kind tag place last rest →
     (at : ℕ) × IsPath kind number (tagged kind number place last greatest) rest (Ended at tag)
-rest_path Read number place last greatest [] tag takes is = absurd is
 rest_path Read number place last greatest (fetch ∷ later) tag takes is =
     let way = fetched_path number place last tag later is.2 in (
       way.0,
@@ -148,7 +130,7 @@ rest_path Read number place last greatest (fetch ∷ later) tag takes is =
 rest_path (Write value) number place last greatest rest tag takes is =
     let way = put_path (Write value) number rest last tag is in
     (way.0, subst (λ t. IsPath (Write value) number (PreWriteAt last t) rest (Ended way.0 tag)) takes way.1)
-rest_path Move number place last greatest rest tag takes is = absurd is
+rest_path _ number place last greatest _ tag takes is = absurd is
 
 -- whole reads and writes
 
@@ -156,15 +138,9 @@ rest_path Move number place last greatest rest tag takes is = absurd is
 pub rest_placed : (kind : CallKind) (number last : ℕ) (greatest tag : Tag) (rest : List Phase) (place : Tag → ℕ) (other : ℕ) →
     other ≡ place greatest → TakesTag kind number greatest tag → IsRest kind tag other last rest →
     IsRest kind tag (place tag) last rest
-rest_placed Read number last greatest tag rest place other same takes is =
-    subst (λ p. IsRest Read tag p last rest) (same ∙ ap (λ t. place t) (sym takes)) is
-rest_placed (Write value) number last greatest tag rest place other same takes is = is
-rest_placed Move number last greatest tag rest place other same takes is = absurd is
+rest_placed kind number last greatest tag rest place other same takes is = grind arith
 
 pub rest_from : (kind : CallKind) (number last : ℕ) (greatest tag : Tag) (rest : List Phase) (place : Tag → ℕ) (other : ℕ) →
     other ≡ place greatest → TakesTag kind number greatest tag → IsRest kind tag (place tag) last rest →
     IsRest kind tag other last rest
-rest_from Read number last greatest tag rest place other same takes is =
-    subst (λ p. IsRest Read tag p last rest) (ap (λ t. place t) takes ∙ sym same) is
-rest_from (Write value) number last greatest tag rest place other same takes is = is
-rest_from Move number last greatest tag rest place other same takes is = absurd is
+rest_from kind number last greatest tag rest place other same takes is = grind arith

@@ -1,6 +1,6 @@
 -- The phases of a read or a write up to its tag: attempts that were given up, then a reading and the queries.
-use Rattle.std.proofs.Common.{◌≡◌, ◌≢◌, ℕ, zero, suc, ◌≤◌, Bool, true, false, List, [], ◌∷◌, ◌++◌}
-use Rattle.std.proofs.Common.{length, Option, Some, is_some, refl, sym, subst, ap, ◌∙◌, arith, le_refl}
+use Rattle.std.proofs.Common.{◌≡◌, ◌≢◌, ℕ, zero, suc, ◌≤◌, Bool, true, List, [], ◌∷◌, ◌++◌}
+use Rattle.std.proofs.Common.{length, Option, Some, is_some, refl, sym, ap, ◌∙◌, arith, le_refl}
 use Rattle.std.proofs.lemmas.List.{append_assoc, length-append}
 use Rattle.tag.specs.declared.tag.Tag.{Tag}
 use Rattle.tag.specs.Tag.{opening_tag}
@@ -11,7 +11,7 @@ use Rattle.record.specs.declared.call.CallKind.{CallKind}
 use Rattle.record.specs.declared.call.CallKind.TheVariants.{Read, Write, Move}
 use Rattle.record.specs.declared.stage.Stage.{Stage}
 use Rattle.record.specs.declared.stage.Stage.TheVariants.{ReadBegin, FetchAt}
-use Rattle.record.specs.PhaseOrder.{after, tagged, stage_after, IsCourse}
+use Rattle.record.specs.PhaseOrder.{tagged, stage_after, IsCourse}
 use Rattle.record.specs.Journals.{stage_tag}
 use Rattle.record.specs.Grammar.{IsReading, AreQueries, greatest_shown, place_shown, IsAttempt, AreAttempts, attempt_phases, FindsTag}
 use Rattle.record.proofs.Phases.CourseAndPathLemmas.{place_after-place_shown}
@@ -41,9 +41,7 @@ pub record AttemptSplit (kind : CallKind) (number : ℕ) (phases : List Phase) (
       rest end
 
 no_attempts : (kind : CallKind) → kind ≢ Move → AreAttempts kind []
-no_attempts Read reads = tt
-no_attempts (Write value) reads = refl
-no_attempts Move reads = absurd (reads refl)
+no_attempts kind reads = grind arith
 
 -- one attempt, whose fetch lacks pieces
 attempt_of : (number : ℕ) (first queries : List Phase) (fetch : Phase) (start last to : ℕ) → IsReading start start first last to →
@@ -51,29 +49,11 @@ attempt_of : (number : ℕ) (first queries : List Phase) (fetch : Phase) (start 
     ◌≡◌ {A = Option (Kind × ℕ)} (Some (Fetch (greatest_shown opening_tag queries), place_after opening_tag to to queries))
     (Some (fetch.kind, fetch.position)) →
     IsAttempt (first ++ (queries ++ fetch ∷ []))
-attempt_of number first queries fetch start last to reading asked lacks is_due =
-    let top = greatest_shown opening_tag queries in
-    record {
-      first = first;
-      queries = queries;
-      fetch = fetch;
-      split = refl;
-      last = last;
-      finalized = to;
-      start = start;
-      reading = reading;
-      asked = asked;
-      tag = top;
-      takes = refl;
-      fetches = asks_of (Fetch top) (place_shown top to to queries) fetch
-          (ap (λ p. Some (Fetch top, p)) (sym (place_same queries to)) ∙ is_due);
-      lacks = lacks;
-    }
+attempt_of number first queries fetch start last to reading asked lacks is_due = grind (arith, asks_of, place_same)
 
 moved : (first queries later : List Phase) (fetch : Phase) →
     (first ++ (queries ++ fetch ∷ [])) ++ later ≡ first ++ (queries ++ fetch ∷ later)
-moved first queries later fetch =
-    append_assoc first (queries ++ fetch ∷ []) later ∙ ap (λ xs. first ++ xs) (append_assoc queries (fetch ∷ []) later)
+moved first queries later fetch = grind (arith, append_assoc)
 
 -- an attempt before the others
 more_attempts : (number : ℕ) (phases first queries later : List Phase) (fetch : Phase) (end : Stage) →
@@ -100,10 +80,7 @@ more_attempts number phases first queries later fetch end split attempt others =
 
 shorter : (first queries later : List Phase) (fetch : Phase) (phases : List Phase) (fuel : ℕ) →
     phases ≡ first ++ (queries ++ fetch ∷ later) → length phases ≤ suc fuel → length later ≤ fuel
-shorter first queries later fetch phases fuel split h =
-    let a = ap length split in
-    let b = length-append first (queries ++ fetch ∷ later) in
-    let c = length-append queries (fetch ∷ later) in omega arith
+shorter first queries later fetch phases fuel split h = grind (arith, length-append)
 
 module _ (kind : CallKind) (number : ℕ) (end : Stage) (phases first queries : List Phase) (start last to : ℕ)
     (reading : IsReading start start first last to) (asked : AreQueries to last queries) where
@@ -132,17 +109,8 @@ read_attempt : (number : ℕ) (end : Stage) (phases first queries : List Phase) 
     (IsPath Read number ReadBegin later end → AttemptSplit Read number later end) → (b : Bool) → lacks_pieces fetch ≡ b →
     IsPath Read number (FetchAt (place_after opening_tag to to queries) last (greatest_shown opening_tag queries)) (fetch ∷ later) end →
     AttemptSplit Read number phases end
-read_attempt number end phases first queries start last to fetch later reading asked split again true lacks path =
-    more_attempts number phases first queries later fetch end split
-    (attempt_of number first queries fetch start last to reading asked lacks path.0)
-    (again (subst (λ b. IsPath Read number
-    (after Read number (FetchAt (place_after opening_tag to to queries) last (greatest_shown opening_tag queries)) fetch.replies b) later
-    end) lacks path.1))
-read_attempt number end phases first queries start last to fetch later reading asked split again false enough path =
-    final Read number end phases first queries start last to reading asked (fetch ∷ later) (λ e. cc) split
-    (λ k other others same.
-    let head : fetch ≡ other = (let s = same in cc) in
-    subst (λ (p : Phase). lacks_pieces p ≡ false) head enough) path
+read_attempt number end phases first queries start last to fetch later reading asked split again b lacks path =
+    grind (arith, attempt_of, final, more_attempts, place_after)
 
 by_rest : (kind : CallKind) (number : ℕ) (end : Stage) (phases first queries : List Phase) (start last to : ℕ) (rest : List Phase) →
     kind ≢ Move → IsReading start start first last to → AreQueries to last queries → phases ≡ first ++ (queries ++ rest) →
@@ -176,11 +144,7 @@ attempt_split kind reads number (suc fuel) (next ∷ phases) h end has path =
 
 split_on : (phases done last before first queries rest : List Phase) → phases ≡ done ++ last →
     done ≡ before ++ (first ++ (queries ++ rest)) → phases ≡ before ++ (first ++ (queries ++ (rest ++ last)))
-split_on phases done last before first queries rest a b =
-    a ∙ (ap (λ xs. xs ++ last) b
-    ∙ (append_assoc before (first ++ (queries ++ rest)) last
-    ∙ ap (λ xs. before ++ xs) (append_assoc first (queries ++ rest) last
-    ∙ ap (λ xs. first ++ xs) (append_assoc queries rest last))))
+split_on phases done last before first queries rest a b = grind (arith, append_assoc)
 
 -- a read or a write that has its tag
 pub finds_tag : (kind : CallKind) (number : ℕ) → kind ≢ Move → (phases : List Phase) (tag : Tag) →

@@ -61,8 +61,7 @@ path_of_course kind number (phase ∷ next ∷ later) stage course last =
     )
 
 some_end : (o : Option ℕ) → IsSome o → (end : ℕ) × (o ≡ Some end)
-some_end None some = absurd (cc)
-some_end (Some end) some = (end, refl)
+some_end o some = grind arith
 
 pub course_of_path : (kind : CallKind) (number : ℕ) (phases : List Phase) (stage end : Stage) → AreInTurn phases →
     IsPath kind number stage phases end → IsCourse kind number stage phases × (stage_after kind number stage phases ≡ end)
@@ -82,9 +81,7 @@ course_of_path kind number (phase ∷ next ∷ later) stage end turn path =
 
 again_on : (status : Status) (last position : ℕ) (tag : Tag) → status ≢ Unset →
     after_again status last position tag ≡ AgainSpread last position tag status
-again_on Unset last position tag some = absurd (some refl)
-again_on Pending last position tag some = refl
-again_on Final last position tag some = refl
+again_on status last position tag some = grind arith
 
 pub again_path : (kind : CallKind) (number : ℕ) (phases : List Phase) (from position finalized last to : ℕ) (tag : Tag) →
     IsReading position finalized phases last to →

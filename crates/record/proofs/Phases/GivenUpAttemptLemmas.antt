@@ -8,7 +8,7 @@ use Rattle.bank.specs.declared.kind.Kind.{Kind}
 use Rattle.bank.specs.declared.kind.Kind.TheVariants.{Fetch}
 use Rattle.phase.specs.Phase.{Phase, lacks_pieces}
 use Rattle.record.specs.declared.call.CallKind.{CallKind}
-use Rattle.record.specs.declared.call.CallKind.TheVariants.{Read, Write, Move}
+use Rattle.record.specs.declared.call.CallKind.TheVariants.{Read}
 use Rattle.record.specs.declared.stage.Stage.TheVariants.{ReadBegin, ReadNext, QueryFrom, FetchAt}
 use Rattle.record.specs.PhaseOrder.{after}
 use Rattle.record.specs.Grammar.{AreQueries, greatest_shown, place_shown, IsAttempt, AreAttempts, attempt_phases}
@@ -59,7 +59,4 @@ reads_back number (attempt ∷ later) all =
 
 pub attempts_path : (kind : CallKind) (number : ℕ) (attempts : List (List Phase)) → AreAttempts kind attempts →
     IsPath kind number ReadBegin (attempt_phases attempts) ReadBegin
-attempts_path Read number attempts are = reads_back number attempts are
-attempts_path (Write value) number attempts are =
-    subst (λ xs. IsPath (Write value) number ReadBegin (attempt_phases xs) ReadBegin) (sym are) refl
-attempts_path Move number attempts are = absurd are
+attempts_path kind number attempts are = grind (arith, reads_back)

@@ -1,15 +1,15 @@
 -- From each stage of a call there is a way to its end.
-use Rattle.std.proofs.Common.{◌≡◌, ℕ, zero, suc, ◌+◌, ◌≤◌, Bool, true, false, cond, eqb}
+use Rattle.std.proofs.Common.{◌≡◌, ℕ, zero, suc, ◌+◌, ◌≤◌, false, cond, eqb}
 use Rattle.std.proofs.Common.{List, [], ◌∷◌, Some, refl, sym, subst, arith, le_refl, eq-eqb, ne_eqb}
+use Rattle.std.proofs.lemmas.Bool.{cond_both}
 use Rattle.tag.specs.declared.tag.Tag.{Tag}
-use Rattle.tag.specs.Tag.{opening_tag, next_tag, later_tag}
+use Rattle.tag.specs.Tag.{opening_tag, later_tag}
 use Rattle.bank.specs.declared.status.Status.{Status}
-use Rattle.bank.specs.declared.status.Status.TheVariants.{Unset, Pending, Final}
+use Rattle.bank.specs.declared.status.Status.TheVariants.{Pending, Final}
 use Rattle.bank.specs.declared.kind.Kind.{Kind}
 use Rattle.bank.specs.declared.kind.Kind.TheVariants.{Next, Spread, Query, PreWrite, Finalize, Fetch}
 use Rattle.phase.specs.Phase.{Phase, begun}
 use Rattle.record.specs.declared.call.CallKind.{CallKind}
-use Rattle.record.specs.declared.call.CallKind.TheVariants.{Read, Write, Move}
 use Rattle.record.specs.declared.stage.Stage.{Stage}
 use Rattle.record.specs.declared.stage.Stage.TheVariants.{ReadBegin, ReadNext, ReadSpread, QueryFrom, FetchAt, PreWriteAt}
 use Rattle.record.specs.declared.stage.Stage.TheVariants.{FinalizeAt, AgainNext, AgainSpread, MoveSpread, MoveQuery}
@@ -64,23 +64,19 @@ finish_put kind number last tag =
     (finish_by kind number (FinalizeAt last tag) (Finalize tag) last refl (finish_same kind number last tag))
 
 finish_again : (kind : CallKind) (number last position : ℕ) (tag : Tag) → Finish kind number (AgainNext last position tag)
-finish_again kind number last position tag = finish_by kind number (AgainNext last position tag) Next position refl (go (eqb position last))
-  where
-    go : (b : Bool) → Finish kind number (cond b (Ended last tag) (PreWriteAt position tag))
-    go true = finish_last kind number (Ended last tag) tag refl refl
-    go false = finish_put kind number position tag
+finish_again kind number last position tag =
+    finish_by kind number (AgainNext last position tag) Next position refl
+    (cond_both (eqb position last) (Ended last tag) (PreWriteAt position tag) (λ s. Finish kind number s)
+    (λ e. finish_last kind number (Ended last tag) tag refl refl) (λ e. finish_put kind number position tag))
 
 finish_fetch : (kind : CallKind) (number place last : ℕ) (tag : Tag) → Finish kind number (FetchAt place last tag)
-finish_fetch kind number place last tag = finish_by kind number (FetchAt place last tag) (Fetch tag) place refl (go (eqb place last))
-  where
-    go : (b : Bool) → Finish kind number (cond b (AgainNext last last tag) (PreWriteAt last tag))
-    go true = finish_same kind number last tag
-    go false = finish_put kind number last tag
+finish_fetch kind number place last tag =
+    finish_by kind number (FetchAt place last tag) (Fetch tag) place refl
+    (cond_both (eqb place last) (AgainNext last last tag) (PreWriteAt last tag) (λ s. Finish kind number s)
+    (λ e. finish_same kind number last tag) (λ e. finish_put kind number last tag))
 
 finish_tagged : (kind : CallKind) (number place last : ℕ) (greatest : Tag) → Finish kind number (tagged kind number place last greatest)
-finish_tagged Read number place last greatest = finish_fetch Read number place last greatest
-finish_tagged (Write value) number place last greatest = finish_put (Write value) number last (next_tag greatest number)
-finish_tagged Move number place last greatest = finish_fetch Move number place last greatest
+finish_tagged kind number place last greatest = grind (arith, finish_fetch, finish_put)
 
 finish_queries : (kind : CallKind) (number count position last : ℕ) (greatest : Tag) (shown_at : ℕ) → position + count ≡ last →
     Finish kind number (QueryFrom position last greatest shown_at)
@@ -115,9 +111,7 @@ finish_read kind number position finalized h =
 
 finish_spread : (kind : CallKind) (number position finalized : ℕ) (status : Status) → finalized ≤ position →
     Finish kind number (after_spread status position finalized)
-finish_spread kind number position finalized Unset h = finish_read kind number (suc position) finalized (omega arith)
-finish_spread kind number position finalized Pending h = finish_read kind number (suc position) finalized (omega arith)
-finish_spread kind number position finalized Final h = finish_read kind number (suc position) (suc position) (le_refl (suc position))
+finish_spread kind number position finalized status h = grind (arith, finish_read, le_refl)
 
 finish_final : (kind : CallKind) (number position : ℕ) (tag : Tag) → Finish kind number (MoveFinal position tag)
 finish_final kind number position tag =

@@ -1,11 +1,11 @@
 -- Phases as a path from stage to stage.
-use Rattle.std.proofs.Common.{◌≡◌, ◌≢◌, ℕ, suc, true, false, List, [], ◌∷◌, ◌++◌}
-use Rattle.std.proofs.Common.{Option, Some, None, IsSome, is_some, refl, sym, subst, ap, ◌∙◌}
+use Rattle.std.proofs.Common.{◌≡◌, ◌≢◌, ℕ, suc, List, [], ◌∷◌, ◌++◌, arith}
+use Rattle.std.proofs.Common.{Option, Some, None, IsSome, refl, sym, subst, ap, ◌∙◌}
 use Rattle.std.proofs.lemmas.Option.{some_pair_parts}
 use Rattle.tag.specs.declared.tag.Tag.{Tag}
 use Rattle.tag.specs.Tag.{opening_tag}
 use Rattle.bank.specs.declared.status.Status.{Status}
-use Rattle.bank.specs.declared.status.Status.TheVariants.{Unset, Pending, Final}
+use Rattle.bank.specs.declared.status.Status.TheVariants.{Unset}
 use Rattle.bank.specs.declared.kind.Kind.{Kind}
 use Rattle.bank.specs.declared.kind.Kind.TheVariants.{Next, Spread}
 use Rattle.phase.specs.Phase.{Phase, lacks_pieces}
@@ -33,9 +33,7 @@ abbrev pub HasTag : Stage → Type 0
 HasTag stage = IsSome (stage_tag stage)
 
 pub untagged : (stage end : Stage) → stage_tag stage ≡ None → HasTag end → stage ≡ end → ⊥
-untagged stage end none has same =
-    let clash : false ≡ true = ap is_some (sym none) ∙ (ap (λ s. is_some (stage_tag s)) same ∙ has) in
-    cc
+untagged stage end none has same = cc
 
 -- the phases that are complete, and the one that is not
 pub record Closed (kind : CallKind) (number : ℕ) (stage : Stage) (phases : List Phase) (end : Stage) : Type 0 where
@@ -113,15 +111,11 @@ due_of k p phase asks = ap (λ x. Some (x, p)) (sym asks.0) ∙ ap (λ q. Some (
 
 pub next_on : (status : Status) (position finalized : ℕ) → status ≢ Unset →
     after_next status position finalized ≡ ReadSpread position finalized status
-next_on Unset position finalized some = absurd (some refl)
-next_on Pending position finalized some = refl
-next_on Final position finalized some = refl
+next_on status position finalized some = grind arith
 
 pub spread_on : (status : Status) (position finalized : ℕ) →
     after_spread status position finalized ≡ ReadNext (suc position) (finalized_after status position finalized)
-spread_on Unset position finalized = refl
-spread_on Pending position finalized = refl
-spread_on Final position finalized = refl
+spread_on status position finalized = grind arith
 
 pub reading_path : (kind : CallKind) (number : ℕ) (phases : List Phase) (position finalized last to : ℕ) →
     IsReading position finalized phases last to →
@@ -148,8 +142,4 @@ reading_path kind number (next ∷ spread ∷ later) position finalized last to 
 pub begin_path : (kind : CallKind) (number : ℕ) (first later : List Phase) (start finalized last to : ℕ) (end : Stage) →
     IsReading start finalized first last to → IsPath kind number (ReadNext start start) (first ++ later) end →
     IsPath kind number ReadBegin (first ++ later) end
-begin_path kind number [] later start finalized last to end reading path = absurd reading
-begin_path kind number (next ∷ []) later start finalized last to end reading path =
-    subst (λ p. IsPath kind number (ReadNext p p) (next ∷ later) end) (sym reading.0.1) path
-begin_path kind number (next ∷ spread ∷ rest) later start finalized last to end reading path =
-    subst (λ p. IsPath kind number (ReadNext p p) (next ∷ spread ∷ (rest ++ later)) end) (sym reading.0.1) path
+begin_path kind number first later start finalized last to end reading path = grind arith

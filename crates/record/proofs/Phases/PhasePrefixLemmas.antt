@@ -1,8 +1,8 @@
 -- The phases of a call, finished or not, begin those of a whole call, and phases that do are due one after another.
-use Rattle.std.proofs.Common.{◌≡◌, ℕ, true, false, List, [], ◌∷◌, Option}
-use Rattle.std.proofs.Common.{Some, None, IsSome, is_some, nat_lt, refl, sym, subst, subst₂, ap, ◌∙◌}
+use Rattle.std.proofs.Common.{◌≡◌, ℕ, true, false, List, [], ◌∷◌, Option, arith}
+use Rattle.std.proofs.Common.{Some, None, IsSome, is_some, refl, sym, subst, ap, ◌∙◌}
 use Rattle.tag.specs.declared.tag.Tag.{Tag}
-use Rattle.phase.specs.Phase.{Phase, pieces_in, lacks_pieces}
+use Rattle.phase.specs.Phase.{Phase, lacks_pieces}
 use Rattle.record.specs.declared.call.CallKind.{CallKind}
 use Rattle.record.specs.declared.call.CallKind.TheVariants.{Read, Write, Move}
 use Rattle.record.specs.declared.stage.Stage.{Stage}
@@ -109,16 +109,11 @@ course_step : (kind : CallKind) (number : ℕ) (stage : Stage) (phase : Phase) (
     (IsSome phase.end → IsCourse kind number (after kind number stage phase.replies (lacks_pieces phase)) later) → (o : Option ℕ) →
     phase.end ≡ o →
     IsCourse kind number (passed kind number stage o phase.replies (lacks_pieces phase)) later
-course_step kind number stage phase [] ended rest None h = tt
-course_step kind number stage phase (next ∷ later) ended rest None h =
-    absurd (let clash : None ≡ Some ended.0 = sym h ∙ ended.1 in cc)
-course_step kind number stage phase later ended rest (Some end) h = rest (ap is_some h)
+course_step kind number stage phase later ended rest o h = grind arith
 
 same_after : (kind : CallKind) (number : ℕ) (stage : Stage) (phase other : Phase) → SameReplies phase other →
     after kind number stage other.replies (lacks_pieces other) ≡ after kind number stage phase.replies (lacks_pieces phase)
-same_after kind number stage phase other same =
-    subst₂ (λ replies needed. after kind number stage replies (nat_lt (pieces_in replies) needed)
-    ≡ after kind number stage phase.replies (lacks_pieces phase)) (sym same.0) (sym same.1) refl
+same_after kind number stage phase other same = cc
 
 course_of_begin : (kind : CallKind) (number : ℕ) (phases whole : List Phase) (stage end : Stage) →
     IsPath kind number stage whole end → AreBegun phases → Begin phases whole → IsCourse kind number stage phases
@@ -147,10 +142,7 @@ sentence_path Move number from phases tag whole = (Moved from tag, path_of_move 
 
 path_sentence : (kind : CallKind) (number from : ℕ) (phases : List Phase) (end : Stage) (tag : Tag) → IsLast end →
     stage_tag end ≡ Some tag → IsPath kind number (first_stage kind from) phases end → IsSentence kind number from phases tag
-path_sentence Read number from phases end tag last tagged path = whole_of_path Read number phases end tag (λ e. cc) last tagged path
-path_sentence (Write value) number from phases end tag last tagged path =
-    whole_of_path (Write value) number phases end tag (λ e. cc) last tagged path
-path_sentence Move number from phases end tag last tagged path = move_of_path number from phases end tag last tagged path
+path_sentence kind number from phases end tag last tagged path = grind (arith, move_of_path, whole_of_path)
 
 beginning_of : (kind : CallKind) (number from : ℕ) (phases : List Phase) → IsCourse kind number (first_stage kind from) phases →
     IsBeginning kind number from phases
@@ -167,9 +159,7 @@ beginning_of kind number from phases course =
 
 course_of_beginning : (kind : CallKind) (number from : ℕ) (phases : List Phase) → IsBeginning kind number from phases →
     IsCourse kind number (first_stage kind from) phases
-course_of_beginning kind number from phases is =
-    let way = sentence_path kind number from is.whole is.tag is.is_whole in
-    course_of_begin kind number phases is.whole (first_stage kind from) way.0 way.1 is.in_turn is.begin
+course_of_beginning kind number from phases is = grind (arith, course_of_begin, sentence_path)
 
 pub courses_are_beginnings : CoursesAreBeginnings
 courses_are_beginnings kind number from phases = (beginning_of kind number from phases, course_of_beginning kind number from phases)

@@ -1,6 +1,6 @@
 -- The path of the queries.
-use Rattle.std.proofs.Common.{◌≡◌, ◌≢◌, ℕ, suc, Bool, true, false, cond, eqb, List, [], ◌∷◌}
-use Rattle.std.proofs.Common.{◌++◌, Some, refl, sym, subst, ap, ◌∙◌, eqb-true, eq-eqb}
+use Rattle.std.proofs.Common.{◌≡◌, ◌≢◌, ℕ, suc, Bool, true, false, cond, eqb, List, [], ◌∷◌, arith}
+use Rattle.std.proofs.Common.{◌++◌, Some, refl, sym, subst, ap, ◌∙◌, eqb-true}
 use Rattle.std.proofs.lemmas.Option.{same_Some}
 use Rattle.tag.specs.declared.tag.Tag.{Tag}
 use Rattle.tag.specs.Tag.{next_tag, later_tag, tag_lt}
@@ -32,16 +32,12 @@ place_after greatest shown_at position (query ∷ later) =
 pub query_last : (kind : CallKind) (number : ℕ) (found : Tag) (position last : ℕ) (greatest : Tag) (shown_at : ℕ) →
     position ≡ last → after_query kind number found position last greatest shown_at
     ≡ tagged kind number (later_place found greatest shown_at position) last (later_tag greatest found)
-query_last kind number found position last greatest shown_at here =
-    ap (λ b. cond b (tagged kind number (later_place found greatest shown_at position) last (later_tag greatest found))
-    (QueryFrom (suc position) last (later_tag greatest found) (later_place found greatest shown_at position))) (eq-eqb position last here)
+query_last kind number found position last greatest shown_at here = grind arith
 
 pub query_on : (kind : CallKind) (number : ℕ) (found : Tag) (position last : ℕ) (greatest : Tag) (shown_at : ℕ) →
     eqb position last ≡ false → after_query kind number found position last greatest shown_at
     ≡ QueryFrom (suc position) last (later_tag greatest found) (later_place found greatest shown_at position)
-query_on kind number found position last greatest shown_at there =
-    ap (λ b. cond b (tagged kind number (later_place found greatest shown_at position) last (later_tag greatest found))
-    (QueryFrom (suc position) last (later_tag greatest found) (later_place found greatest shown_at position))) there
+query_on kind number found position last greatest shown_at there = cc
 
 -- the queries, and what follows
 pub record QuerySplit (kind : CallKind) (number position last : ℕ) (greatest : Tag) (shown_at : ℕ) (phases : List Phase)

@@ -22,40 +22,6 @@ pub record ReadSplit (kind : CallKind) (number position finalized : ℕ) (phases
   pub reading : IsReading position finalized first last to
   pub path : IsPath kind number (QueryFrom to last opening_tag to) later end
 
-read_on : (kind : CallKind) (number position finalized : ℕ) (next spread : Phase) (later : List Phase) (end : Stage) (status : Status) →
-    greatest_status next.replies ≡ status → status ≢ Unset →
-    Asks next Next position → Asks spread (Spread status) position →
-    ReadSplit kind number (suc position) (finalized_after status position finalized) later end →
-    ReadSplit kind number position finalized (next ∷ spread ∷ later) end
-read_on kind number position finalized next spread later end status e some now then_spread rest = record {
-  first = next ∷ spread ∷ rest.first;
-  later = rest.later;
-  split = ap (λ xs. next ∷ spread ∷ xs) rest.split;
-  last = rest.last;
-  to = rest.to;
-  reading = (
-    now,
-    (λ none. some (sym e ∙ none)),
-    subst (λ s. Asks spread (Spread s) position) (sym e) then_spread,
-    subst (λ s. IsReading (suc position) (finalized_after s position finalized) rest.first rest.last rest.to) (sym e) rest.reading,
-  );
-  path = rest.path;
-}
-
-read_ends : (kind : CallKind) (number position finalized : ℕ) (next : Phase) (later : List Phase) (end : Stage) →
-    greatest_status next.replies ≡ Unset → Asks next Next position →
-    IsPath kind number (QueryFrom finalized position opening_tag finalized) later end →
-    ReadSplit kind number position finalized (next ∷ later) end
-read_ends kind number position finalized next later end none now path = record {
-  first = next ∷ [];
-  later = later;
-  split = refl;
-  last = position;
-  to = finalized;
-  reading = (now, none, refl, refl);
-  path = path;
-}
-
 read_spread : (kind : CallKind) (number position finalized : ℕ) (next : Phase) (later : List Phase) (end : Stage) (status : Status) →
     HasTag end → greatest_status next.replies ≡ status → status ≢ Unset → Asks next Next position →
     ((spread : Phase) (rest : List Phase) → later ≡ spread ∷ rest → (m : ℕ) →
@@ -64,17 +30,37 @@ read_spread : (kind : CallKind) (number position finalized : ℕ) (next : Phase)
 read_spread kind number position finalized next [] end status has e some now again path =
     absurd (untagged (ReadSpread position finalized status) end refl has path)
 read_spread kind number position finalized next (spread ∷ rest) end status has e some now again path =
-    read_on kind number position finalized next spread rest end status e some now (asks_of (Spread status) position spread path.0)
-    (again spread rest refl (finalized_after status position finalized)
-    (subst (λ s. IsPath kind number s rest end) (spread_on status position finalized) path.1))
+    let split = again spread rest refl (finalized_after status position finalized)
+    (subst (λ s. IsPath kind number s rest end) (spread_on status position finalized) path.1) in
+    record {
+      first = next ∷ spread ∷ split.first;
+      later = split.later;
+      split = ap (λ xs. next ∷ spread ∷ xs) split.split;
+      last = split.last;
+      to = split.to;
+      reading = (
+        now,
+        (λ none. some (sym e ∙ none)),
+        subst (λ s. Asks spread (Spread s) position) (sym e) (asks_of (Spread status) position spread path.0),
+        subst (λ s. IsReading (suc position) (finalized_after s position finalized) split.first split.last split.to) (sym e) split.reading,
+      );
+      path = split.path;
+    }
 
 read_case : (kind : CallKind) (number position finalized : ℕ) (next : Phase) (later : List Phase) (end : Stage) (status : Status) →
     HasTag end → greatest_status next.replies ≡ status → Asks next Next position →
     ((spread : Phase) (rest : List Phase) → later ≡ spread ∷ rest → (m : ℕ) →
     IsPath kind number (ReadNext (suc position) m) rest end → ReadSplit kind number (suc position) m rest end) →
     IsPath kind number (after_next status position finalized) later end → ReadSplit kind number position finalized (next ∷ later) end
-read_case kind number position finalized next later end Unset has e now again path =
-    read_ends kind number position finalized next later end e now path
+read_case kind number position finalized next later end Unset has e now again path = record {
+  first = next ∷ [];
+  later = later;
+  split = refl;
+  last = position;
+  to = finalized;
+  reading = (now, e, refl, refl);
+  path = path;
+}
 read_case kind number position finalized next later end Pending has e now again path =
     read_spread kind number position finalized next later end Pending has e (λ same. cc) now again path
 read_case kind number position finalized next later end Final has e now again path =

@@ -4,7 +4,7 @@ use Rattle.std.proofs.Common.{◌∷◌, ◌++◌, length, refl, sym, subst, ap,
 use Rattle.tag.specs.declared.tag.Tag.{Tag}
 use Rattle.tag.specs.Tag.{later_tag}
 use Rattle.bank.specs.declared.status.Status.{Status}
-use Rattle.bank.specs.declared.status.Status.TheVariants.{Unset, Pending, Final}
+use Rattle.bank.specs.declared.status.Status.TheVariants.{Unset}
 use Rattle.bank.specs.declared.kind.Kind.TheVariants.{Next, Spread, Query, PreWrite, Finalize}
 use Rattle.phase.specs.Phase.{Phase}
 use Rattle.record.specs.declared.call.CallKind.{CallKind}
@@ -133,12 +133,7 @@ again_case : (kind : CallKind) (number from position finalized : ℕ) (tag : Tag
     Phase) (end : Stage) (status : Status) → IsLast end → Shorter kind number (next ∷ more) end → Asks next Next position →
     greatest_status next.replies ≡ status → IsPath kind number (after_again status from position tag) more end →
     AgainSplit from position finalized tag (next ∷ more)
-again_case kind number from position finalized tag next more end Unset last again now e path =
-    again_unset kind number from position finalized tag next more end last again now e (eqb position from) refl path
-again_case kind number from position finalized tag next more end Pending last again now e path =
-    again_spread kind number from position finalized tag next more end Pending last again now e (λ same. cc) path
-again_case kind number from position finalized tag next more end Final last again now e path =
-    again_spread kind number from position finalized tag next more end Final last again now e (λ same. cc) path
+again_case kind number from position finalized tag next more end status last again now e path = grind (arith, again_spread, again_unset)
 
 pub again_split : (kind : CallKind) (number fuel : ℕ) (phases : List Phase) (end : Stage) → length phases ≤ fuel → IsLast end →
     (from position finalized : ℕ) (tag : Tag) →

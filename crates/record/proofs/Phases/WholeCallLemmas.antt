@@ -7,9 +7,9 @@ use Rattle.phase.specs.Phase.{Phase}
 use Rattle.record.specs.declared.call.CallKind.{CallKind}
 use Rattle.record.specs.declared.call.CallKind.TheVariants.{Read, Write, Move}
 use Rattle.record.specs.declared.stage.Stage.{Stage}
-use Rattle.record.specs.declared.stage.Stage.TheVariants.{ReadBegin, ReadNext, ReadSpread, QueryFrom, FetchAt, PreWriteAt}
-use Rattle.record.specs.declared.stage.Stage.TheVariants.{FinalizeAt, AgainNext, AgainSpread, MoveSpread, MoveQuery}
-use Rattle.record.specs.declared.stage.Stage.TheVariants.{MoveFetch, MovePreWrite, MoveFinalize, MoveFinal, Ended, Moved}
+use Rattle.record.specs.declared.stage.Stage.TheVariants.{ReadBegin, ReadNext, QueryFrom}
+use Rattle.record.specs.declared.stage.Stage.TheVariants.{MoveSpread}
+use Rattle.record.specs.declared.stage.Stage.TheVariants.{Ended, Moved}
 use Rattle.record.specs.PhaseOrder.{tagged, stage_after}
 use Rattle.record.specs.Legal.{source_of, stage_of}
 use Rattle.record.specs.Journals.{stage_tag}
@@ -91,19 +91,11 @@ path_of_whole kind number phases tag whole =
 
 finished_of : (kind : CallKind) (number : ℕ) (stage end : Stage) (phases : List Phase) (tag : Tag) → AreInTurn phases →
     IsPath kind number stage phases end → IsLast end → stage_tag end ≡ Some tag → IsFinished kind number stage phases tag
-finished_of kind number stage end phases tag turn path last has =
-    let found = course_of_path kind number phases stage end turn path in
-    record {
-      course = found.0;
-      none_due = subst (λ s. IsLast s) (sym found.1) last;
-      tagged = subst (λ s. stage_tag s ≡ Some tag) (sym found.1) has;
-    }
+finished_of kind number stage end phases tag turn path last has = grind (arith, course_of_path)
 
 read_finished : (kind : CallKind) (number : ℕ) (phases : List Phase) (tag : Tag) → kind ≢ Move →
     IsFinished kind number ReadBegin phases tag → AreInTurn phases × ArePhasesOfCall kind number phases tag
-read_finished kind number phases tag reads done =
-    let way = path_of_course kind number phases ReadBegin done.course done.none_due in
-    (way.0, whole_of_path kind number phases (stage_after kind number ReadBegin phases) tag reads done.none_due done.tagged way.1)
+read_finished kind number phases tag reads done = grind (arith, path_of_course, whole_of_path)
 
 read_whole : (kind : CallKind) (number : ℕ) (phases : List Phase) (tag : Tag) → AreInTurn phases × ArePhasesOfCall kind number phases tag →
     IsFinished kind number ReadBegin phases tag
@@ -129,21 +121,7 @@ finished_are_whole Move number from phases tag = (
 last_tag : (stage : Stage) → IsLast stage → (tag : Tag) × (stage_tag stage ≡ Some tag)
 last_tag (Ended last tag) ends = (tag, refl)
 last_tag (Moved position tag) ends = (tag, refl)
-last_tag ReadBegin ends = absurd (cc)
-last_tag (ReadNext position finalized) ends = absurd (cc)
-last_tag (ReadSpread position finalized status) ends = absurd (cc)
-last_tag (QueryFrom position last greatest shown_at) ends = absurd (cc)
-last_tag (FetchAt shown_at last tag) ends = absurd (cc)
-last_tag (PreWriteAt last tag) ends = absurd (cc)
-last_tag (FinalizeAt last tag) ends = absurd (cc)
-last_tag (AgainNext last position tag) ends = absurd (cc)
-last_tag (AgainSpread last position tag status) ends = absurd (cc)
-last_tag (MoveSpread position) ends = absurd (cc)
-last_tag (MoveQuery position) ends = absurd (cc)
-last_tag (MoveFetch position tag) ends = absurd (cc)
-last_tag (MovePreWrite position tag) ends = absurd (cc)
-last_tag (MoveFinalize position tag) ends = absurd (cc)
-last_tag (MoveFinal position tag) ends = absurd (cc)
+last_tag _ ends = absurd (cc)
 
 pub answered_are_whole : AnsweredAreWhole
 answered_are_whole object index call step legal at answered =

@@ -1,5 +1,5 @@
 -- The phases of a whole move.
-use Rattle.std.proofs.Common.{◌≡◌, ℕ, suc, Bool, true, false, List, [], ◌∷◌, ◌++◌, Some, refl, sym, subst, ap, ◌∙◌}
+use Rattle.std.proofs.Common.{◌≡◌, ℕ, suc, Bool, true, false, List, [], ◌∷◌, ◌++◌, Some, refl, sym, subst, ap, ◌∙◌, arith}
 use Rattle.std.proofs.lemmas.Option.{same_Some}
 use Rattle.std.specs.List.{AllByRecursion}
 use Rattle.tag.specs.declared.tag.Tag.{Tag}
@@ -92,12 +92,7 @@ by_fetch : (number position : ℕ) (query fetch : Phase) (more : List Phase) (en
     (IsPath Move number (MoveQuery position) more end → MoveRest position more end) → (b : Bool) → lacks_pieces fetch ≡ b →
     IsPath Move number (after Move number (MoveFetch position (greatest_tag query.replies)) fetch.replies (lacks_pieces fetch)) more end →
     MoveRest position (query ∷ fetch ∷ more) end
-by_fetch number position query fetch more end ends asked fetched again true lacks path =
-    one_more position query fetch more end asked fetched lacks (again (subst (λ b. IsPath Move number
-    (after Move number (MoveFetch position (greatest_tag query.replies)) fetch.replies b) more end) lacks path))
-by_fetch number position query fetch more end ends asked fetched again false enough path =
-    put_of number position query fetch more end ends asked fetched enough (subst (λ b. IsPath Move number
-    (after Move number (MoveFetch position (greatest_tag query.replies)) fetch.replies b) more end) enough path)
+by_fetch number position query fetch more end ends asked fetched again b lacks path = grind (arith, one_more, put_of)
 
 move_rest : (number position : ℕ) (phases : List Phase) (end : Stage) → IsLast end → IsPath Move number (MoveQuery position) phases end →
     MoveRest position phases end

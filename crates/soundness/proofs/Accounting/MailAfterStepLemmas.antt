@@ -1,5 +1,5 @@
 -- What each step leaves in messages.
-use Rattle.std.proofs.Common.{◌≡◌, ℕ, suc, pred, ◌+◌, [], ◌∷◌, Option}
+use Rattle.std.proofs.Common.{◌≡◌, ℕ, pred, ◌+◌, [], ◌∷◌, Option}
 use Rattle.std.proofs.Common.{◌++◌, length, Some, ap, ◌∙◌, arith, slice_get}
 use Rattle.tag.specs.declared.tag.Tag.{Tag}
 use Rattle.layout.specs.Layout.{Layout}
@@ -19,8 +19,8 @@ use Rattle.record.specs.declared.call.CallKind.{CallKind}
 use Rattle.record.specs.declared.call.CallKind.TheVariants.{Move}
 use Rattle.record.specs.Records.{Call, Object, layout_at, bank_at, base_of}
 use Rattle.record.specs.Fragments.{Code}
-use Rattle.record.specs.Accounts.{position_bytes, stored, mailed, member_sum}
-use Rattle.record.specs.Sending.{sent_pieces, request_to, requests}
+use Rattle.record.specs.Accounts.{stored, mailed, member_sum}
+use Rattle.record.specs.Sending.{sent_pieces, request_to}
 use Rattle.record.specs.Steps.{new_call, with_phase, opened_banks, opened_object}
 use Rattle.record.specs.Steps.{called_object, moving_object, handled_object}
 use Rattle.record.specs.Steps.{repeated_object, asked_again}
@@ -31,11 +31,7 @@ use Rattle.soundness.proofs.Accounting.StoredBytesLemmas.{position-opened}
 
 -- an object that was just opened stores nothing, and nothing waits
 pub stored-opened : (layout : Layout) (delta : Option ℕ) (now server : ℕ) → stored (opened_object layout delta now) server ≡ 0
-stored-opened layout delta now server = more (position_bytes server layout.members (opened_banks layout.members 0 delta now))
-    (position-opened server layout.members layout.members 0 delta now)
-  where
-    more : (b : ℕ) → b ≡ 0 → b + 0 ≡ 0
-    more b e = omega arith
+stored-opened layout delta now server = grind (arith, position-opened)
 
 -- a request's bytes leave the mail, and its reply's come
 pub mailed-handled : (object : Object) (place : ℕ) (message : Message) (asked : Request) (now : ℕ) →
@@ -54,10 +50,7 @@ mailed-handled object place message asked now at is =
 pub mailed-with_phase : (object : Object) (index : ℕ) (call : Call) (kind : Kind) (position now : ℕ) (piece : ℕ → Piece) →
     mailed (with_phase object index call kind position now piece)
     ≡ mailed object + member_sum (λ i. request_bytes (request_to kind (piece i))) 0 (length (layout_at object position).members)
-mailed-with_phase object index call kind position now piece =
-    mail-append object.mail (requests call.id (suc (length call.phases)) kind position (layout_at object position).members 0 piece)
-    ∙ ap (λ n. mailed object + n)
-    (requests_bytes call.id (suc (length call.phases)) kind position (layout_at object position).members 0 piece)
+mailed-with_phase object index call kind position now piece = grind (arith, mail-append, requests_bytes)
 
 nothing_more : (a b c : ℕ) → a ≡ b + c → c ≡ 0 → a ≡ b
 nothing_more a b c e none = omega arith
@@ -91,8 +84,7 @@ mailed-moving object id layout now =
 pub mailed-asked_again : (fragment : Code) (object : Object) (call : Call) (phase : Phase) →
     mailed (asked_again fragment object call (Some phase))
     ≡ mailed object + mail_bytes (missing_requests object phase (sent_pieces fragment object call phase.position))
-mailed-asked_again fragment object call phase =
-    mail-append object.mail (missing_requests object phase (sent_pieces fragment object call phase.position))
+mailed-asked_again fragment object call phase = grind (arith, mail-append)
 
 -- a message that is repeated comes again
 pub mailed-repeated : (object : Object) (message : Message) →

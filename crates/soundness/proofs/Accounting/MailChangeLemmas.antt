@@ -2,7 +2,6 @@
 use Rattle.std.proofs.Common.{◌≡◌, ℕ, zero, suc, ◌+◌, Bool, true, false, cond, List, []}
 use Rattle.std.proofs.Common.{◌∷◌, Option, Some, None, is_some, refl, ap, arith, slice_get}
 use Rattle.std.specs.List.{remove}
-use Rattle.bank.specs.Answer.{answer_bytes}
 use Rattle.bank.specs.declared.kind.Kind.{Kind}
 use Rattle.mail.specs.declared.message.Message.{Message}
 use Rattle.mail.specs.declared.message.Body.{Body}
@@ -16,8 +15,8 @@ use Rattle.record.specs.Fragments.{Code}
 use Rattle.record.specs.Accounts.{mailed, some_bytes, reply_bytes, due_bytes, again_bytes}
 use Rattle.record.specs.Accounts.{supply_bytes, mailed_by, asked_bytes, told_bytes, unmailed_by}
 use Rattle.record.specs.Sending.{sent_pieces}
-use Rattle.record.specs.Steps.{called_object, moving_object, begun_object, advanced_object, settled_object, retired_object}
-use Rattle.record.specs.Steps.{answered_object, served_by, taken_object, taken_by, lost_object, repeated_object}
+use Rattle.record.specs.Steps.{begun_object, advanced_object, settled_object}
+use Rattle.record.specs.Steps.{answered_object, served_by, taken_by, lost_object, repeated_object}
 use Rattle.record.specs.Steps.{asked_again, supplied_by, supplied_object, Step, on_call, on_message, stepped}
 use Rattle.record.specs.Wants.{current_phase}
 use Rattle.mail.specs.declared.message.Body.TheVariants as body
@@ -27,38 +26,25 @@ use Rattle.soundness.proofs.Accounting.MessageBytesLemmas.{mail-cons, mail-remov
 
 -- Mail
 
-same_both : (a b : ℕ) → a ≡ b → a + 0 ≡ b + 0
-same_both a b e = omega arith
-
-more_left : (a b c : ℕ) → a ≡ b + c → a + 0 ≡ b + c
-more_left a b c e = omega arith
-
-more_right : (a b c : ℕ) → a + c ≡ b → a + c ≡ b + 0
-more_right a b c e = omega arith
-
 mail-remove_none : (mail : List Message) (place : ℕ) → slice_get mail place ≡ None →
     mail_bytes (remove mail place) ≡ mail_bytes mail
-mail-remove_none [] zero none = refl
-mail-remove_none [] (suc place) none = refl
 mail-remove_none (message ∷ mail) zero none = absurd (cc)
 mail-remove_none (message ∷ mail) (suc place) none =
     let rest = mail-remove_none mail place none in
     omega (arith, mail-cons message (remove mail place), mail-cons message mail, rest)
+mail-remove_none [] zero none = refl
+mail-remove_none [] (suc place) none = refl
 
 mailed-begun : (fragment : Code) (object : Object) (index : ℕ) (call : Call) (next : Option (Kind × ℕ)) (now : ℕ) →
     mailed (begun_object fragment object index call next now) + 0 ≡ mailed object + due_bytes fragment object call next
 mailed-begun fragment object index call None now = refl
 mailed-begun fragment object index call (Some next) now =
-    more_left (mailed (begun_object fragment object index call (Some next) now)) (mailed object)
-    (due_bytes fragment object call (Some next))
-    (mailed-with_phase object index call next.0 next.1 now (sent_pieces fragment object call next.1))
+    let e = mailed-with_phase object index call next.0 next.1 now (sent_pieces fragment object call next.1) in omega arith
 
 mailed-again : (fragment : Code) (object : Object) (call : Call) (phase : Option Phase) →
     mailed (asked_again fragment object call phase) + 0 ≡ mailed object + again_bytes fragment object call phase
 mailed-again fragment object call None = refl
-mailed-again fragment object call (Some phase) =
-    more_left (mailed (asked_again fragment object call (Some phase))) (mailed object) (again_bytes fragment object call (Some phase))
-    (mailed-asked_again fragment object call phase)
+mailed-again fragment object call (Some phase) = let e = mailed-asked_again fragment object call phase in omega arith
 
 mailed-supplied : (fragment : Code) (object : Object) (index : ℕ) (call : Call) (now : ℕ) (phase : Option Phase) →
     mailed (supplied_by fragment object index call now phase) + 0 ≡ mailed object + supply_bytes fragment object index call phase
@@ -80,18 +66,13 @@ mailed-on_call object (Some call) change bytes each = each call
 mailed-unchanged : (object : Object) (o : Option Call) (change : Call → Object) →
     ((call : Call) → mailed (change call) ≡ mailed object) → mailed (on_call object o change) + 0 ≡ mailed object + 0
 mailed-unchanged object None change each = refl
-mailed-unchanged object (Some call) change each = same_both (mailed (change call)) (mailed object) (each call)
+mailed-unchanged object (Some call) change each = let e = each call in omega arith
 
 mailed-taken_by : (object : Object) (place : ℕ) (message : Message) (now : ℕ) → slice_get object.mail place ≡ Some message →
     (b : Body) → message.body ≡ b → mailed (taken_by object place message b now) + told_bytes b ≡ mailed object + 0
 mailed-taken_by object place message now at (body.Request asked) is = refl
 mailed-taken_by object place message now at (body.Reply kind made) is =
-    weighed (mailed (taken_object object place message now)) (message_bytes message) (answer_bytes made.answer)
-    (mailed object) (ap body_bytes is)
-    (mail-remove object.mail place message at)
-  where
-    weighed : (a b c d : ℕ) → b ≡ c → a + b ≡ d → a + c ≡ d + 0
-    weighed a b c d e f = omega arith
+    let size = ap body_bytes is in let rest = mail-remove object.mail place message at in omega arith
 
 mailed-served_by : (object : Object) (place : ℕ) (message : Message) (now : ℕ) →
     slice_get object.mail place ≡ Some message → (b : Body) → message.body ≡ b →
@@ -102,13 +83,9 @@ mailed-served_by object place message now at (body.Reply kind made) is = refl
 -- What leaves the mail by a step and what comes make up its change
 pub mailed-stepped : (fragment : Code) (object : Object) (now : ℕ) (s : Step) →
     mailed (stepped fragment s now object) + unmailed_by object s ≡ mailed object + mailed_by fragment object s
-mailed-stepped fragment object now (Step.CallRead id) =
-    same_both (mailed (called_object object id Read now)) (mailed object) (mailed-called object id Read now)
-mailed-stepped fragment object now (Step.CallWrite id value) =
-    same_both (mailed (called_object object id (Write value) now)) (mailed object)
-    (mailed-called object id (Write value) now)
-mailed-stepped fragment object now (Step.CallMove id layout) = same_both (mailed (moving_object object id layout now)) (mailed object)
-    (mailed-moving object id layout now)
+mailed-stepped fragment object now (Step.CallRead id) = let e = mailed-called object id Read now in omega arith
+mailed-stepped fragment object now (Step.CallWrite id value) = let e = mailed-called object id (Write value) now in omega arith
+mailed-stepped fragment object now (Step.CallMove id layout) = let e = mailed-moving object id layout now in omega arith
 mailed-stepped fragment object now (Step.Advance index) =
     mailed-on_call object (slice_get object.calls index) (λ call. advanced_object fragment object index call now)
     (λ call. due_bytes fragment object call (due_of object index call))
@@ -147,14 +124,12 @@ mailed-stepped fragment object now (Step.Lose place) = found (slice_get object.m
   where
     found : (o : Option Message) → slice_get object.mail place ≡ o →
         mailed (lost_object object place) + some_bytes o message_bytes ≡ mailed object + 0
-    found None at = same_both (mailed (lost_object object place)) (mailed object) (mail-remove_none object.mail place at)
-    found (Some message) at =
-        more_right (mailed (lost_object object place)) (mailed object) (message_bytes message) (mail-remove object.mail place message at)
+    found None at = let e = mail-remove_none object.mail place at in omega arith
+    found (Some message) at = let e = mail-remove object.mail place message at in omega arith
 mailed-stepped fragment object now (Step.Repeat place) = found (slice_get object.mail place)
   where
     found : (o : Option Message) →
         mailed (on_message object o (λ message. repeated_object object message)) + 0 ≡ mailed object + some_bytes o message_bytes
     found None = refl
-    found (Some message) =
-        more_left (mailed (repeated_object object message)) (mailed object) (message_bytes message) (mailed-repeated object message)
-mailed-stepped fragment object now Step.Retire = same_both (mailed (retired_object object now)) (mailed object) refl
+    found (Some message) = let e = mailed-repeated object message in omega arith
+mailed-stepped fragment object now Step.Retire = refl

@@ -66,5 +66,4 @@ none_sum f none member (suc count) = let first = none member in let rest = none_
 -- only a pre-write sends pieces
 pub no_piece : (kind : Kind) → ((tag : Tag) → kind ≡ PreWrite tag → ⊥) → (piece : Piece) →
     request_bytes (request_to kind piece) ≡ 0
-no_piece (PreWrite tag) plain piece = absurd (plain tag refl)
-no_piece kind plain piece = refl
+no_piece kind plain piece = grind arith

@@ -48,8 +48,6 @@ retired_bytes bank now =
 -- nor do those of its position
 pub position-retired : (server : ℕ) (members : List ℕ) (banks : List Bank) (now : ℕ) →
     position_bytes server members (map (λ bank. retired_bank bank now) banks) ≡ 0
-position-retired server [] banks now = refl
-position-retired server (member ∷ members) [] now = refl
 position-retired server (member ∷ members) (bank ∷ banks) now =
     none (eqb member server) (bank_bytes (retired_bank bank now))
     (position_bytes server members (map (λ bank. retired_bank bank now) banks)) (retired_bytes bank now)
@@ -58,6 +56,7 @@ position-retired server (member ∷ members) (bank ∷ banks) now =
     none : (b : Bool) (n m : ℕ) → n ≡ 0 → m ≡ 0 → cond b n 0 + m ≡ 0
     none true n m e f = omega arith
     none false n m e f = omega arith
+position-retired server _ _ now = refl
 
 -- In sum over the servers, what they store at a position is what its banks store
 
@@ -99,10 +98,9 @@ pub sum_position : (servers : ℕ) (members : List ℕ) (banks : List Bank) → 
     AllByRecursion (λ server. server < servers) members →
     member_sum (λ server. position_bytes server members banks) 0 servers ≡ sum_by bank_bytes banks
 sum_position servers [] [] e all = no_sum 0 servers
-sum_position servers [] (bank ∷ banks) e all = absurd (omega arith)
-sum_position servers (member ∷ members) [] e all = absurd (omega arith)
 sum_position servers (member ∷ members) (bank ∷ banks) e all =
     let rest = sum_position servers members banks (omega arith) all.1 in
     let two = sum_two (λ server. for_server server member (bank_bytes bank)) (λ server. position_bytes server members banks) 0 servers in
     let one = sum_one member (bank_bytes bank) 0 servers (omega arith) (let h = all.0 in omega arith) in
     omega (arith, sum_by-cons bank_bytes bank banks)
+sum_position servers _ _ e all = absurd (omega arith)

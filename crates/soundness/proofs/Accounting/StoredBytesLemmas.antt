@@ -1,6 +1,6 @@
 -- The bytes that a server stores.
 use Rattle.std.proofs.Common.{◌≡◌, ℕ, zero, suc, ◌+◌, ◌<◌, ◌==◌, Bool, true, false, cond, List, []}
-use Rattle.std.proofs.Common.{◌∷◌, ◌++◌, length, set, get_or, Option, refl, sym, ap, ◌∙◌, arith}
+use Rattle.std.proofs.Common.{◌∷◌, ◌++◌, length, set, get_or, Option, refl, ap, ◌∙◌, arith}
 use Rattle.layout.specs.Layout.{Layout}
 use Rattle.bank.specs.Bank.{Bank, opened_bank}
 use Rattle.bank.specs.Bytes.{bank_bytes, added_bytes}
@@ -15,11 +15,7 @@ use Rattle.soundness.proofs.Sound.LeftBankLemmas.{SameBanks}
 -- Banks
 
 for_server-sum : (server other a b : ℕ) → for_server server other (a + b) ≡ for_server server other a + for_server server other b
-for_server-sum server other a b = go (other == server)
-  where
-    go : (c : Bool) → cond c (a + b) 0 ≡ cond c a 0 + cond c b 0
-    go true = refl
-    go false = refl
+for_server-sum server other a b = grind arith
 
 exchanged : (new rest old : ℕ) → new + rest + old ≡ old + rest + new
 exchanged new rest old = omega arith
@@ -32,8 +28,6 @@ position-set : (server : ℕ) (members : List ℕ) (banks : List Bank) (member :
     member < length members → member < length banks → position_bytes server members (set banks member bank)
     + for_server server (get_or members member 0) (bank_bytes (get_or banks member no_bank))
     ≡ position_bytes server members banks + for_server server (get_or members member 0) (bank_bytes bank)
-position-set server [] banks member bank m b = absurd (omega arith)
-position-set server (x ∷ members) [] member bank m b = absurd (omega arith)
 position-set server (x ∷ members) (old ∷ banks) zero bank m b =
     exchanged (for_server server x (bank_bytes bank)) (position_bytes server members banks) (for_server server x (bank_bytes old))
 position-set server (x ∷ members) (old ∷ banks) (suc member) bank m b =
@@ -44,14 +38,13 @@ position-set server (x ∷ members) (old ∷ banks) (suc member) bank m b =
     (for_server server (get_or members member 0) (bank_bytes (get_or banks member no_bank)))
     (for_server server (get_or members member 0) (bank_bytes bank))
     (position-set server members banks member bank below there)
+position-set server _ _ member bank m b = absurd (omega arith)
 
 -- other banks for a position
 pub stored-set : (server : ℕ) (layouts : List Layout) (banks : List (List Bank)) (position : ℕ) (row : List Bank) →
     position < length layouts → position < length banks → stored_bytes server layouts (set banks position row)
     + position_bytes server (get_or layouts position no_layout).members (get_or banks position [])
     ≡ stored_bytes server layouts banks + position_bytes server (get_or layouts position no_layout).members row
-stored-set server [] banks position row p b = absurd (omega arith)
-stored-set server (layout ∷ layouts) [] position row p b = absurd (omega arith)
 stored-set server (layout ∷ layouts) (old ∷ banks) zero row p b =
     exchanged (position_bytes server layout.members row) (stored_bytes server layouts banks) (position_bytes server layout.members old)
 stored-set server (layout ∷ layouts) (old ∷ banks) (suc position) row p b =
@@ -62,6 +55,7 @@ stored-set server (layout ∷ layouts) (old ∷ banks) (suc position) row p b =
     (position_bytes server (get_or layouts position no_layout).members (get_or banks position []))
     (position_bytes server (get_or layouts position no_layout).members row)
     (stored-set server layouts banks position row below there)
+stored-set server _ _ position row p b = absurd (omega arith)
 
 two_steps : (s t p q old new : ℕ) → s + p ≡ t + q → q + old ≡ p + new → s + old ≡ t + new
 two_steps s t p q old new e f = omega arith
@@ -72,14 +66,7 @@ pub stored-with_bank : (object : Object) (position member : ℕ) (bank : Bank) (
     member < length (get_or object.banks position []) → stored (with_bank object position member bank) server
     + for_server server (server_at object position member) (bank_bytes (bank_at object position member))
     ≡ stored object server + for_server server (server_at object position member) (bank_bytes bank)
-stored-with_bank object position member bank server p b m n =
-    two_steps (stored (with_bank object position member bank) server) (stored object server)
-    (position_bytes server (layout_at object position).members (get_or object.banks position []))
-    (position_bytes server (layout_at object position).members (set (get_or object.banks position []) member bank))
-    (for_server server (server_at object position member) (bank_bytes (bank_at object position member)))
-    (for_server server (server_at object position member) (bank_bytes bank))
-    (stored-set server object.layouts object.banks position (set (get_or object.banks position []) member bank) p b)
-    (position-set server (layout_at object position).members (get_or object.banks position []) member bank m n)
+stored-with_bank object position member bank server p b m n = grind (arith, position-set, stored-set, two_steps)
 
 -- what is there after a request, by what it adds and what it frees
 more_and_less : (s t old new added freed : ℕ) → s + old ≡ t + new → new + freed ≡ old + added → s + freed ≡ t + added
@@ -91,22 +78,11 @@ pub stored-served : (object : Object) (position member : ℕ) (asked : Request) 
     stored (with_bank object position member (served_bank (bank_at object position member) asked now)) server
     + for_server server (server_at object position member) (freed_bytes (bank_at object position member) asked now)
     ≡ stored object server + for_server server (server_at object position member) (added_bytes (bank_at object position member) asked)
-stored-served object position member asked now server p b m n =
-    let bank = bank_at object position member in
-    let new = served_bank bank asked now in
-    let there = for_server server (server_at object position member) in
-    more_and_less (stored (with_bank object position member new) server) (stored object server)
-    (there (bank_bytes bank)) (there (bank_bytes new)) (there (added_bytes bank asked)) (there (freed_bytes bank asked now))
-    (stored-with_bank object position member new server p b m n)
-    (sym (for_server-sum server (server_at object position member) (bank_bytes new) (freed_bytes bank asked now))
-    ∙ ap there (served_bytes bank asked now)
-    ∙ for_server-sum server (server_at object position member) (bank_bytes bank) (added_bytes bank asked))
+stored-served object position member asked now server p b m n = grind (arith, for_server-sum, more_and_less, served_bytes, stored-with_bank)
 
 -- banks that were just opened
 pub position-opened : (server : ℕ) (members servers : List ℕ) (member : ℕ) (delta : Option ℕ) (now : ℕ) →
     position_bytes server members (opened_banks servers member delta now) ≡ 0
-position-opened server [] servers member delta now = refl
-position-opened server (x ∷ members) [] member delta now = refl
 position-opened server (x ∷ members) (y ∷ servers) member delta now =
     let rest = position-opened server members servers (suc member) delta now in
     let first : for_server server x (bank_bytes (opened_bank member delta now)) ≡ 0 = ap (for_server server x)
@@ -121,13 +97,12 @@ position-opened server (x ∷ members) (y ∷ servers) member delta now =
 
     sum_none : (a b : ℕ) → a ≡ 0 → b ≡ 0 → a + b ≡ 0
     sum_none a b e f = omega arith
+position-opened server _ _ member delta now = refl
 
 stored-append : (server : ℕ) (layouts : List Layout) (banks : List (List Bank)) (layout : Layout) (row : List Bank) →
     length banks ≡ length layouts → stored_bytes server (layouts ++ layout ∷ []) (banks ++ row ∷ [])
     ≡ stored_bytes server layouts banks + position_bytes server layout.members row
 stored-append server [] [] layout row e = omega arith
-stored-append server [] (b ∷ banks) layout row e = absurd (omega arith)
-stored-append server (l ∷ layouts) [] layout row e = absurd (omega arith)
 stored-append server (l ∷ layouts) (b ∷ banks) layout row e =
     let rest = stored-append server layouts banks layout row (omega arith) in
     placed (position_bytes server l.members b)
@@ -136,22 +111,16 @@ stored-append server (l ∷ layouts) (b ∷ banks) layout row e =
   where
     placed : (a s t r : ℕ) → s ≡ t + r → a + s ≡ a + t + r
     placed a s t r e = omega arith
+stored-append server _ _ layout row e = absurd (omega arith)
 
 -- Each step, by the records that it leaves
 
 module _ (object : Object) (server : ℕ) where
   -- where layouts and banks are left as they are
   pub stored-left : (new : Object) → SameBanks object new → stored new server ≡ stored object server
-  stored-left new same =
-      ap (λ l. stored_bytes server l new.banks) same.0 ∙ ap (λ b. stored_bytes server object.layouts b) same.1
+  stored-left new same = grind arith
 
   -- a call of a move appends a position, whose banks store nothing
   pub stored-moving : (id : ℕ) (layout : Layout) (now : ℕ) → length object.banks ≡ length object.layouts →
       stored (moving_object object id layout now) server ≡ stored object server
-  stored-moving id layout now e =
-      stored-append server object.layouts object.banks layout (opened_banks layout.members 0 object.delta now) e
-      ∙ more (stored object server) (position_bytes server layout.members (opened_banks layout.members 0 object.delta now))
-      (position-opened server layout.members layout.members 0 object.delta now)
-    where
-      more : (a b : ℕ) → b ≡ 0 → a + b ≡ a
-      more a b e = omega arith
+  stored-moving id layout now e = grind (arith, position-opened, stored-append)

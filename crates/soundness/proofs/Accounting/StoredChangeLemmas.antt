@@ -5,7 +5,7 @@ use Rattle.mail.specs.declared.message.Body.{Body}
 use Rattle.record.specs.Records.{Object, base_of, layout_at}
 use Rattle.record.specs.Fragments.{Code}
 use Rattle.record.specs.Accounts.{stored, some_bytes, stored_by_body, stored_by, freed_by_body, freed_by}
-use Rattle.record.specs.Steps.{moving_object, served_by, Step, on_message, stepped}
+use Rattle.record.specs.Steps.{served_by, Step, on_message, stepped}
 use Rattle.soundness.specs.Sound.{IsPosted, IsSound}
 use Rattle.mail.specs.declared.message.Body.TheVariants as body
 use Rattle.soundness.proofs.Accounting.StoredBytesLemmas.{stored-served, stored-left, stored-moving, stored-set}
@@ -18,22 +18,18 @@ use Rattle.soundness.proofs.Accounting.RetiredBytesLemmas.{position-retired}
 
 -- Each step, by its name
 
-same_more : (a b : ℕ) → a ≡ b → a + 0 ≡ b + 0
-same_more a b e = omega arith
-
 -- A step adds to what a server stores the bytes that its bank adds where it serves a request, takes off those that it frees,
 -- and nothing else
 pub stored-changed : (fragment : Code) (object : Object) (step now : ℕ) (s : Step) (server : ℕ) → IsSound fragment object step →
     stored (stepped fragment s now object) server + freed_by object s now server ≡ stored object server + stored_by object s server
 stored-changed fragment object step now (Step.CallMove id layout) server sound =
-    same_more (stored (moving_object object id layout now) server) (stored object server)
-    (stored-moving object server id layout now sound.shape.banks)
+    let e = stored-moving object server id layout now sound.shape.banks in omega arith
 stored-changed fragment object step now (Step.Serve place) server sound = found (slice_get object.mail place) refl
   where
     by_body : (message : Message) → IsPosted object message → (b : Body) →
         stored (served_by object place message b now) server + freed_by_body object message b now server
         ≡ stored object server + stored_by_body object message b server
-    by_body message posted (body.Reply kind made) = same_more (stored object server) (stored object server) refl
+    by_body message posted (body.Reply kind made) = refl
     by_body message posted (body.Request asked) =
         let placed = posted_placed sound posted in
         let sizes = sound.shape.members message.position placed in
@@ -46,7 +42,7 @@ stored-changed fragment object step now (Step.Serve place) server sound = found 
         stored (on_message object o (λ message. served_by object place message message.body now)) server
         + some_bytes o (λ message. freed_by_body object message message.body now server)
         ≡ stored object server + some_bytes o (λ message. stored_by_body object message message.body server)
-    found None at = same_more (stored object server) (stored object server) refl
+    found None at = refl
     found (Some message) at = by_body message (all_get (IsPosted object) object.mail place message sound.mail at) message.body
 stored-changed fragment object step now Step.Retire server sound =
     let base = base_of object in
@@ -56,5 +52,4 @@ stored-changed fragment object step now Step.Retire server sound =
     let none = position-retired server (layout_at object base).members (get_or object.banks base []) now in
     omega arith
 stored-changed fragment object step now s server sound =
-    same_more (stored (stepped fragment s now object) server) (stored object server)
-    (stored-left object server (stepped fragment s now object) (banks_left fragment object now s tt))
+    let e = stored-left object server (stepped fragment s now object) (banks_left fragment object now s tt) in omega arith

@@ -1,6 +1,6 @@
 -- What a later quorum meets of an earlier one: tags that were put, pointers that were spread.
 use Rattle.std.proofs.Common.{◌≡◌, ℕ, ◌<◌, ◌≤◌, true, List, length}
-use Rattle.std.proofs.Common.{Some, refl, sym, subst, ap, ◌∙◌, arith, le_trans}
+use Rattle.std.proofs.Common.{Some, subst, ap, ◌∙◌, arith, le_trans}
 use Rattle.std.proofs.lemmas.List.{length-map}
 use Rattle.std.specs.List.{AllByRecursion}
 use Rattle.tag.specs.declared.tag.Tag.{Tag}
@@ -12,7 +12,7 @@ use Rattle.bank.specs.declared.reply.Answer.{Answer}
 use Rattle.phase.specs.declared.phase.Taken.{Taken}
 use Rattle.phase.specs.Phase.{Phase, members_of}
 use Rattle.record.specs.Records.{Object, layout_at, bank_at}
-use Rattle.bank.specs.declared.status.Status.TheVariants.{Unset, Pending, Final}
+use Rattle.bank.specs.declared.status.Status.TheVariants.{Unset, Final}
 use Rattle.bank.specs.declared.kind.Kind.TheVariants.{Next, Spread, Query, Finalize, Fetch}
 use Rattle.bank.specs.Knowledge.{finalized_at, HasFinalized, pointer_at, IsTrueAnswer}
 use Rattle.record.specs.Knowledge.{IsTrueReply, IsTruePhase}
@@ -43,29 +43,13 @@ SeenFinal object position step = (i : ℕ) × (pointer_at (bank_at object positi
 
 pub stored_later : (object : Object) (position : ℕ) (tag : Tag) (s u : ℕ) → s ≤ u → Stored object position tag s →
     Stored object position tag u
-stored_later object position tag s u h stored = record {
-  members = stored.members;
-  quorum = stored.quorum;
-  all = all_map (λ i e. came_by_later (finalized_at (bank_at object position i) tag) s u h e) _ stored.all;
-}
+stored_later object position tag s u h stored = grind (arith, all_map, came_by_later)
 
 pub pointed_later : (object : Object) (position : ℕ) (s u : ℕ) → s ≤ u → Pointed object position s → Pointed object position u
-pointed_later object position s u h pointed = record {
-  members = pointed.members;
-  quorum = pointed.quorum;
-  all = all_map (λ i e. le_trans e (pointer_later (bank_at object position i) s u h)) _ pointed.all;
-}
-
-rank_final : (status : Status) → 2 ≤ rank status → status ≡ Final
-rank_final Unset h = absurd (omega arith)
-rank_final Pending h = absurd (omega arith)
-rank_final Final h = refl
+pointed_later object position s u h pointed = grind (arith, all_map, le_trans, pointer_later)
 
 pub final_later : (object : Object) (position : ℕ) (s u : ℕ) → s ≤ u → SeenFinal object position s → SeenFinal object position u
-final_later object position s u h seen =
-    let bank = bank_at object position seen.0 in
-    let two : rank (pointer_at bank s) ≡ 2 = ap rank seen.1 in
-    (seen.0, rank_final (pointer_at bank u) (let more = pointer_later bank s u h in omega arith))
+final_later object position s u h seen = grind arith
 
 -- a complete phase
 pub lawful_at : (object : Object) (position : ℕ) → AllByRecursion IsLawful object.layouts → position < length object.layouts →
@@ -74,12 +58,7 @@ lawful_at object position all h = all_get_or IsLawful object.layouts position _ 
 
 pub phase_quorum : (object : Object) (phase : Phase) (end : ℕ) → IsTruePhase object phase → phase.end ≡ Some end →
     IsQuorum (layout_at object phase.position) (members_of phase.replies)
-phase_quorum object phase end truth e = record {
-  distinct = truth.one_each;
-  within = all_members (λ i. i < length (layout_at object phase.position).members) phase.replies
-      (all_map (λ reply r. r.within) _ truth.replies);
-  enough = rw (length-map phase.replies (λ (reply : Taken). reply.member)) ((truth.complete end e).0);
-}
+phase_quorum object phase end truth e = grind (arith, all_map, all_members, length-map)
 
 -- what each true answer says, and lasts, each member of the quorum knew at the end
 pub phase_knows : (object : Object) (phase : Phase) (end : ℕ) (Known : Bank → ℕ → Type 0) →
@@ -87,10 +66,7 @@ pub phase_knows : (object : Object) (phase : Phase) (end : ℕ) (Known : Bank �
     ((bank : Bank) (made : ℕ) (answer : Answer) → IsTrueAnswer bank made phase.kind answer → Known bank made) →
     IsTruePhase object phase → phase.end ≡ Some end →
     AllByRecursion (λ i. Known (bank_at object phase.position i) end) (members_of phase.replies)
-phase_knows object phase end Known lasts says truth e =
-    all_members (λ i. Known (bank_at object phase.position i) end) phase.replies
-    (all_both (λ reply r late. lasts (bank_at object phase.position reply.member) reply.reply.step end
-    (let order = r.in_order in omega arith) (says _ _ _ r.says)) _ truth.replies (truth.complete end e).1)
+phase_knows object phase end Known lasts says truth e = grind (arith, all_both, all_members)
 
 -- a member of any quorum answered the phase, after its start
 phase_meets : (object : Object) (phase : Phase) (end : ℕ) (members : List ℕ) (P : Taken → Type 0) →
@@ -98,12 +74,7 @@ phase_meets : (object : Object) (phase : Phase) (end : ℕ) (members : List ℕ)
     IsQuorum (layout_at object phase.position) members → AllByRecursion P phase.replies →
     (reply : Taken) × (IsTrueReply object phase reply × P reply) × (has members reply.member ≡ true)
 phase_meets object phase end members P lawful truth e quorate all =
-    let met = quorums_meet (layout_at object phase.position) members (members_of phase.replies)
-    (lawful_at object phase.position lawful truth.placed)
-    quorate (phase_quorum object phase end truth e) in
-    let found = reply_at (λ reply. IsTrueReply object phase reply × P reply) phase.replies met.0
-    (all_pairs (IsTrueReply object phase) P phase.replies truth.replies all) met.2 in
-    (found.0, found.1, subst (λ i. has members i ≡ true) (sym found.2) met.1)
+    grind (arith, all_pairs, lawful_at, phase_quorum, quorums_meet, reply_at)
 
 -- what a complete phase shows, by its kind
 
@@ -119,15 +90,11 @@ stored_by object phase end tag says truth e = record {
 
 pub stored_by_fin : (object : Object) (phase : Phase) (end : ℕ) (tag : Tag) → phase.kind ≡ Finalize tag →
     IsTruePhase object phase → phase.end ≡ Some end → Stored object phase.position tag end
-stored_by_fin object phase end tag k truth e =
-    stored_by object phase end tag
-    (λ bank made answer h. true_fin tag bank made answer (subst (λ kind. IsTrueAnswer bank made kind answer) k h)) truth e
+stored_by_fin object phase end tag k truth e = grind (arith, stored_by, true_fin)
 
 pub stored_by_fetch : (object : Object) (phase : Phase) (end : ℕ) (tag : Tag) → phase.kind ≡ Fetch tag →
     IsTruePhase object phase → phase.end ≡ Some end → Stored object phase.position tag end
-stored_by_fetch object phase end tag k truth e =
-    stored_by object phase end tag
-    (λ bank made answer h. true_fetch tag bank made answer (subst (λ kind. IsTrueAnswer bank made kind answer) k h)) truth e
+stored_by_fetch object phase end tag k truth e = grind (arith, stored_by, true_fetch)
 
 pub pointed_by_spread : (object : Object) (phase : Phase) (end : ℕ) (status : Status) → phase.kind ≡ Spread status →
     1 ≤ rank status → IsTruePhase object phase → phase.end ≡ Some end → Pointed object phase.position end

@@ -1,6 +1,7 @@
 -- What the replies of a phase tell of the banks that made them.
-use Rattle.std.proofs.Common.{◌≡◌, ℕ, zero, suc, ◌<◌, ◌≤◌, ◌⊎◌, Bool, true, false, cond, eqb, List, [], ◌∷◌}
-use Rattle.std.proofs.Common.{length, Option, Some, None, get_or, refl, subst, inl, inr, arith, le_trans, leb-true, le-leb, eqb-true}
+use Rattle.std.proofs.lemmas.Grind.{common_steps}
+use Rattle.std.proofs.Common.{◌≡◌, ℕ, ◌<◌, ◌≤◌, ◌⊎◌, Bool, true, cond, eqb, List, [], ◌∷◌}
+use Rattle.std.proofs.Common.{length, Option, get_or, subst, inl, inr, arith, le_trans, eqb-true}
 use Rattle.std.proofs.lemmas.Bool.{or_cases}
 use Rattle.std.specs.List.{AllByRecursion}
 use Rattle.tag.specs.declared.tag.Tag.{Tag}
@@ -11,35 +12,21 @@ use Rattle.bank.specs.Bank.{Bank}
 use Rattle.bank.specs.declared.reply.Answer.{Answer}
 use Rattle.phase.specs.declared.phase.Taken.{Taken}
 use Rattle.phase.specs.Phase.{members_of}
-use Rattle.bank.specs.declared.status.Status.TheVariants.{Unset, Pending, Final}
+use Rattle.bank.specs.declared.status.Status.TheVariants.{Final}
 use Rattle.bank.specs.declared.kind.Kind.TheVariants.{Next, Spread, Query, Finalize, Fetch}
-use Rattle.bank.specs.Knowledge.{came_by, pending_since, final_since, HasFinalized, pointer_at, IsTrueAnswer}
+use Rattle.bank.specs.Knowledge.{came_by, HasFinalized, pointer_at, IsTrueAnswer}
 use Rattle.record.specs.PhaseOrder.{shown_status, shown_tag, greatest_status, greatest_tag}
 use Rattle.bank.specs.declared.reply.Answer.TheVariants as answer
-use Rattle.soundness.proofs.StatusOrderLemmas.{rank, status_le-true, rank-later_left, rank-later_right}
-use Rattle.record.proofs.TagOrderLemmas.{IsAtMost, tag_lt-false, at_most_trans, later_tag-left, later_tag-right}
+use Rattle.soundness.proofs.StatusOrderLemmas.{rank, rank-later_left, rank-later_right}
+use Rattle.record.proofs.TagOrderLemmas.{IsAtMost, at_most_trans, later_tag-left, later_tag-right}
 
 -- knowledge lasts
 
 pub came_by_later : (o : Option ℕ) (s u : ℕ) → s ≤ u → came_by o s ≡ true → came_by o u ≡ true
-came_by_later None s u h e = e
-came_by_later (Some c) s u h e = let c_le : c ≤ s = leb-true c s e in le-leb c u (omega arith)
+came_by_later o s u h e = grind arith
 
 pub pointer_later : (bank : Bank) (s u : ℕ) → s ≤ u → rank (pointer_at bank s) ≤ rank (pointer_at bank u)
-pointer_later bank s u h =
-    let final = final_since bank.pointer in
-    let pending = pending_since bank.pointer in
-    go (came_by final s) (came_by final u) (came_by pending s) (came_by pending u) (came_by_later final s u h) (came_by_later pending s u h)
-  where
-    go : (a b c d : Bool) → (a ≡ true → b ≡ true) → (c ≡ true → d ≡ true) →
-        rank (cond a Final (cond c Pending Unset)) ≤ rank (cond b Final (cond d Pending Unset))
-    go true true c d p q = omega arith
-    go true false c d p q = absurd (let e : false ≡ true = p refl in cc)
-    go false true true d p q = omega arith
-    go false true false d p q = omega arith
-    go false false true true p q = omega arith
-    go false false true false p q = absurd (let e : false ≡ true = q refl in cc)
-    go false false false d p q = omega arith
+pointer_later bank s u h = grind arith
 
 -- members and their replies
 
@@ -53,9 +40,7 @@ all_at P (x ∷ xs) i all h = go (or_cases (eqb x i) (has xs i) h) (all_at P xs 
 
 pub all_get_or : {A : Type 0} (P : A → Type 0) (xs : List A) (i : ℕ) (d : A) → i < length xs →
     AllByRecursion P xs → P (get_or xs i d)
-all_get_or P [] i d h all = absurd (omega arith)
-all_get_or P (x ∷ xs) zero d h all = all.0
-all_get_or P (x ∷ xs) (suc i) d h all = let below : i < length xs = omega arith in all_get_or P xs i d below all.1
+all_get_or P xs i d h all = grind (arith, common_steps)
 
 pub all_members : (Q : ℕ → Type 0) (replies : List Taken) → AllByRecursion (λ reply. Q reply.member) replies →
     AllByRecursion Q (members_of replies)
@@ -76,28 +61,23 @@ reply_at P (reply ∷ replies) i all h = go (or_cases (eqb reply.member i) (has 
 
 pub true_next : (bank : Bank) (made : ℕ) (answer : Answer) → IsTrueAnswer bank made Next answer →
     pointer_at bank made ≡ shown_status answer
-true_next bank made (answer.Pointer status) h = h
-true_next bank made answer h = absurd h
+true_next bank made answer h = grind arith
 
 pub true_spread : (status : Status) (bank : Bank) (made : ℕ) (answer : Answer) → IsTrueAnswer bank made (Spread status) answer →
     rank status ≤ rank (pointer_at bank made)
-true_spread status bank made answer.Done h = status_le-true status (pointer_at bank made) h
-true_spread status bank made answer h = absurd h
+true_spread status bank made answer h = grind arith
 
 pub true_query : (bank : Bank) (made : ℕ) (answer : Answer) → IsTrueAnswer bank made Query answer → (tag : Tag) →
     HasFinalized bank tag made → IsAtMost tag (shown_tag answer)
-true_query bank made (answer.Greatest tag) h = λ other finalized. tag_lt-false tag other (h.1 other finalized)
-true_query bank made answer h = absurd h
+true_query bank made answer h = grind arith
 
 pub true_fin : (tag : Tag) (bank : Bank) (made : ℕ) (answer : Answer) → IsTrueAnswer bank made (Finalize tag) answer →
     HasFinalized bank tag made
-true_fin tag bank made answer.Done h = h
-true_fin tag bank made answer h = absurd h
+true_fin tag bank made answer h = grind arith
 
 pub true_fetch : (tag : Tag) (bank : Bank) (made : ℕ) (answer : Answer) → IsTrueAnswer bank made (Fetch tag) answer →
     HasFinalized bank tag made
-true_fetch tag bank made (answer.Piece piece) h = h.0
-true_fetch tag bank made answer h = absurd h
+true_fetch tag bank made answer h = grind arith
 
 -- the greatest of the replies
 
@@ -120,8 +100,7 @@ tags_below top (reply ∷ replies) h =
     )
 
 status_of_cond : (b : Bool) (s u : Status) → cond b s u ≡ Final → (s ≡ Final) ⊎ (u ≡ Final)
-status_of_cond true s u e = inl e
-status_of_cond false s u e = inr e
+status_of_cond b s u e = grind arith
 
 pub final_shown : (P : Taken → Type 0) (replies : List Taken) → greatest_status replies ≡ Final → AllByRecursion P replies →
     (reply : Taken) × P reply × (shown_status reply.reply.answer ≡ Final)

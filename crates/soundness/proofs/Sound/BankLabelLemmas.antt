@@ -1,5 +1,5 @@
 -- The label of a tag in a bank that serves, or opens.
-use Rattle.std.proofs.Common.{◌≡◌, ℕ, ◌⊎◌, Bool, true, false, cond}
+use Rattle.std.proofs.Common.{◌≡◌, ℕ, ◌⊎◌, Bool, true, false, cond, rules, arith}
 use Rattle.std.proofs.Common.{Option, Some, None, option_map, refl, sym, subst, ap, ◌∙◌, inl, inr}
 use Rattle.std.proofs.lemmas.Option.{same_Some}
 use Rattle.std.specs.FinMap as map
@@ -16,8 +16,8 @@ use Rattle.bank.specs.declared.row.Row.{Row}
 use Rattle.bank.specs.Bank.{Bank, finalized_label, row_after_pre_write, row_after_finalize, pre_written, finalized}
 use Rattle.bank.specs.Bank.{opening_row, opened_bank}
 use Rattle.bank.specs.Serve.{kind_of, served_bank}
-use Rattle.bank.specs.Collect.{emptied_row, collected, retired_bank}
-use Rattle.bank.specs.Knowledge.{since, is_dropped}
+use Rattle.bank.specs.Collect.{collected, retired_bank}
+use Rattle.bank.specs.Knowledge.{since}
 use Rattle.bank.proofs.CollectedBankLemmas.{get-collected}
 use Rattle.bank.proofs.RowChangeLemmas.{get-with_row}
 use Rattle.record.specs.Records.{no_bank}
@@ -83,12 +83,7 @@ pre_written_gives bank asked piece now tag label e =
 
 -- dropping pieces leaves the labels
 label-collected : (bank : Bank) (tag : Tag) → label_at (collected bank) tag ≡ label_at bank tag
-label-collected bank tag = ap row_label (get-collected bank tag) ∙ go (is_dropped bank tag) (map.get bank.rows tag)
-  where
-    go : (dropped : Bool) (row : Option Row) → row_label (option_map (λ r. cond dropped (emptied_row r) r) row) ≡ row_label row
-    go dropped None = refl
-    go true (Some row) = refl
-    go false (Some row) = refl
+label-collected bank tag = grind (arith, get-collected, row_label)
 
 pub served_gives : (bank : Bank) (asked : Request) (now : ℕ) (tag : Tag) (label : Label) →
     label_at (served_bank bank asked now) tag ≡ Some label →
@@ -118,8 +113,7 @@ served_gives bank asked now tag label e = inl e
 
 -- a bank that is retired keeps its labels
 pub retired_label : (bank : Bank) (now : ℕ) (tag : Tag) → label_at (retired_bank bank now) tag ≡ label_at bank tag
-retired_label bank now tag =
-    label-collected (record { rows = bank.rows; pointer = bank.pointer; delta = bank.delta; retired = since bank.retired now }) tag
+retired_label bank now tag = search (rules, label-collected)
 
 -- Banks that open
 

@@ -1,6 +1,6 @@
 -- A call is changed, and what is so of the others stays.
-use Rattle.std.proofs.Common.{◌≡◌, ℕ, zero, suc, ◌⊎◌, cond, List, [], ◌∷◌}
-use Rattle.std.proofs.Common.{take, set, Some, refl, sym, subst, ap, ◌∙◌, inl, inr, slice_get}
+use Rattle.std.proofs.Common.{◌≡◌, ℕ, zero, suc, cond, List, [], ◌∷◌, arith}
+use Rattle.std.proofs.Common.{take, set, Some, refl, sym, ap, ◌∙◌, slice_get}
 use Rattle.std.proofs.lemmas.Option.{same_Some}
 use Rattle.mail.specs.declared.message.Message.{Message}
 use Rattle.phase.specs.Phase.{Phase}
@@ -36,13 +36,7 @@ pub record Changed (old new : Call) : Type 0 where
       × (other.start ≡ phase.start)
 
 pub same_call : (call : Call) → Changed call call
-same_call call = record {
-  same_id = refl;
-  same_kind = refl;
-  same_called = refl;
-  same_answer = λ step e. e;
-  same_phases = λ place phase e. (phase, e, refl, refl, refl);
-}
+same_call call = grind arith
 
 -- what each call was before one was changed
 pub record Was (object : Object) (index : ℕ) (new : Call) : Type 0 where
@@ -52,10 +46,4 @@ pub record Was (object : Object) (index : ℕ) (new : Call) : Type 0 where
 
 pub was : (object : Object) (index : ℕ) (old new : Call) → slice_get object.calls index ≡ Some old → Changed old new →
     (i : ℕ) (c : Call) → slice_get (set object.calls index new) i ≡ Some c → Was object i c
-was object index old new at changed i c e = go (get_set object.calls index i old new c at e)
-  where
-    go : ((i ≡ index) × (new ≡ c)) ⊎ (slice_get object.calls i ≡ Some c) → Was object i c
-    go (inl here) =
-        subst (λ d. Was object i d) here.1
-        (record { old = old; at = subst (λ k. slice_get object.calls k ≡ Some old) (sym here.0) at; changed = changed })
-    go (inr there) = record { old = c; at = there; changed = same_call c }
+was object index old new at changed i c e = grind (arith, get_set, same_call)

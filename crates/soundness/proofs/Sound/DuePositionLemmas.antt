@@ -1,6 +1,6 @@
 -- Each phase that is due is due at a position that is there.
 use Rattle.std.proofs.Common.{◌≡◌, ℕ, zero, suc, ◌<◌, ◌≤◌, ◌⊎◌, Bool, true, false, cond, List, [], ◌∷◌}
-use Rattle.std.proofs.Common.{length, take, Option, Some, None, refl, sym, subst, ap, ◌∙◌, inl, inr, arith, slice_get}
+use Rattle.std.proofs.Common.{length, take, Some, refl, sym, subst, ap, ◌∙◌, inl, inr, arith, slice_get}
 use Rattle.std.proofs.lemmas.Option.{same_Some}
 use Rattle.std.specs.List.{AllByRecursion}
 use Rattle.bank.specs.declared.status.Status.{Status}
@@ -9,10 +9,10 @@ use Rattle.bank.specs.declared.kind.Kind.{Kind}
 use Rattle.phase.specs.declared.phase.Taken.{Taken}
 use Rattle.phase.specs.Phase.{Phase}
 use Rattle.record.specs.declared.call.CallKind.{CallKind}
-use Rattle.record.specs.Records.{Call, Object, bank_at, base_of}
-use Rattle.record.specs.declared.call.CallKind.TheVariants.{Read, Write, Move}
-use Rattle.bank.specs.Knowledge.{pointer_at, pending_since, final_since, status_le, IsTrueAnswer}
-use Rattle.record.specs.Knowledge.{IsTrueReply, IsTruePhase}
+use Rattle.record.specs.Records.{Call, Object, base_of}
+use Rattle.record.specs.declared.call.CallKind.TheVariants.{Move}
+use Rattle.bank.specs.Knowledge.{pointer_at}
+use Rattle.record.specs.Knowledge.{IsTruePhase}
 use Rattle.record.specs.PhaseOrder.{begun_at, shown_status, greatest_status, later_status}
 use Rattle.record.specs.Legal.{is_move, moves_in, first_stage, source_of, stage_of, due_of, IsLegal}
 use Rattle.soundness.specs.Sound.{HasNext, HasShape}
@@ -27,20 +27,10 @@ use Rattle.soundness.proofs.StatusOrderLemmas.{rank}
 -- what a bank's pointer shows
 pointer_names : (count position : ℕ) (bank : Bank) (step : ℕ) → HasNext count position bank → 1 ≤ rank (pointer_at bank step) →
     suc position < count
-pointer_names count position bank step next some = go (final_since bank.pointer) refl (pending_since bank.pointer) refl
-  where
-    go : (f : Option ℕ) → final_since bank.pointer ≡ f → (o : Option ℕ) → pending_since bank.pointer ≡ o →
-        suc position < count
-    go (Some came) e o d = next.final came e
-    go None e (Some came) d = next.pending came d
-    go None e None d = absurd (let none : 1 ≤ 0 = rw (e, d) at some in omega arith)
+pointer_names count position bank step next some = grind arith
 
 status_some : (s u : Status) → 1 ≤ rank (later_status s u) → (1 ≤ rank u) ⊎ (1 ≤ rank s)
-status_some s u h = go (status_le s u) h
-  where
-    go : (b : Bool) → 1 ≤ rank (cond b u s) → (1 ≤ rank u) ⊎ (1 ≤ rank s)
-    go true k = inl k
-    go false k = inr k
+status_some s u h = grind (arith, rank)
 
 some_shown : (P : Taken → Type 0) (replies : List Taken) → 1 ≤ rank (greatest_status replies) → AllByRecursion P replies →
     (reply : Taken) × P reply × (1 ≤ rank (shown_status reply.reply.answer))
@@ -56,18 +46,7 @@ some_shown P (reply ∷ replies) h all =
 
 phase_finds : (object : Object) → HasShape object → (phase : Phase) → IsTruePhase object phase →
     PhaseFinds (length object.layouts) phase
-phase_finds object shape phase truth = (
-  truth.placed,
-  λ k some.
-      let found = some_shown (IsTrueReply object phase) phase.replies some truth.replies in
-      let reply = found.0 in
-      let bank = bank_at object phase.position reply.member in
-      let shown =
-      ap rank (true_next bank reply.reply.step reply.reply.answer (subst
-      (λ kind. IsTrueAnswer bank reply.reply.step kind reply.reply.answer) k found.1.says)) in
-      pointer_names (length object.layouts) phase.position bank reply.reply.step (shape.next phase.position reply.member)
-      (let h = found.2 in omega arith),
-)
+phase_finds object shape phase truth = grind (arith, pointer_names, rank, some_shown, true_next)
 
 pub move_counted : (calls : List Call) (index : ℕ) (call : Call) → slice_get calls index ≡ Some call → call.kind ≡ Move →
     suc (moves_in (take index calls)) ≤ moves_in calls
@@ -86,9 +65,8 @@ move_counted (first ∷ calls) (suc index) call at k =
 
 first_placed : (object : Object) → HasShape object → (index : ℕ) (call : Call) → slice_get object.calls index ≡ Some call →
     (kind : CallKind) → call.kind ≡ kind → Placed (length object.layouts) (first_stage kind (source_of object index))
-first_placed object shape index call at Read k = let n = shape.positions in omega arith
-first_placed object shape index call at (Write value) k = let n = shape.positions in omega arith
 first_placed object shape index call at Move k = let n = shape.positions in let m = move_counted object.calls index call at k in omega arith
+first_placed object shape index call at _ k = let n = shape.positions in omega arith
 
 pub call_placed : (object : Object) → IsLegal object → HasShape object → (index : ℕ) (call : Call) →
     slice_get object.calls index ≡ Some call → Placed (length object.layouts) (stage_of object index call)

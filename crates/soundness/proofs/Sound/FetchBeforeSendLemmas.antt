@@ -1,11 +1,10 @@
 -- A call that sends pieces has fetched or written its value.
-use Rattle.std.proofs.Common.{◌≡◌, ℕ, zero, suc, ◌⊎◌, Bool, true, false, cond, eqb, List, []}
-use Rattle.std.proofs.Common.{◌∷◌, Option, Some, None, refl, sym, ap, ◌∙◌, inl, inr, slice_get}
+use Rattle.std.proofs.lemmas.Grind.{common_steps}
+use Rattle.std.proofs.Common.{◌≡◌, ℕ, zero, suc, ◌⊎◌, Bool, true, false, List, [], arith}
+use Rattle.std.proofs.Common.{◌∷◌, Option, Some, refl, sym, ap, ◌∙◌, inl, inr, slice_get}
 use Rattle.std.proofs.lemmas.Option.{same_Some}
 use Rattle.tag.specs.declared.tag.Tag.{Tag}
-use Rattle.tag.specs.Tag.{tag_lt, later_tag}
 use Rattle.bank.specs.declared.status.Status.{Status}
-use Rattle.bank.specs.declared.status.Status.TheVariants.{Unset}
 use Rattle.bank.specs.declared.kind.Kind.{Kind}
 use Rattle.bank.specs.declared.kind.Kind.TheVariants.{PreWrite, Fetch}
 use Rattle.phase.specs.declared.phase.Taken.{Taken}
@@ -13,7 +12,7 @@ use Rattle.phase.specs.Phase.{Phase, lacks_pieces}
 use Rattle.record.specs.declared.call.CallKind.{CallKind}
 use Rattle.record.specs.declared.call.CallKind.TheVariants.{Read, Write, Move}
 use Rattle.record.specs.PhaseOrder.{begun_at, greatest_status, greatest_tag, due, after, passed, stage_past, stage_after}
-use Rattle.record.specs.PhaseOrder.{IsCourse, after_next, after_spread, after_query, tagged}
+use Rattle.record.specs.PhaseOrder.{IsCourse, after_next, after_spread, after_query}
 use Rattle.record.specs.declared.stage.Stage.{Stage}
 use Rattle.record.specs.declared.stage.Stage.TheVariants.{ReadBegin, ReadNext, ReadSpread, QueryFrom, FetchAt, MoveSpread, MoveQuery}
 use Rattle.record.specs.declared.stage.Stage.TheVariants.{MoveFetch}
@@ -52,31 +51,14 @@ abbrev IsSendingDue : Stage → Type 0
 IsSendingDue stage = (tag : Tag) × (position : ℕ) × (due stage ≡ Some (PreWrite tag, position))
 
 unfetched_next : (p m : ℕ) (status : Status) → IsUnfetched (after_next status p m)
-unfetched_next p m Unset = tt
-unfetched_next p m status = tt
+unfetched_next p m status = grind arith
 
 unfetched_spread : (p m : ℕ) (status : Status) → IsUnfetched (after_spread status p m)
-unfetched_spread p m Unset = tt
-unfetched_spread p m status = tt
-
-unfetched_tagged : (kind : CallKind) → Fetches kind → (number q l : ℕ) (tag : Tag) → IsUnfetched (tagged kind number q l tag)
-unfetched_tagged Read fetches number q l tag = tt
-unfetched_tagged (Write value) fetches number q l tag = absurd fetches
-unfetched_tagged Move fetches number q l tag = tt
+unfetched_spread p m status = grind arith
 
 unfetched_query : (kind : CallKind) → Fetches kind → (number : ℕ) (found : Tag) (p l : ℕ) (greatest : Tag) (q : ℕ) →
     IsUnfetched (after_query kind number found p l greatest q)
-unfetched_query kind fetches number found p l greatest q = go (eqb p l)
-  where
-    later : Tag
-    later = later_tag greatest found
-
-    shown : ℕ
-    shown = cond (tag_lt found greatest) q p
-
-    go : (d : Bool) → IsUnfetched (cond d (tagged kind number shown l later) (QueryFrom (suc p) l later shown))
-    go true = unfetched_tagged kind fetches number shown l later
-    go false = tt
+unfetched_query kind fetches number found p l greatest q = grind arith
 
 unfetched_after : (kind : CallKind) → Fetches kind → (number : ℕ) (stage : Stage) (replies : List Taken) (lacks : Bool) →
     IsUnfetched stage →
@@ -96,23 +78,14 @@ unfetched_after kind fetches number stage replies lacks none = absurd none
 
 unfetched_passed : (kind : CallKind) → Fetches kind → (number : ℕ) (stage : Stage) (end : Option ℕ) (replies : List Taken) (lacks : Bool) →
     IsUnfetched stage → (IsFetchDue stage × (lacks ≡ false)) ⊎ IsUnfetched (passed kind number stage end replies lacks)
-unfetched_passed kind fetches number stage None replies lacks none = inr none
-unfetched_passed kind fetches number stage (Some end) replies lacks none = unfetched_after kind fetches number stage replies lacks none
+unfetched_passed kind fetches number stage end replies lacks none = grind (arith, unfetched_after)
 
 -- and it has not where its phase begins
 unfetched_begun : (stage : Stage) (position : ℕ) → IsUnfetched stage → IsUnfetched (begun_at stage position)
 unfetched_begun stage position none = begun_has (λ s. IsUnfetched s) stage position (λ first. tt) none
 
 unfetched_sends : (stage : Stage) → IsUnfetched stage → sends (due stage) ≡ false
-unfetched_sends ReadBegin none = refl
-unfetched_sends (ReadNext p m) none = refl
-unfetched_sends (ReadSpread p m s) none = refl
-unfetched_sends (QueryFrom p l t q) none = refl
-unfetched_sends (FetchAt q l t) none = refl
-unfetched_sends (MoveSpread p) none = refl
-unfetched_sends (MoveQuery p) none = refl
-unfetched_sends (MoveFetch p t) none = refl
-unfetched_sends stage none = absurd none
+unfetched_sends stage none = grind arith
 
 unfetched_due : (stage : Stage) → IsUnfetched stage → IsSendingDue stage → ⊥
 unfetched_due stage none (tag, position, e) = let no : false ≡ true = sym (unfetched_sends stage none) ∙ ap sends e in cc
@@ -128,10 +101,7 @@ pub record Fetched (phases : List Phase) : Type 0 where
 
 fetched_here : (phase : Phase) (phases : List Phase) (stage : Stage) → due stage ≡ Some (phase.kind, phase.position) →
     IsFetchDue stage → lacks_pieces phase ≡ false → Fetched (phase ∷ phases)
-fetched_here phase phases stage is (tag, position, e) enough =
-    let same : (phase.kind, phase.position)
-    ≡ (Fetch tag, position) = same_Some (phase.kind, phase.position) (Fetch tag, position) (sym is ∙ e) in
-    record { place = 0; phase = phase; within = refl; fetch = (tag, ap (λ (next : Kind × ℕ). next.0) same); enough = enough }
+fetched_here phase phases stage is known enough = grind (arith, common_steps, same_Some)
 
 fetched_from : {Still : Type 0} (phase : Phase) (phases : List Phase) (stage : Stage) →
     due stage ≡ Some (phase.kind, phase.position) → (IsFetchDue stage × (lacks_pieces phase ≡ false)) ⊎ Still →
@@ -178,5 +148,4 @@ fetched_before_sent kind fetches number (phase ∷ phases) stage course none (su
     (stage_past kind number stage phase) course.2 still place sent at pre)
 
 pub unfetched_first : (kind : CallKind) (moves : ℕ) → IsUnfetched (first_stage kind moves)
-unfetched_first Read moves = tt
-unfetched_first kind moves = tt
+unfetched_first kind moves = grind arith

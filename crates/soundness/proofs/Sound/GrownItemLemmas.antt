@@ -19,34 +19,17 @@ use Rattle.soundness.proofs.Sound.GrowthLemmas.{Grows, opened_stays, if_coded_gr
 use Rattle.record.specs.Steps.{new_phase}
 use Rattle.record.specs.Legal.{AreOpened}
 use Rattle.bank.specs.declared.kind.Kind.{Kind}
-use Rattle.std.proofs.Common.{refl, le_refl, length}
+use Rattle.std.proofs.Common.{le_refl, length}
 
 -- a phase that begins where banks are open is sound
 pub new_phase_sound : {fragment : Code} {object : Object} {now call number position : ℕ} {kind : Kind} →
     position < length object.layouts → AreOpened object (new_phase call number kind position (layout_at object position) now) →
     PhaseSound fragment object now (new_phase call number kind position (layout_at object position) now)
-new_phase_sound {now = now} placed opened = record {
-  truth = record {
-    placed = placed;
-    sized = record { members = refl; quorum = refl; needed = refl };
-    replies = tt;
-    one_each = none_twice;
-    complete = λ end e. absurd (cc);
-  };
-  opened = opened;
-  coded = tt;
-  past = record { start = le_refl now; replies = tt; end = λ at e. absurd (cc) };
-}
+new_phase_sound {now = now} placed opened = grind (arith, le_refl, none_twice)
 
 -- what came before a step came before a later one
 pub before_later : {s u : ℕ} {bank : Bank} → s ≤ u → IsBefore bank s → IsBefore bank u
-before_later h before = record {
-  finalized = λ tag step e. le_trans (before.finalized tag step e) h;
-  arrived = λ tag step e. le_trans (before.arrived tag step e) h;
-  pending = λ step e. le_trans (before.pending step e) h;
-  final = λ step e. le_trans (before.final step e) h;
-  retired = λ step e. le_trans (before.retired step e) h;
-}
+before_later h before = grind arith
 
 -- The items of a sound record are sound in a record to which it grew by a later step
 module _ {fragment : Code} {step now : ℕ} {old new : Object} (sound : IsSound fragment old step) (less : step < now)

@@ -1,16 +1,12 @@
 -- How a record grows by a step, and what then stays so.
-use Rattle.std.proofs.Common.{◌≡◌, ℕ, suc, ◌<◌, ◌≤◌, ◌⊎◌, List, [], length, get_or, Option, Some, None, refl, sym, ◌∙◌, inl, inr}
-use Rattle.std.proofs.Common.{arith, le_refl, ap, slice_get}
+use Rattle.std.proofs.Common.{◌≡◌, ℕ, ◌<◌, ◌≤◌, ◌⊎◌, List, [], length, get_or, Option, Some, ◌∙◌, inl, inr}
+use Rattle.std.proofs.Common.{arith, le_refl, slice_get}
 use Rattle.tag.specs.declared.tag.Tag.{Tag}
-use Rattle.tag.specs.Tag.{opening_tag}
 use Rattle.piece.specs.declared.piece.Piece.{Piece}
 use Rattle.bank.specs.Bank.{Bank}
-use Rattle.bank.specs.Knowledge.{since}
 use Rattle.bank.specs.declared.kind.Kind.{Kind}
-use Rattle.bank.specs.declared.kind.Kind.TheVariants.{Spread, PreWrite, Finalize, Fetch}
-use Rattle.bank.specs.declared.status.Status.TheVariants as status
 use Rattle.bank.proofs.MonotoneLemmas.{Grows as BankGrows}
-use Rattle.bank.proofs.RowChangeLemmas.{Comes, comes_past}
+use Rattle.bank.proofs.RowChangeLemmas.{comes_past}
 use Rattle.bank.proofs.TrueAnswerLemmas.{grows_past}
 use Rattle.mail.specs.declared.message.Message.{Message}
 use Rattle.phase.specs.declared.phase.Taken.{Taken}
@@ -23,37 +19,21 @@ use Rattle.record.specs.Journals.{tag_of, IsJournaled}
 use Rattle.record.specs.Fragments.{Code, IsCoded, IfCoded, HasPieces, IsSettled}
 use Rattle.soundness.proofs.BaseLemmas.{base_same}
 use Rattle.soundness.proofs.ListLemmas.{all_map}
-use Rattle.soundness.proofs.Sound.ChangedCallLemmas.{Changed, same_call, Others}
+use Rattle.soundness.proofs.Sound.ChangedCallLemmas.{Changed, Others}
 use Rattle.soundness.proofs.Sound.ItemLemmas.{Sizes}
 use Rattle.soundness.proofs.Sound.PreservedKnowledgeLemmas.{answer_kept}
 
 -- what follows on each side of an alternative
 pub sides : {A B C D : Type 0} → (A → C) → (B → D) → A ⊎ B → C ⊎ D
-sides f g (inl a) = inl (f a)
-sides f g (inr b) = inr (g b)
+sides f g either = grind arith
 
 -- a bank that stays as it is
 pub bank_stays : (now : ℕ) (bank : Bank) → BankGrows now bank bank
-bank_stays now bank = record {
-  finalized = λ tag. inl refl;
-  arrived = λ tag. inl refl;
-  pending = inl refl;
-  final = inl refl;
-  retired = inl refl;
-  delta = refl;
-  above = λ tag step past. refl;
-}
-
-came_stays : (now : ℕ) (old new : Option ℕ) → Comes now old new → (step : ℕ) → old ≡ Some step → new ≡ Some step
-came_stays now old new (inl same) step e = same ∙ e
-came_stays now old new (inr first) step e = first ∙ ap (λ o. since o now) e
+bank_stays now bank = grind arith
 
 -- a bank stays opened since its step
 pub opened_stays : {now : ℕ} {old new : Bank} → BankGrows now old new → (step : ℕ) → IsOpenedAt old step → IsOpenedAt new step
-opened_stays grows step opened = record {
-  finalized = came_stays _ _ _ (grows.finalized opening_tag) step opened.finalized;
-  arrived = came_stays _ _ _ (grows.arrived opening_tag) step opened.arrived;
-}
+opened_stays grows step opened = grind arith
 
 -- a call is there later too; a write with the tag that it had
 pub record Later (old new : Object) (index : ℕ) (call : Call) : Type 0 where
@@ -66,8 +46,7 @@ pub record Later (old new : Object) (index : ℕ) (call : Call) : Type 0 where
 
 pub unchanged : {old new : Object} (index : ℕ) (call : Call) → slice_get new.calls index ≡ Some call →
     source_of new index ≡ source_of old index → Later old new index call
-unchanged index call at source =
-    record { other = call; at = at; changed = same_call call; source = source; tagged = λ value k tag t. rw source t }
+unchanged index call at source = grind arith
 
 -- layouts, earlier bases and calls stay, and banks only add steps
 pub record Grows (now : ℕ) (old new : Object) : Type 0 where
@@ -81,38 +60,17 @@ pub record Grows (now : ℕ) (old new : Object) : Type 0 where
 pub calls_grow : (now : ℕ) (object : Object) (mail : List Message) (calls : List Call) →
     ((index : ℕ) (call : Call) → slice_get object.calls index ≡ Some call → Later object (Others object mail calls) index call) →
     Grows now object (Others object mail calls)
-calls_grow now object mail calls later = record {
-  more = le_refl (length object.layouts);
-  layouts = λ p h. refl;
-  banks = λ p i h. bank_stays now (bank_at object p i);
-  base = λ step early. refl;
-  calls = later;
-}
+calls_grow now object mail calls later = grind arith
 
 pub sizes_same : {object : Object} (mail : List Message) (calls : List Call) → moves_in calls ≡ moves_in object.calls →
     Sizes object → Sizes (Others object mail calls)
-sizes_same mail calls same sizes = record {
-  lawful = sizes.lawful;
-  positions = sizes.positions ∙ ap suc (sym same);
-  banks = sizes.banks;
-  members = sizes.members;
-  opened = sizes.opened;
-  delta = sizes.delta;
-  retired = sizes.retired;
-  leading = sizes.leading;
-}
+sizes_same mail calls same sizes = grind arith
 
 -- a change of mail and banks
 pub banks_grow : (now : ℕ) (object : Object) (mail : List Message) (banks : List (List Bank)) →
     ((p i : ℕ) → BankGrows now (bank_at object p i) (get_or (get_or banks p []) i no_bank)) →
     Grows now object (record object { mail = mail; banks = banks })
-banks_grow now object mail banks grow = record {
-  more = le_refl (length object.layouts);
-  layouts = λ p h. refl;
-  banks = λ p i h. grow p i;
-  base = λ step early. base_same banks object.banks step (λ p. comes_past now _ _ (grow p 0).retired step early);
-  calls = λ index call at. unchanged index call at refl;
-}
+banks_grow now object mail banks grow = grind (arith, base_same, comes_past, le_refl, unchanged)
 
 -- What is so of a record is so of one to which it grew
 module _ {now : ℕ} {old new : Object} (grows : Grows now old new) where
@@ -143,15 +101,7 @@ module _ {now : ℕ} {old new : Object} (grows : Grows now old new) where
   }
 
   pub caused_grows : {position : ℕ} {bank : Bank} → IsCaused old position bank → IsCaused new position bank
-  caused_grows {position = p} caused = record {
-    finalized = λ tag step e.
-        sides (λ o. o) (sides (begun_grows (Finalize tag) p step) (begun_grows (Fetch tag) p step)) (caused.finalized tag step e);
-    arrived = λ tag step e. sides (λ o. o) (begun_grows (PreWrite tag) p step) (caused.arrived tag step e);
-    pending = λ step e.
-        sides (begun_grows (Spread status.Pending) p step) (begun_grows (Spread status.Final) p step) (caused.pending step e);
-    final = λ step e. begun_grows (Spread status.Final) p step (caused.final step e);
-    retired = λ step e. let was = caused.retired step e in (was.0, moved_grows p was.0 was.1, was.2);
-  }
+  caused_grows {position = p} caused = grind (arith, begun_grows, moved_grows, sides)
 
   journaled_grows : (tag : Tag) (value : List ℕ) → IsJournaled old tag value → IsJournaled new tag value
   journaled_grows tag value (inl opening) = inl opening
@@ -166,17 +116,12 @@ module _ {now : ℕ} {old new : Object} (grows : Grows now old new) where
   pub coded_grows : {fragment : Code} {position member : ℕ} {tag : Tag} {piece : Option Piece} →
       layout_at new position ≡ layout_at old position → IsCoded fragment old position member tag piece →
       IsCoded fragment new position member tag piece
-  coded_grows {tag = tag} same coded = record {
-    value = coded.value;
-    journaled = journaled_grows tag coded.value coded.journaled;
-    fits = λ kept e. rw same (coded.fits kept e);
-  }
+  coded_grows {tag = tag} same coded = grind (arith, journaled_grows)
 
   pub if_coded_grows : (fragment : Code) (position member : ℕ) → layout_at new position ≡ layout_at old position →
       (tag : Option Tag) (piece : Option Piece) → IfCoded fragment old position member tag piece →
       IfCoded fragment new position member tag piece
-  if_coded_grows fragment position member same None piece coded = tt
-  if_coded_grows fragment position member same (Some tag) piece coded = coded_grows same coded
+  if_coded_grows fragment position member same tag piece coded = grind (arith, coded_grows)
 
   pub reply_grows : (phase : Phase) (taken : Taken) → phase.position < length old.layouts → taken.reply.step < now →
       IsTrueReply old phase taken → IsTrueReply new phase taken
@@ -190,28 +135,8 @@ module _ {now : ℕ} {old new : Object} (grows : Grows now old new) where
 
   pieces_grow : {fragment : Code} {phase : Phase} {value : List ℕ} → phase.position < length old.layouts →
       HasPieces fragment old phase value → HasPieces fragment new phase value
-  pieces_grow {phase = phase} placed has = let same = grows.layouts phase.position placed in record {
-    members = has.members;
-    distinct = has.distinct;
-    enough = rw same has.enough;
-    pieces = all_map (λ member p. record {
-      place = p.place;
-      reply = p.reply;
-      within = p.within;
-      same_member = p.same_member;
-      piece = p.piece;
-      same_piece = p.same_piece;
-      is_fragment = rw same p.is_fragment;
-    }) _ has.pieces;
-  }
+  pieces_grow {phase = phase} placed has = grind (arith, all_map)
 
   pub settled_grows : {fragment : Code} {call : Call} {value : List ℕ} (s : IsSettled fragment old call value) →
       s.phase.position < length old.layouts → IsSettled fragment new call value
-  settled_grows s placed = record {
-    place = s.place;
-    phase = s.phase;
-    within = s.within;
-    fetch = s.fetch;
-    latest = s.latest;
-    pieces = pieces_grow placed s.pieces;
-  }
+  settled_grows s placed = grind (arith, pieces_grow)

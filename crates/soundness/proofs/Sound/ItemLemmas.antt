@@ -1,4 +1,5 @@
 -- What is sound of each phase, call, bank and message, and of the calls and the positions together: a sound record.
+use Rattle.std.proofs.lemmas.Grind.{common_steps}
 use Rattle.std.proofs.Common.{◌≡◌, ℕ, suc, ◌<◌, ◌≤◌, true, List, [], length, get_or, ◌⊎◌, Some, None, IsSome, slice_get, arith}
 use Rattle.std.specs.List.{AllByRecursion}
 use Rattle.tag.specs.declared.tag.Tag.{Tag}
@@ -155,16 +156,7 @@ sound_of sizes in_turn calls banks mail = record {
 -- and it has each of them
 module _ {fragment : Code} {object : Object} {now : ℕ} (sound : IsSound fragment object now) where
   pub sizes_of : Sizes object
-  sizes_of = record {
-    lawful = sound.legal.layouts;
-    positions = sound.shape.positions;
-    banks = sound.shape.banks;
-    members = sound.shape.members;
-    opened = sound.shape.opened;
-    delta = sound.shape.delta;
-    retired = sound.shape.retired;
-    leading = sound.shape.leading;
-  }
+  sizes_of = grind arith
 
   pub turns_of : CallsInTurn object.calls
   turns_of = record { in_turn = sound.legal.in_turn; ids = sound.legal.ids; moves = sound.legal.moves }
@@ -216,9 +208,7 @@ module _ {fragment : Code} {object : Object} {now : ℕ} (sound : IsSound fragme
 
   -- the position of a posted message is there
   pub posted_placed : {message : Message} → IsPosted object message → message.position < length object.layouts
-  posted_placed posted =
-      let placed = ((call_of posted.index posted.call posted.at).phases posted.place posted.phase posted.within).truth.placed in
-      let same = posted.same_position in omega arith
+  posted_placed posted = grind (arith, common_steps, call_of)
 
   -- the base of a later step is that of now
   pub base_later : (later : ℕ) → now < later → base_at object later ≡ base_of object

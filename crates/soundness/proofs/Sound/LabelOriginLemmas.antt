@@ -1,6 +1,6 @@
 -- The label of a tag comes with a request for the tag, or with its bank's opening.
 use Rattle.std.proofs.Common.{◌≡◌, ℕ, zero, suc, ◌+◌, ◌<◌, ◌⊎◌, List, [], ◌∷◌, ◌++◌, length, get_or}
-use Rattle.std.proofs.Common.{Option, Some, None, refl, sym, subst, subst₂, ap, ◌∙◌, inl, inr, arith, slice_get}
+use Rattle.std.proofs.Common.{Some, refl, sym, subst, subst₂, ap, ◌∙◌, inl, inr, arith, slice_get}
 use Rattle.tag.specs.declared.tag.Tag.{Tag}
 use Rattle.layout.specs.Layout.{Layout}
 use Rattle.bank.specs.declared.request.Request.{Request}
@@ -9,12 +9,11 @@ use Rattle.bank.specs.Bank.{Bank}
 use Rattle.bank.specs.Bank.{opened_bank}
 use Rattle.bank.specs.Serve.{kind_of, served_bank}
 use Rattle.mail.specs.declared.message.Message.{Message}
-use Rattle.mail.specs.declared.message.Body.{Body}
 use Rattle.mail.specs.declared.message.Body.TheVariants as body
-use Rattle.record.specs.Records.{Object, bank_at, no_bank, base_of}
+use Rattle.record.specs.Records.{Object, bank_at, no_bank}
 use Rattle.record.specs.Fragments.{Code}
-use Rattle.soundness.specs.Sound.{IsPosted, IsPhasePast, IsCallPast, IsSound}
-use Rattle.record.specs.Steps.{Step, stepped, on_message, opened_banks, moving_object, handled_object, served_by, retired_object}
+use Rattle.soundness.specs.Sound.{IsPosted, IsSound}
+use Rattle.record.specs.Steps.{Step, stepped, opened_banks, moving_object, handled_object}
 use Rattle.soundness.specs.Origins.{label_at, Gives, ComesByRequest, ComesByOpening, ComesWithIts}
 use Rattle.soundness.proofs.ListLemmas.{all_get}
 use Rattle.soundness.proofs.Sound.KnownSinceLemmas.{bank_at_set}
@@ -22,19 +21,17 @@ use Rattle.soundness.proofs.Sound.LeftBankLemmas.{banks_left}
 use Rattle.soundness.proofs.Sound.OpenedObjectLemmas.{opened_get}
 use Rattle.soundness.proofs.Sound.RetiredBankLemmas.{retired_cases}
 use Rattle.soundness.proofs.Sound.BankLabelLemmas.{retired_label, served_gives, opened_label, unknown_label}
-use Rattle.bank.specs.Collect.{retired_bank}
 
 appended : {A : Type 0} (xs : List A) (y d : A) (i : ℕ) →
     (get_or (xs ++ y ∷ []) i d ≡ get_or xs i d) ⊎ ((i ≡ length xs) × (get_or (xs ++ y ∷ []) i d ≡ y))
 appended [] y d zero = inr (refl, refl)
-appended [] y d (suc i) = inl refl
-appended (x ∷ xs) y d zero = inl refl
 appended (x ∷ xs) y d (suc i) = go (appended xs y d i)
   where
     go : (get_or (xs ++ y ∷ []) i d ≡ get_or xs i d) ⊎ ((i ≡ length xs) × (get_or (xs ++ y ∷ []) i d ≡ y)) →
         (get_or (xs ++ y ∷ []) i d ≡ get_or xs i d) ⊎ ((suc i ≡ suc (length xs)) × (get_or (xs ++ y ∷ []) i d ≡ y))
     go (inl old) = inl old
     go (inr new) = inr (ap suc new.0, new.1)
+appended _ y d _ = inl refl
 
 module _ (fragment : Code) (object : Object) (last now position member : ℕ) (tag : Tag) (label : Label) (less : last < now)
     (sound : IsSound fragment object last) where
@@ -47,10 +44,7 @@ module _ (fragment : Code) (object : Object) (last now position member : ℕ) (t
   kept step new same e = inl (subst (λ banks. label_at (get_or (get_or banks position []) member no_bank) tag ≡ Some label) same e)
 
   started : (message : Message) (posted : IsPosted object message) → posted.phase.start < now
-  started message posted =
-      let call = all_get (IsCallPast last) object.calls posted.index posted.call sound.past.calls posted.at in
-      let phase = (all_get (IsPhasePast last) posted.call.phases posted.place posted.phase call.phases posted.within).start in
-      omega arith
+  started message posted = grind (arith, all_get)
 
   -- a bank serves what is asked
   handled : (place : ℕ) (message : Message) (asked : Request) → slice_get object.mail place ≡ Some message →
@@ -93,18 +87,7 @@ module _ (fragment : Code) (object : Object) (last now position member : ℕ) (t
 
   served : (place : ℕ) → label_at (bank_at (stepped fragment (Step.Serve place) now object) position member) tag ≡ Some label →
       Comes (Step.Serve place)
-  served place e = found (slice_get object.mail place) refl e
-    where
-      by_body : (message : Message) → slice_get object.mail place ≡ Some message → (b : Body) → message.body ≡ b →
-          label_at (bank_at (served_by object place message b now) position member) tag ≡ Some label → Comes (Step.Serve place)
-      by_body message at (body.Request asked) is e = handled place message asked at is e
-      by_body message at (body.Reply kind made) is e = inl e
-
-      found : (o : Option Message) → slice_get object.mail place ≡ o →
-          label_at (bank_at (on_message object o (λ message. served_by object place message message.body now)) position member) tag
-          ≡ Some label → Comes (Step.Serve place)
-      found None at e = inl e
-      found (Some message) at e = by_body message at message.body refl e
+  served place e = grind (arith, handled)
 
   -- a move opens the banks of one more position
   moved : (id : ℕ) (layout : Layout) → label_at (bank_at (moving_object object id layout now) position member) tag ≡ Some label →
@@ -138,16 +121,4 @@ module _ (fragment : Code) (object : Object) (last now position member : ℕ) (t
           (sym (ap (λ banks. label_at (get_or banks member no_bank) tag) new.1) ∙ e)
 
   pub labels_stepped : (step : Step) → ComesWithIts fragment object step now position member tag label
-  labels_stepped (Step.CallMove id layout) e = moved id layout e
-  labels_stepped (Step.Serve place) e = served place e
-  labels_stepped Step.Retire e = go (retired_cases object now position member)
-    where
-      new : Bank
-      new = bank_at (retired_object object now) position member
-
-      go : (new ≡ bank_at object position member)
-          ⊎ ((position ≡ base_of object) × (new ≡ retired_bank (bank_at object position member) now)) → Comes Step.Retire
-      go (inl same) = inl (sym (ap (λ bank. label_at bank tag) same) ∙ e)
-      go (inr at_base) =
-          inl (sym (ap (λ bank. label_at bank tag) at_base.1 ∙ retired_label (bank_at object position member) now tag) ∙ e)
-  labels_stepped step e = kept step (stepped fragment step now object) (banks_left fragment object now step tt).1 e
+  labels_stepped step e = grind (arith, banks_left, kept, moved, retired_cases, retired_label, served)

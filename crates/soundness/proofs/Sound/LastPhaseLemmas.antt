@@ -33,21 +33,18 @@ numbered_push call number (phase ∷ phases) next numbered c n =
     (numbered.0, numbered.1, numbered_push call (suc number) phases next numbered.2 c (let m = n in omega arith))
 
 pub begins_push : (phases : List Phase) (next : Phase) (step : ℕ) → BeginsAt phases step → BeginsAt (phases ++ next ∷ []) step
-begins_push [] next step begins = absurd begins
-begins_push (phase ∷ phases) next step begins = begins
+begins_push phases next step begins = grind arith
 
 -- the last phase is changed
 
 pub course_set : (kind : CallKind) (number : ℕ) (phases : List Phase) (stage : Stage) (place : ℕ) (old new : Phase) →
     IsCourse kind number stage phases → slice_get phases place ≡ Some old → suc place ≡ length phases → new.kind ≡ old.kind →
     new.position ≡ old.position → new.start ≡ old.start → IsCourse kind number stage (set phases place new)
-course_set kind number [] stage place old new course at last k p s = absurd (cc)
 course_set kind number (phase ∷ []) stage zero old new course at last k p s =
     let same = same_Some phase old at in
     let kinds : phase.kind ≡ new.kind = ap (λ (q : Phase). q.kind) same ∙ sym k in
     let positions : phase.position ≡ new.position = ap (λ (q : Phase). q.position) same ∙ sym p in
     (subst₂ (λ a b. due (begun_at stage b) ≡ Some (a, b)) kinds positions course.0, tt, tt)
-course_set kind number (phase ∷ []) stage (suc place) old new course at last k p s = absurd (cc)
 course_set kind number (phase ∷ next ∷ phases) stage zero old new course at last k p s = absurd (omega arith)
 course_set kind number (phase ∷ next ∷ phases) stage (suc zero) old new course at last k p s =
     let same = same_Some next old at in
@@ -65,6 +62,7 @@ course_set kind number (phase ∷ next ∷ phases) stage (suc (suc place)) old n
       (suc place) old new course.2 at
       (omega arith) k p s,
 )
+course_set kind number _ stage _ old new course at last k p s = absurd (cc)
 
 pub numbered_set : (call number : ℕ) (phases : List Phase) (place : ℕ) (old new : Phase) → AreNumbered call number phases →
     slice_get phases place ≡ Some old → new.call ≡ old.call → new.number ≡ old.number →
@@ -78,9 +76,7 @@ numbered_set call number (phase ∷ phases) (suc place) old new numbered at c n 
 
 pub begins_set : (phases : List Phase) (place step : ℕ) (old new : Phase) → BeginsAt phases step →
     slice_get phases place ≡ Some old → new.start ≡ old.start → BeginsAt (set phases place new) step
-begins_set [] place step old new begins at s = absurd begins
-begins_set (phase ∷ phases) zero step old new begins at s = s ∙ sym (ap (λ (q : Phase). q.start) (same_Some phase old at)) ∙ begins
-begins_set (phase ∷ phases) (suc place) step old new begins at s = begins
+begins_set phases place step old new begins at s = grind arith
 
 pub last_ended : (phases : List Phase) (step place : ℕ) (phase : Phase) → EndsBefore phases step →
     slice_get phases place ≡ Some phase → suc place ≡ length phases → (end : ℕ) × (phase.end ≡ Some end)

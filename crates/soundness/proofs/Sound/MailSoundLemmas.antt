@@ -4,12 +4,11 @@ use Rattle.std.proofs.Common.{◌∷◌, ◌++◌, length, Some, refl, inl, arit
 use Rattle.std.specs.List.{AllByRecursion, remove}
 use Rattle.piece.specs.declared.piece.Piece.{Piece}
 use Rattle.bank.specs.declared.kind.Kind.{Kind}
-use Rattle.bank.specs.declared.kind.Kind.TheVariants.{Next}
 use Rattle.bank.specs.Serve.{kind_of}
 use Rattle.mail.specs.declared.message.Message.{Message}
 use Rattle.phase.specs.Phase.{Phase}
 use Rattle.record.specs.Records.{Call, Object, layout_at}
-use Rattle.record.specs.Fragments.{Code, IfCoded, kind_tag, request_tag, request_piece}
+use Rattle.record.specs.Fragments.{Code, IfCoded, request_tag, request_piece}
 use Rattle.soundness.specs.Sound.{IsSound}
 use Rattle.record.specs.Sending.{request_to, requests, missing}
 use Rattle.record.specs.Steps.{lost_object, repeated_object}
@@ -33,10 +32,10 @@ mailed_sound {object = object} {now = now} mail sound less messages =
 
 -- a message is lost
 pub all_without : {A : Type 0} (P : A → Type 0) (xs : List A) (place : ℕ) → AllByRecursion P xs → AllByRecursion P (remove xs place)
-all_without P [] zero all = tt
-all_without P [] (suc place) all = tt
 all_without P (x ∷ xs) zero all = all.1
 all_without P (x ∷ xs) (suc place) all = (all.0, all_without P xs place all.1)
+all_without P [] zero all = tt
+all_without P [] (suc place) all = tt
 
 pub lost_sound : {fragment : Code} {object : Object} {step now : ℕ} (place : ℕ) → IsSound fragment object step → step < now →
     IsSound fragment (lost_object object place) now
@@ -58,12 +57,7 @@ request_message call phase kind position piece member =
 
 -- what such a request asks, and of which tag it speaks
 pub kind_of-request_to : (kind : Kind) (piece : Piece) → kind_of (request_to kind piece) ≡ kind
-kind_of-request_to Next piece = refl
-kind_of-request_to kind piece = refl
-
-pub request_tag-request_to : (kind : Kind) (piece : Piece) → request_tag (request_to kind piece) ≡ kind_tag kind
-request_tag-request_to Next piece = refl
-request_tag-request_to kind piece = refl
+kind_of-request_to kind piece = grind arith
 
 -- a request of a phase is sound where its tag and piece are coded
 pub request_sound : {fragment : Code} {object : Object} {now place : ℕ} {call : Call} (index : ℕ) (phase : Phase) (piece : ℕ → Piece)
@@ -72,24 +66,8 @@ pub request_sound : {fragment : Code} {object : Object} {now place : ℕ} {call 
     IfCoded fragment object phase.position member (request_tag (request_to phase.kind (piece member)))
     (request_piece (request_to phase.kind (piece member))) →
     MessageSound fragment object now (request_message phase.call phase.number phase.kind phase.position piece member)
-request_sound {place = place} {call = call} index phase piece member at within same_call same_phase below coded = record {
-  posted = record {
-    index = index;
-    call = call;
-    at = at;
-    same_call = same_call;
-    place = place;
-    phase = phase;
-    within = within;
-    same_phase = same_phase;
-    same_kind = kind_of-request_to phase.kind (piece member);
-    same_position = refl;
-    member = below;
-    reply = λ kind made b. absurd (cc);
-  };
-  past = λ kind made b. absurd (cc);
-  coded = coded;
-}
+request_sound {place = place} {call = call} index phase piece member at within same_call same_phase below coded =
+    grind (arith, kind_of-request_to)
 
 pub all_requests : (P : Message → Type 0) (call phase : ℕ) (kind : Kind) (position : ℕ) (piece : ℕ →
     Piece) (servers : List ℕ) (member total : ℕ) → member + length servers ≡ total →

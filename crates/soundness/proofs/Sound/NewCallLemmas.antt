@@ -1,12 +1,12 @@
 -- What is so before a call is added.
-use Rattle.std.proofs.Common.{◌≡◌, ℕ, zero, suc, ◌<◌, ◌≤◌, cond, List, [], ◌∷◌, ◌++◌, length}
-use Rattle.std.proofs.Common.{take, Option, Some, None, IsSome, refl, sym, subst, ap, ◌∙◌, arith, slice_get}
+use Rattle.std.proofs.lemmas.Grind.{common_steps}
+use Rattle.std.proofs.Common.{◌≡◌, ℕ, ◌<◌, ◌≤◌, List, [], ◌∷◌, ◌++◌, length}
+use Rattle.std.proofs.Common.{take, Option, Some, None, IsSome, arith, slice_get}
 use Rattle.layout.specs.Layout.{Layout}
 use Rattle.bank.specs.declared.kind.Kind.{Kind}
 use Rattle.record.specs.declared.call.CallKind.{CallKind}
 use Rattle.record.specs.Records.{Call, Object}
-use Rattle.record.specs.declared.call.CallKind.TheVariants.{Read}
-use Rattle.record.specs.Legal.{is_move, moves_in, first_stage}
+use Rattle.record.specs.Legal.{moves_in, first_stage}
 use Rattle.record.specs.Journals.{stage_tag}
 use Rattle.record.specs.Fragments.{Code, IfCoded, kind_tag, request_tag, request_piece}
 use Rattle.soundness.specs.Sound.{IsSound}
@@ -14,23 +14,17 @@ use Rattle.record.specs.Sending.{request_to}
 use Rattle.record.specs.Steps.{new_phase, new_call}
 use Rattle.bank.specs.Bank.{empty_piece}
 use Rattle.soundness.proofs.Sound.ItemLemmas.{call_of}
-use Rattle.soundness.proofs.Sound.MailSoundLemmas.{request_tag-request_to}
 
 pub moves_push : (calls : List Call) (call : Call) (i : ℕ) → i ≤ length calls →
     moves_in (take i (calls ++ call ∷ [])) ≡ moves_in (take i calls)
-moves_push [] call zero h = refl
-moves_push [] call (suc i) h = absurd (omega arith)
-moves_push (c ∷ calls) call zero h = refl
-moves_push (c ∷ calls) call (suc i) h = ap (λ m. cond (is_move c.kind) (suc m) m) (moves_push calls call i (omega arith))
+moves_push calls call i h = grind (arith, common_steps)
 
 pub take_all : (calls : List Call) → moves_in (take (length calls) calls) ≡ moves_in calls
-take_all [] = refl
-take_all (c ∷ calls) = ap (λ m. cond (is_move c.kind) (suc m) m) (take_all calls)
+take_all calls = grind (arith, common_steps)
 
 -- no call begins with a tag
 pub first_untagged : (kind : CallKind) (from : ℕ) → stage_tag (first_stage kind from) ≡ None
-first_untagged Read from = refl
-first_untagged kind from = refl
+first_untagged kind from = grind arith
 
 -- a call that begins
 abbrev pub begun : CallKind → (id now : ℕ) → Kind → (position : ℕ) → Layout → Call
@@ -47,6 +41,4 @@ answered_past sound less i a p (Some s) e some = (s, e, (let up = (call_of sound
 pub none_coded : (fragment : Code) (object : Object) (position member : ℕ) (asked : Kind) → kind_tag asked ≡ None →
     IfCoded fragment object position member (request_tag (request_to asked (empty_piece member)))
     (request_piece (request_to asked (empty_piece member)))
-none_coded fragment object position member asked untagged =
-    subst (λ o. IfCoded fragment object position member o (request_piece (request_to asked (empty_piece member))))
-    (sym (request_tag-request_to asked (empty_piece member) ∙ untagged)) tt
+none_coded fragment object position member asked untagged = grind arith

@@ -60,19 +60,7 @@ stage_push kind number (phase ∷ phases) stage next none =
 settled_pushed : (fragment : Code) (object : Object) (call : Call) (next : Phase) (value : List ℕ) → (IsFetch next.kind → ⊥) →
     IsSettled fragment object call value →
     IsSettled fragment object (record call { phases = call.phases ++ next ∷ [] }) value
-settled_pushed fragment object call next value other s = record {
-  place = s.place;
-  phase = s.phase;
-  within = get_push call.phases next s.phase s.place s.within;
-  fetch = s.fetch;
-  latest = λ later p e after fetch. go later p after fetch (get_pushed call.phases next p later e);
-  pieces = s.pieces;
-}
-  where
-    go : (later : ℕ) (p : Phase) → s.place < later → IsFetch p.kind →
-        (slice_get call.phases later ≡ Some p) ⊎ ((later ≡ length call.phases) × (next ≡ p)) → ⊥
-    go later p after fetch (inl there) = s.latest later p there after fetch
-    go later p after fetch (inr here) = other (subst (λ (q : Phase). IsFetch q.kind) (sym here.1) fetch)
+settled_pushed fragment object call next value other s = grind (arith, get_push, get_pushed)
 
 -- the phase that is due begins
 pub begun_sound : {fragment : Code} {object : Object} {step now : ℕ} → Determines fragment → IsSound fragment object step → step < now →

@@ -1,5 +1,5 @@
 -- An object that was just opened is sound.
-use Rattle.std.proofs.Common.{◌≡◌, ℕ, zero, suc, ◌+◌, ◌<◌, ◌⊎◌, ◌&&◌, not, Bool, true, false, cond, List, [], ◌∷◌}
+use Rattle.std.proofs.Common.{◌≡◌, ℕ, zero, suc, ◌+◌, ◌<◌, ◌⊎◌, Bool, true, false, cond, List, [], ◌∷◌}
 use Rattle.std.proofs.Common.{length, get_or, Option, Some, None, is_some, refl, sym, subst, ap, ◌∙◌, inl, inr, arith}
 use Rattle.std.proofs.lemmas.Option.{same_Some}
 use Rattle.tag.specs.declared.tag.Tag.{Tag}
@@ -9,7 +9,7 @@ use Rattle.layout.specs.Layout.{Layout, IsLawful}
 use Rattle.piece.specs.declared.piece.Piece.{Piece}
 use Rattle.bank.specs.declared.row.Row.{Row}
 use Rattle.bank.specs.Bank.{Bank, opening_row, empty_piece, opened_bank, piece_of, piece_of_row, knows}
-use Rattle.bank.specs.Knowledge.{row_finalized, row_arrived, is_dropped}
+use Rattle.bank.specs.Knowledge.{row_finalized, row_arrived}
 use Rattle.bank.proofs.PieceRetentionLemmas.{opened_collected}
 use Rattle.bank.proofs.RowChangeLemmas.{get-with_row}
 use Rattle.bank.proofs.TrueAnswerLemmas.{opened_before}
@@ -124,26 +124,12 @@ opened_caused object position member delta now = record {
 -- none is retired
 pub either_unretired : (delta : Option ℕ) (now member : ℕ) (bank : Bank) →
     (bank ≡ no_bank) ⊎ (bank ≡ opened_bank (0 + member) delta now) → bank.retired ≡ None
-either_unretired delta now member bank (inl none) = ap (λ (b : Bank). b.retired) none
-either_unretired delta now member bank (inr new) = ap (λ (b : Bank). b.retired) new
+either_unretired delta now member bank either = grind arith
 
 -- what is so of banks that are not there, and of banks that were just opened
 
 pub no_bank_sound : (fragment : Code) (object : Object) (now position member : ℕ) → BankSound fragment object now position member no_bank
-no_bank_sound fragment object now position member = record {
-  caused = no_bank_caused object position;
-  past = record {
-    finalized = λ tag step e. absurd (no_bank_gives row_finalized tag step refl e);
-    arrived = λ tag step e. absurd (no_bank_gives row_arrived tag step refl e);
-    pending = λ step e. absurd (cc);
-    final = λ step e. absurd (cc);
-    retired = λ step e. absurd (cc);
-  };
-  coded = λ tag known. absurd (let no : false ≡ true = sym (ap is_some (none_there tag)) ∙ known in cc);
-  next = record { pending = λ s e. absurd (cc); final = λ s e. absurd (cc) };
-  collected = λ tag. ap (λ row. is_some (piece_of_row row)) (none_there tag)
-      ∙ sym (ap (λ row. is_some (row_arrived row) && not (is_dropped no_bank tag)) (none_there tag));
-}
+no_bank_sound fragment object now position member = grind (arith, no_bank_caused, no_bank_gives, none_there)
 
 opened_piece : (member : ℕ) (delta : Option ℕ) (now : ℕ) (kept : Piece) → piece_of (opened_bank member delta now) opening_tag ≡ Some kept →
     empty_piece member ≡ kept

@@ -1,31 +1,24 @@
 -- A call whose complete fetch lacks pieces begins anew: a read reads the sequence from the first position, a move asks again.
-use Rattle.std.proofs.Common.{◌≡◌, ℕ, true, false, List, [], ◌∷◌, Some, refl, sym, subst, ap, ◌∙◌, slice_get}
+use Rattle.std.proofs.Common.{◌≡◌, ℕ, true, List, [], ◌∷◌, Some, sym, subst, ap, ◌∙◌, slice_get, arith}
 use Rattle.std.proofs.lemmas.Option.{same_Some}
 use Rattle.tag.specs.declared.tag.Tag.{Tag}
 use Rattle.bank.specs.declared.kind.Kind.{Kind}
-use Rattle.bank.specs.declared.kind.Kind.TheVariants.{Next, Query, Fetch}
+use Rattle.bank.specs.declared.kind.Kind.TheVariants.{Fetch}
 use Rattle.phase.specs.declared.phase.Taken.{Taken}
 use Rattle.phase.specs.Phase.{Phase, lacks_pieces}
 use Rattle.record.specs.declared.call.CallKind.{CallKind}
 use Rattle.record.specs.Records.{Call, Object, base_of}
 use Rattle.record.specs.PhaseOrder.{due, after, passed, stage_after, IsCourse, begun_at, stage_past}
 use Rattle.record.specs.declared.stage.Stage.{Stage}
-use Rattle.record.specs.declared.stage.Stage.TheVariants.{FetchAt}
-use Rattle.record.specs.declared.stage.Stage.TheVariants.{MoveFetch}
 use Rattle.record.specs.Legal.{first_stage, source_of, IsLegal, due_of}
 use Rattle.record.specs.Wants.{current_phase}
-use Rattle.soundness.proofs.Sound.DueKindLemmas.{fetches}
 use Rattle.soundness.proofs.Sound.WantCaseLemmas.{Unsettled}
 use Rattle.soundness.proofs.Sound.WantPreconditionLemmas.{Plain}
 
 -- after a fetch that lacks pieces a phase is due that sends none
 after_lacking : (kind : CallKind) (number : ℕ) (stage : Stage) (replies : List Taken) (tag : Tag) (position : ℕ) →
     due stage ≡ Some (Fetch tag, position) → (base : ℕ) → Plain (due (begun_at (after kind number stage replies true) base))
-after_lacking kind number (FetchAt q l t) replies tag position e base =
-    record { kind = Next; position = base; is_due = refl; not_pre = λ tag k. absurd (cc) }
-after_lacking kind number (MoveFetch p t) replies tag position e base =
-    record { kind = Query; position = p; is_due = refl; not_pre = λ tag k. absurd (cc) }
-after_lacking kind number stage replies tag position e base = absurd (let no : false ≡ true = ap fetches e in cc)
+after_lacking kind number stage replies tag position e base = grind arith
 
 last_lacking : (kind : CallKind) (number : ℕ) (phases : List Phase) (stage : Stage) (phase : Phase) (tag : Tag) (end : ℕ) →
     IsCourse kind number stage phases → current_phase phases ≡ Some phase → phase.end ≡ Some end → phase.kind ≡ Fetch tag →

@@ -1,14 +1,13 @@
 -- Retiring the base keeps a record sound.
 use Rattle.std.proofs.Common.{◌≡◌, ℕ, suc, ◌<◌, ◌≤◌, ◌⊎◌, List, [], length, map, get_or, slice_set}
-use Rattle.std.proofs.Common.{Some, None, refl, sym, subst, ap, ◌∙◌, inl, inr, arith, le_refl}
+use Rattle.std.proofs.Common.{Some, None, refl, ◌∙◌, inl, inr, arith, le_refl}
 use Rattle.std.proofs.lemmas.List.{length-set, length-map, get_or-map, get_or-set_same}
 use Rattle.std.proofs.lemmas.Bool.{cases_eq}
 use Rattle.bank.specs.Bank.{Bank}
 use Rattle.bank.specs.Collect.{retired_bank}
-use Rattle.bank.specs.Knowledge.{since}
 use Rattle.bank.proofs.MonotoneLemmas.{Grows as BankGrows, retired_grows}
 use Rattle.bank.proofs.PieceRetentionLemmas.{retired_collected}
-use Rattle.record.specs.Records.{Object, layout_at, bank_at, no_bank, retired_at, base_of}
+use Rattle.record.specs.Records.{Object, layout_at, bank_at, retired_at, base_of}
 use Rattle.record.specs.Legal.{IsMovedOut}
 use Rattle.record.specs.Fragments.{Code}
 use Rattle.record.specs.Steps.{retired_object}
@@ -48,72 +47,39 @@ module _ (fragment : Code) (object : Object) (step now : ℕ) (less : step < now
 
   -- the banks of the base are retired
   here : (i : ℕ) → i < length (layout_at object base).members → bank_at fresh base i ≡ retired_bank (bank_at object base i) now
-  here i h =
-      ap (λ banks. get_or banks i no_bank) changed_here
-      ∙ get_or-map (λ bank. retired_bank bank now) (get_or object.banks base []) i no_bank no_bank
-      (let m = sizes.members base below in omega arith)
+  here i h = grind (arith, base, below, changed_here, get_or-map, sizes)
 
   unretired : (i : ℕ) → i < length (layout_at object base).members → (bank_at object base i).retired ≡ None
   unretired i h = sizes.retired base i below h ∙ sizes.leading base (le_refl base)
 
   retired_now : (i : ℕ) → i < length (layout_at object base).members → (bank_at fresh base i).retired ≡ Some now
-  retired_now i h =
-      ap (λ (bank : Bank). bank.retired) (here i h) ∙ ap (λ o. since o now) (unretired i h)
+  retired_now i h = grind (arith, here, unretired)
 
   some_member : 0 < length (layout_at object base).members
-  some_member = let lawful = lawful_at object base sound.legal.layouts below in
-      let some = lawful.some in let enough = lawful.enough in omega arith
+  some_member = grind (arith, base, below, lawful_at)
 
   pub raised : base_of fresh ≡ suc base
-  raised =
-      base_raised object.banks changed now banks_below
-      (sym (ap (λ banks. (get_or banks 0 no_bank).retired) changed_here) ∙ retired_now 0 some_member)
-      (sizes.leading (suc base) (omega arith))
+  raised = grind (arith, banks_below, base, base_raised, changed, changed_here, retired_now, sizes, some_member)
 
   -- those of other positions stay
   apart : (p i : ℕ) → (p ≡ base → ⊥) → bank_at fresh p i ≡ bank_at object p i
-  apart p i other = go (retired_cases object now p i)
-    where
-      go : Cases object now p i → bank_at fresh p i ≡ bank_at object p i
-      go (inl same) = same
-      go (inr at_base) = absurd (other at_base.0)
+  apart p i other = grind (arith, fresh, retired_cases)
 
   retireds : (p i : ℕ) → p < length object.layouts → i < length (layout_at object p).members →
       (bank_at fresh p i).retired ≡ retired_at fresh p
-  retireds p i h k = go (cases_eq p base)
-    where
-      go : (p ≡ base) ⊎ (p ≡ base → ⊥) → (bank_at fresh p i).retired ≡ retired_at fresh p
-      go (inl same) =
-          subst (λ q. (bank_at fresh q i).retired ≡ retired_at fresh q) (sym same)
-          (retired_now i (subst (λ q. i < length (layout_at object q).members) same k) ∙ sym (retired_now 0 some_member))
-      go (inr other) =
-          ap (λ (bank : Bank). bank.retired) (apart p i other) ∙ sizes.retired p i h k
-          ∙ sym (ap (λ (bank : Bank). bank.retired) (apart p 0 other))
+  retireds p i h k = grind (arith, apart, base, cases_eq, fresh, retired_now, sizes, some_member)
 
   leading : (p : ℕ) → base_of fresh ≤ p → retired_at fresh p ≡ None
-  leading p h =
-      let r = raised in
-      ap (λ (bank : Bank). bank.retired) (apart p 0 (λ same. omega arith)) ∙ sizes.leading p (omega arith)
+  leading p h = grind (arith, apart, raised, sizes)
 
   grew : (p i : ℕ) → BankGrows now (bank_at object p i) (bank_at fresh p i)
-  grew p i = go (retired_cases object now p i)
-    where
-      go : Cases object now p i → BankGrows now (bank_at object p i) (bank_at fresh p i)
-      go (inl same) = rw same (bank_stays now (bank_at object p i))
-      go (inr at_base) = rw at_base.1 (retired_grows (bank_at object p i) now)
+  grew p i = grind (arith, bank_stays, fresh, retired_cases, retired_grows)
 
   grows : Grows now object fresh
   grows = banks_grow now object object.mail (slice_set object.banks base changed) grew
 
   members : (p : ℕ) → p < length object.layouts → length (get_or fresh.banks p []) ≡ length (layout_at object p).members
-  members p h = go (get_or_set object.banks base p changed [])
-    where
-      go : (get_or fresh.banks p [] ≡ get_or object.banks p []) ⊎ ((p ≡ base) × (get_or fresh.banks p [] ≡ changed)) →
-          length (get_or fresh.banks p []) ≡ length (layout_at object p).members
-      go (inl same) = ap length same ∙ sizes.members p h
-      go (inr at_base) =
-          ap length at_base.1 ∙ length-map (get_or object.banks base []) (λ bank. retired_bank bank now)
-          ∙ ap (λ q. length (get_or object.banks q [])) (sym at_base.0) ∙ sizes.members p h
+  members p h = grind (arith, base, changed, fresh, get_or_set, length-map, sizes)
 
   -- each bank of the base is sound, where the move out of it was answered
   banks : (answered : ℕ) → IsMovedOut object base answered → answered < now → (p i : ℕ) → Cases object now p i →

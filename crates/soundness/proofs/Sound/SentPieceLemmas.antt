@@ -8,7 +8,7 @@ use Rattle.bank.specs.declared.kind.Kind.{Kind}
 use Rattle.bank.specs.declared.kind.Kind.TheVariants.{PreWrite, Fetch}
 use Rattle.phase.specs.Phase.{Phase, lacks_pieces}
 use Rattle.record.specs.declared.call.CallKind.{CallKind}
-use Rattle.record.specs.declared.call.CallKind.TheVariants.{Read, Write, Move}
+use Rattle.record.specs.declared.call.CallKind.TheVariants.{Write}
 use Rattle.record.specs.Records.{Call, Object, layout_at, base_of}
 use Rattle.record.specs.PhaseOrder.{IsCourse}
 use Rattle.record.specs.declared.stage.Stage.{Stage}
@@ -89,9 +89,8 @@ pub sent_there : (fragment : Code) (object : Object) (step : ℕ) → IsSound fr
 sent_there fragment object step sound index call at takes = go call.kind refl
   where
     go : (kind : CallKind) → call.kind ≡ kind → IsSome (sent_value kind call.settled)
-    go Read is = settled_of fragment object step sound index call at (subst Fetches (sym is) tt) takes
     go (Write value) is = refl
-    go Move is = settled_of fragment object step sound index call at (subst Fetches (sym is) tt) takes
+    go _ is = settled_of fragment object step sound index call at (subst Fetches (sym is) tt) takes
 
 -- How many pieces
 
@@ -99,6 +98,4 @@ sent_there fragment object step sound index call at takes = go call.kind refl
 pub supply_counts : (object : Object) (index : ℕ) (call : Call) (k n : ℕ) → want_of object index call ≡ wants.Supply k n →
     (tag : Tag) × (position : ℕ) × (due_of object index call ≡ Some (PreWrite tag, position))
     × (k ≡ (layout_at object position).k) × (n ≡ length (layout_at object position).members)
-supply_counts object index call k n e =
-    let next = (supply_ready object index call k n e).1 in
-    (next.tag, next.position, next.is_due, next.pieces, next.members)
+supply_counts object index call k n e = grind (arith, supply_ready)

@@ -1,16 +1,14 @@
 -- What a bank of the record is after a request, and what it answers, as far as the journal's pieces go.
-use Rattle.std.proofs.Common.{◌≡◌, ℕ, suc, Bool, true, false, cond, Option, Some, None, IsSome}
-use Rattle.std.proofs.Common.{is_some, option_map, refl, sym, subst, ap, arith}
+use Rattle.std.proofs.Common.{◌≡◌, ℕ, suc, Bool, true, false, cond, Option, Some, None, IsSome, rules}
+use Rattle.std.proofs.Common.{is_some, refl, ap, arith}
 use Rattle.tag.specs.declared.tag.Tag.{Tag}
 use Rattle.piece.specs.declared.piece.Piece.{Piece}
-use Rattle.bank.specs.declared.row.Arrival.{Arrival}
 use Rattle.bank.specs.declared.row.Row.{Row}
 use Rattle.bank.specs.declared.request.Request.{Request}
-use Rattle.bank.specs.Bank.{Bank, filled_arrival, row_after_pre_write, row_after_finalize, pre_written, finalized, piece_of}
-use Rattle.bank.specs.Bank.{piece_that_came}
+use Rattle.bank.specs.Bank.{Bank, row_after_pre_write, row_after_finalize, pre_written, finalized, piece_of}
 use Rattle.bank.specs.Bank.{piece_of_row, knows}
-use Rattle.bank.specs.Collect.{emptied_arrival, emptied_row, collected, IsCollected, is_outside, retired_bank}
-use Rattle.bank.specs.Knowledge.{since, row_finalized, finalized_at, arrived_at, is_dropped, IsTrueAnswer}
+use Rattle.bank.specs.Collect.{emptied_row, collected, IsCollected, is_outside, retired_bank}
+use Rattle.bank.specs.Knowledge.{since, finalized_at, arrived_at, IsTrueAnswer}
 use Rattle.bank.specs.Facts.{IsBefore}
 use Rattle.bank.specs.Serve.{kind_of, greatest_final, served_bank, answer_to}
 use Rattle.bank.proofs.CollectedBankLemmas.{get-collected, finalized_at-collected, arrived_at-collected}
@@ -30,35 +28,24 @@ use Rattle.soundness.proofs.Sound.StagePositionLemmas.{KindPlaced}
 
 -- what is known once a request is served came by that step
 pub served_past : (bank : Bank) (asked : Request) (now : ℕ) → IsBefore bank now → IsBefore (served_bank bank asked now) (suc now)
-served_past bank asked now before =
-    grows_order bank (served_bank bank asked now) now (suc now) (served_grows bank asked now) (omega arith) before
+served_past bank asked now before = search (rules, grows_order, served_grows)
 
 -- a pointer that a request raises names the next position
 pub served_next : (count position : ℕ) (bank : Bank) (asked : Request) (now : ℕ) → KindPlaced count (kind_of asked) position →
     HasNext count position bank → HasNext count position (served_bank bank asked now)
-served_next count position bank request.Next now placed next = next
-served_next count position bank (request.Spread status) now placed next = record { pending = λ step e. placed; final = λ step e. placed }
-served_next count position bank request.Query now placed next = next
-served_next count position bank asked now placed next = record { pending = next.pending; final = next.final }
+served_next count position bank asked now placed next = grind arith
 
 -- what it answers is true of the bank that it leaves
 pub served_true : (bank : Bank) (asked : Request) (now step : ℕ) → IsBefore bank now → IsOpenedAt bank step → IsCollected bank →
     IsTrueAnswer (served_bank bank asked now) now (kind_of asked) (answer_to bank asked)
-served_true bank asked now step before opened collects =
-    served_truth bank asked now before (λ query. ap is_some opened.finalized) collects
+served_true bank asked now step before opened collects = grind (arith, served_truth)
 
 -- Pieces
 
 -- what holds of each tag with its row holds after pieces are dropped, where it holds without them
 collected_rows : (P : Tag → Option Row → Type 0) → ((t : Tag) (row : Row) → P t (Some row) → P t (Some (emptied_row row))) →
     (bank : Bank) → ((t : Tag) → P t (map.get bank.rows t)) → (t : Tag) → P t (map.get (collected bank).rows t)
-collected_rows P emptied bank all t =
-    subst (P t) (sym (get-collected bank t)) (go (map.get bank.rows t) (is_dropped bank t) (all t))
-  where
-    go : (row : Option Row) (dropped : Bool) → P t row → P t (option_map (λ r. cond dropped (emptied_row r) r) row)
-    go None dropped here = here
-    go (Some row) true here = emptied t row here
-    go (Some row) false here = here
+collected_rows P emptied bank all t = grind (arith, get-collected)
 
 module _ (fragment : Code) (object : Object) (position member : ℕ) where
   -- a tag that a bank knows is in the journal, with its piece
@@ -74,18 +61,11 @@ module _ (fragment : Code) (object : Object) (position member : ℕ) where
 
   pre_write_coded : (tag : Tag) (piece : Piece) (now : ℕ) → IsCoded fragment object position member tag (Some piece) →
       (row : Option Row) → RowCoded tag row → RowCoded tag (Some (row_after_pre_write row piece now))
-  pre_write_coded tag piece now new None coded some = new
-  pre_write_coded tag piece now new (Some row) coded some = go row.arrival (coded refl)
-    where
-      go : (arrival : Option Arrival) → IsCoded fragment object position member tag (piece_that_came arrival) →
-          IsCoded fragment object position member tag (piece_that_came (filled_arrival arrival piece now))
-      go None old = new
-      go (Some arrival) old = old
+  pre_write_coded tag piece now new row coded some = grind arith
 
   finalize_coded : (tag : Tag) (now : ℕ) → IsCoded fragment object position member tag None → (row : Option Row) →
       RowCoded tag row → RowCoded tag (Some (row_after_finalize row now))
-  finalize_coded tag now new None coded some = new
-  finalize_coded tag now new (Some row) coded some = coded refl
+  finalize_coded tag now new row coded some = grind arith
 
   finalized_coded : (bank : Bank) (tag : Tag) (now : ℕ) → IsCoded fragment object position member tag None → BankCoded bank →
       (t : Tag) → RowCoded t (map.get (with_row bank.rows tag (λ row. row_after_finalize row now)) t)
@@ -94,12 +74,7 @@ module _ (fragment : Code) (object : Object) (position member : ℕ) where
       (finalize_coded tag now new (map.get bank.rows tag) (coded tag)) coded
 
   emptied_coded : (tag : Tag) (row : Row) → RowCoded tag (Some row) → RowCoded tag (Some (emptied_row row))
-  emptied_coded tag row coded some = go row.arrival (coded refl)
-    where
-      go : (arrival : Option Arrival) → IsCoded fragment object position member tag (piece_that_came arrival) →
-          IsCoded fragment object position member tag (piece_that_came (emptied_arrival arrival))
-      go None old = old
-      go (Some arrival) old = without_piece tag arrival.piece old
+  emptied_coded tag row coded some = grind arith
 
   -- so is each tag that it knows after a request
   pub served_coded : (bank : Bank) (asked : Request) (now : ℕ) →
@@ -122,18 +97,12 @@ module _ (fragment : Code) (object : Object) (position member : ℕ) where
       (record { rows = bank.rows; pointer = bank.pointer; delta = bank.delta; retired = since bank.retired now }) coded
 
   finalized_known : (bank : Bank) (tag : Tag) → IsSome (finalized_at bank tag) → knows bank tag ≡ true
-  finalized_known bank tag some = go (map.get bank.rows tag) some
-    where
-      go : (row : Option Row) → IsSome (row_finalized row) → is_some row ≡ true
-      go None e = absurd (cc)
-      go (Some row) e = refl
+  finalized_known bank tag some = grind arith
 
   -- and what it answers
   pub answer_coded : (bank : Bank) (asked : Request) (step : ℕ) → IsOpenedAt bank step →
       IfCoded fragment object position member (request_tag asked) (request_piece asked) → BankCoded bank →
       IfCoded fragment object position member (answer_tag (kind_of asked) (answer_to bank asked)) (answer_piece (answer_to bank asked))
-  answer_coded bank request.Next step opened new coded = tt
-  answer_coded bank (request.Spread status) step opened new coded = tt
   answer_coded bank request.Query step opened new coded =
       let greatest = greatest_final_is bank (ap is_some opened.finalized) in
       without_piece (greatest_final bank) (piece_of bank (greatest_final bank))
@@ -151,23 +120,18 @@ module _ (fragment : Code) (object : Object) (position member : ℕ) where
           IsCoded fragment object position member tag (cond outside None piece)
       kept true piece here = new
       kept false piece here = here
+  answer_coded bank _ step opened new coded = tt
 
 -- what a request leaves as it is
 pub served-retired : (bank : Bank) (asked : Request) (now : ℕ) → (served_bank bank asked now).retired ≡ bank.retired
-served-retired bank request.Next now = refl
-served-retired bank asked now = refl
+served-retired bank asked now = grind arith
 
 -- A bank that is retired keeps labels and arrivals
 pub retired_finalized : (bank : Bank) (now : ℕ) (tag : Tag) → finalized_at (retired_bank bank now) tag ≡ finalized_at bank tag
-retired_finalized bank now tag =
-    finalized_at-collected
-    (record { rows = bank.rows; pointer = bank.pointer; delta = bank.delta; retired = since bank.retired now }) tag
+retired_finalized bank now tag = search (rules, finalized_at-collected)
 
 pub retired_arrived : (bank : Bank) (now : ℕ) (tag : Tag) → arrived_at (retired_bank bank now) tag ≡ arrived_at bank tag
-retired_arrived bank now tag =
-    arrived_at-collected
-    (record { rows = bank.rows; pointer = bank.pointer; delta = bank.delta; retired = since bank.retired now }) tag
+retired_arrived bank now tag = search (rules, arrived_at-collected)
 
 pub retired_past : (bank : Bank) (now : ℕ) → IsBefore bank now → IsBefore (retired_bank bank now) (suc now)
-retired_past bank now before =
-    grows_order bank (retired_bank bank now) now (suc now) (retired_grows bank now) (omega arith) before
+retired_past bank now before = search (rules, grows_order, retired_grows)

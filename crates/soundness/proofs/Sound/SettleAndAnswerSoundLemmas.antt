@@ -73,13 +73,7 @@ module _ {fragment : Code} {object : Object} {step now : ℕ} (sound : IsSound f
   marked = record call { answered = answered; settled = settled }
 
   changed : Changed call marked
-  changed = record {
-    same_id = refl;
-    same_kind = refl;
-    same_called = refl;
-    same_answer = λ step e. absurd (let no : None ≡ Some step = sym unanswered ∙ e in cc);
-    same_phases = λ place phase e. (phase, e, refl, refl, refl);
-  }
+  changed = grind arith
 
   marked_sound : ((step : ℕ) → answered ≡ Some step →
       (due (stage_of object index call) ≡ None) × EndsBefore call.phases step × (step ≤ now)) →

@@ -1,26 +1,19 @@
 -- The stages of a call are at positions that are there.
-use Rattle.std.proofs.Common.{◌≡◌, ℕ, zero, suc, ◌<◌, ◌≤◌, Bool, true, false, cond, eqb}
-use Rattle.std.proofs.Common.{List, [], ◌∷◌, Option, Some, None, refl, sym, subst, arith, le_refl, slice_get}
-use Rattle.std.proofs.lemmas.Bool.{cond_both, eqb-false}
+use Rattle.std.proofs.Common.{◌≡◌, ℕ, zero, suc, ◌<◌, ◌≤◌, Bool}
+use Rattle.std.proofs.Common.{List, [], ◌∷◌, Option, Some, None, sym, subst, arith, slice_get}
 use Rattle.std.proofs.lemmas.Option.{same_Some}
 use Rattle.std.specs.List.{AllByRecursion}
-use Rattle.tag.specs.declared.tag.Tag.{Tag}
-use Rattle.tag.specs.Tag.{tag_lt, later_tag}
-use Rattle.bank.specs.declared.status.Status.{Status}
 use Rattle.bank.specs.declared.kind.Kind.{Kind}
 use Rattle.phase.specs.declared.phase.Taken.{Taken}
 use Rattle.phase.specs.Phase.{Phase, lacks_pieces}
 use Rattle.record.specs.declared.call.CallKind.{CallKind}
-use Rattle.bank.specs.declared.status.Status.TheVariants.{Unset, Pending, Final}
 use Rattle.bank.specs.declared.kind.Kind.TheVariants.{Next, Spread}
-use Rattle.record.specs.declared.call.CallKind.TheVariants.{Read, Write, Move}
-use Rattle.record.specs.PhaseOrder.{begun_at, greatest_status, greatest_tag, due, after, passed, stage_past, stage_after}
-use Rattle.record.specs.PhaseOrder.{IsCourse, after_next, after_spread, after_query, after_again, tagged}
+use Rattle.record.specs.PhaseOrder.{begun_at, greatest_status, due, passed, stage_past, stage_after}
+use Rattle.record.specs.PhaseOrder.{IsCourse}
 use Rattle.record.specs.declared.stage.Stage.{Stage}
 use Rattle.record.specs.declared.stage.Stage.TheVariants.{ReadBegin, ReadNext, ReadSpread, QueryFrom, FetchAt, PreWriteAt}
 use Rattle.record.specs.declared.stage.Stage.TheVariants.{FinalizeAt, AgainNext, AgainSpread, MoveSpread, MoveQuery}
 use Rattle.record.specs.declared.stage.Stage.TheVariants.{MoveFetch, MovePreWrite, MoveFinalize, MoveFinal, Ended, Moved}
-use Rattle.record.proofs.BegunStageLemmas.{begun_has}
 use Rattle.soundness.proofs.StatusOrderLemmas.{rank}
 
 -- the positions of a stage are among `count` positions
@@ -53,21 +46,10 @@ DuePlaced count None = Unit {0}
 DuePlaced count (Some next) = KindPlaced count next.0 next.1
 
 pub due_placed : (count : ℕ) (stage : Stage) → Placed count stage → DuePlaced count (due stage)
-due_placed count (ReadNext p m) placed = placed.1
-due_placed count (ReadSpread p m s) placed = placed.1
-due_placed count (QueryFrom p l t q) placed = let a = placed.0 in let b = placed.2 in omega arith
-due_placed count (FetchAt q l t) placed = placed.0
-due_placed count (AgainNext l p t) placed = placed.1
-due_placed count (AgainSpread l p t s) placed = placed.1
-due_placed count (MoveQuery p) placed = omega arith
-due_placed count (MoveFetch p t) placed = omega arith
-due_placed count (Ended l t) placed = tt
-due_placed count (Moved p t) placed = tt
-due_placed count stage placed = placed
+due_placed count stage placed = grind arith
 
 pub kind_placed : (count : ℕ) (kind : Kind) (position : ℕ) → KindPlaced count kind position → position < count
-kind_placed count (Spread status) position placed = omega arith
-kind_placed count kind position placed = placed
+kind_placed count kind position placed = grind arith
 
 -- a pointer that a phase found names one of the positions
 abbrev pub Finds : (count : ℕ) → Kind → (position : ℕ) → List Taken → Type 0
@@ -77,64 +59,9 @@ abbrev DueFinds : (count : ℕ) → Option (Kind × ℕ) → List Taken → Type
 DueFinds count None replies = Unit {0}
 DueFinds count (Some next) replies = Finds count next.0 next.1 replies
 
-after_next_placed : (count p m : ℕ) (status : Status) → (1 ≤ rank status → suc p < count) → m ≤ p → p < count →
-    Placed count (after_next status p m)
-after_next_placed count p m Unset finds low below = (low, omega arith, below)
-after_next_placed count p m Pending finds low below = (low, finds (omega arith))
-after_next_placed count p m Final finds low below = (low, finds (omega arith))
-
-after_spread_placed : (count p m : ℕ) (status : Status) → m ≤ p → suc p < count → Placed count (after_spread status p m)
-after_spread_placed count p m Unset low below = (omega arith, below)
-after_spread_placed count p m status low below = (omega arith, below)
-
-after_again_placed : (count l p : ℕ) (tag : Tag) (status : Status) → (1 ≤ rank status → suc p < count) → l < count →
-    p < count → Placed count (after_again status l p tag)
-after_again_placed count l p tag Unset finds last below =
-    cond_both (eqb p l) (Ended l tag) (PreWriteAt p tag) (λ stage. Placed count stage) (λ e. tt) (λ e. below)
-after_again_placed count l p tag Pending finds last below = (last, finds (omega arith))
-after_again_placed count l p tag Final finds last below = (last, finds (omega arith))
-
-tagged_placed : (count : ℕ) (kind : CallKind) (number q l : ℕ) (tag : Tag) → q < count → l < count →
-    Placed count (tagged kind number q l tag)
-tagged_placed count Read number q l tag a b = (a, b)
-tagged_placed count (Write value) number q l tag a b = b
-tagged_placed count Move number q l tag a b = (a, b)
-
-query_placed : (count : ℕ) (kind : CallKind) (number : ℕ) (found : Tag) (p l : ℕ) (greatest : Tag) (q : ℕ) → p ≤ l →
-    q < count → l < count → Placed count (after_query kind number found p l greatest q)
-query_placed count kind number found p l greatest q low a b = go (tag_lt found greatest) (eqb p l) refl
-  where
-    go : (c d : Bool) → eqb p l ≡ d → Placed count (cond d (tagged kind number (cond c q p) l (later_tag greatest found))
-        (QueryFrom (suc p) l (later_tag greatest found) (cond c q p)))
-    go true true e = tagged_placed count kind number q l (later_tag greatest found) a b
-    go false true e = tagged_placed count kind number p l (later_tag greatest found) (omega arith) b
-    go true false e = let apart = eqb-false p l e in (omega (arith, apart), a, b)
-    go false false e = let apart = eqb-false p l e in (omega (arith, apart), omega arith, b)
-
-placed_after : (count : ℕ) (kind : CallKind) (number : ℕ) (stage : Stage) (replies : List Taken) (lacks : Bool) →
-    DueFinds count (due stage) replies → Placed count stage → Placed count (after kind number stage replies lacks)
-placed_after count kind number (ReadNext p m) replies lacks finds placed =
-    after_next_placed count p m (greatest_status replies) (finds refl) placed.0 placed.1
-placed_after count kind number (ReadSpread p m s) replies lacks finds placed = after_spread_placed count p m s placed.0 placed.1
-placed_after count kind number (QueryFrom p l t q) replies lacks finds placed =
-    query_placed count kind number (greatest_tag replies) p l t q placed.0 placed.1 placed.2
-placed_after count kind number (FetchAt q l t) replies true finds placed = omega arith
-placed_after count kind number (FetchAt q l t) replies false finds placed =
-    cond_both (eqb q l) (AgainNext l l t) (PreWriteAt l t) (λ stage. Placed count stage) (λ e. (placed.1, placed.1)) (λ e. placed.1)
-placed_after count kind number (FinalizeAt l t) replies lacks finds placed = (placed, placed)
-placed_after count kind number (AgainNext l p t) replies lacks finds placed =
-    after_again_placed count l p t (greatest_status replies) (finds refl) placed.0 placed.1
-placed_after count kind number (MoveFetch p t) replies true finds placed = placed
-placed_after count kind number (MoveFinal p t) replies lacks finds placed = tt
-placed_after count kind number (Ended l t) replies lacks finds placed = tt
-placed_after count kind number (Moved p t) replies lacks finds placed = tt
-placed_after count kind number stage replies lacks finds placed = placed
-
 placed_passed : (count : ℕ) (kind : CallKind) (number : ℕ) (stage : Stage) (end : Option ℕ) (replies : List Taken) (lacks : Bool) →
     DueFinds count (due stage) replies → Placed count stage → Placed count (passed kind number stage end replies lacks)
-placed_passed count kind number stage None replies lacks finds placed = placed
-placed_passed count kind number stage (Some end) replies lacks finds placed =
-    placed_after count kind number stage replies lacks finds placed
+placed_passed count kind number stage end replies lacks finds placed = grind arith
 
 abbrev pub PhaseFinds : (count : ℕ) → Phase → Type 0
 PhaseFinds count phase = (phase.position < count) × Finds count phase.kind phase.position phase.replies
@@ -142,8 +69,7 @@ PhaseFinds count phase = (phase.position < count) × Finds count phase.kind phas
 -- a stage whose phase begins at a position that is there
 pub placed_begun : (count : ℕ) (stage : Stage) (position : ℕ) → position < count → Placed count stage →
     Placed count (begun_at stage position)
-placed_begun count stage position below placed =
-    begun_has (λ s. Placed count s) stage position (λ first. (le_refl position, below)) placed
+placed_begun count stage position below placed = grind arith
 
 -- so is the stage after the phases of a course
 pub placed_end : (count : ℕ) (kind : CallKind) (number : ℕ) (phases : List Phase) (stage : Stage) →

@@ -1,7 +1,7 @@
 -- The call and the phase that take a reply.
-use Rattle.std.proofs.Common.{◌≡◌, ℕ, zero, suc, ◌+◌, ◌<◌, ◌≤◌, ◌⊎◌, Bool, true, false}
-use Rattle.std.proofs.Common.{cond, eqb, nat_lt, not, is_some, List, [], ◌∷◌, ◌++◌, length, set, Option, Some, None}
-use Rattle.std.proofs.Common.{refl, sym, subst, ap, ◌∙◌, inl, inr, arith, eqb-true, slice_get, ◌&&◌}
+use Rattle.std.proofs.Common.{◌≡◌, ℕ, zero, suc, ◌+◌, ◌<◌, ◌≤◌, ◌⊎◌, false}
+use Rattle.std.proofs.Common.{nat_lt, List, [], ◌∷◌, ◌++◌, length, set, Option, Some, None}
+use Rattle.std.proofs.Common.{refl, sym, subst, ap, ◌∙◌, inl, inr, arith, eqb-true, slice_get}
 use Rattle.std.proofs.lemmas.Bool.{cases_eq}
 use Rattle.std.proofs.lemmas.Bool.Decides.{nat_tests}
 use Rattle.std.proofs.lemmas.Option.{same_Some}
@@ -39,18 +39,17 @@ pub tag_set : (value : List ℕ) (kind : CallKind) → kind ≡ Write value → 
     slice_get phases place ≡ Some old → suc place ≡ length phases →
     old.end ≡ None → stage_tag (stage_after kind number stage phases) ≡ Some tag →
     stage_tag (stage_after kind number stage (set phases place new)) ≡ Some tag
-tag_set value kind k number [] stage of place old new tag at last none e = absurd (cc)
 tag_set value kind k number (first ∷ []) stage of zero old new tag at last none e =
     let end_is : first.end ≡ None = ap (λ (p : Phase). p.end) (same_Some first old at) ∙ none in
     (late_past kind number stage new tag
     (late_of_write stage of tag (sym (begun_tag stage first.position) ∙
     subst (λ o. stage_tag (passed kind number (begun_at stage first.position) o first.replies (lacks_pieces first)) ≡ Some tag)
     end_is e))).1
-tag_set value kind k number (first ∷ []) stage of (suc place) old new tag at last none e = absurd (cc)
 tag_set value kind k number (first ∷ next ∷ later) stage of zero old new tag at last none e = absurd (omega arith)
 tag_set value kind k number (first ∷ next ∷ later) stage of (suc place) old new tag at last none e =
     tag_set value kind k number (next ∷ later) (stage_past kind number stage first)
     (of_write_past value kind k number stage first of) place old new tag at (omega arith) none e
+tag_set value kind k number _ stage of _ old new tag at last none e = absurd (cc)
 
 -- the test on the replies is one on their members
 has-members_of : (replies : List Taken) (member : ℕ) → has (members_of replies) member ≡ has_taken replies member
@@ -78,40 +77,7 @@ pub record Recorded (phase : Phase) (call number : ℕ) (taken : Taken) (now : �
 pub take_result : (phase : Phase) (call number member : ℕ) (made : Reply) (now : ℕ) →
     (after_reply phase call number member made now ≡ phase) ⊎
     Recorded phase call number (record { member = member; reply = made; step = now }) now (after_reply phase call number member made now)
-take_result phase call number member made now =
-    go (eqb call phase.call) refl (eqb number phase.number) refl phase.end refl (has_taken phase.replies member) refl
-    (nat_lt (length phase.replies + 1) phase.quorum) refl
-  where
-    taken : Taken
-    taken = record { member = member; reply = made; step = now }
-
-    grown_to : Bool → Phase
-    grown_to short = grown_phase phase taken (cond (not short) (Some now) None)
-
-    go : (c : Bool) → eqb call phase.call ≡ c → (n : Bool) → eqb number phase.number ≡ n →
-        (o : Option ℕ) → phase.end ≡ o → (h : Bool) → has_taken phase.replies member ≡ h →
-        (s : Bool) → nat_lt (length phase.replies + 1) phase.quorum ≡ s →
-        (cond (c && (n && not (is_some o))) (cond h phase (grown_to s)) phase ≡ phase)
-        ⊎ Recorded phase call number taken now (cond (c && (n && not (is_some o))) (cond h phase (grown_to s)) phase)
-    go true c true m None d false e false f = inr (record {
-      same_call = eqb-true call phase.call c;
-      same_number = eqb-true number phase.number m;
-      open_phase = d;
-      fresh = has-members_of phase.replies member ∙ e;
-      end = Some now;
-      completes = λ step t. (sym (same_Some now step t), grind (arith, nat_tests, f));
-      grown = refl;
-    })
-    go true c true m None d false e true f = inr (record {
-      same_call = eqb-true call phase.call c;
-      same_number = eqb-true number phase.number m;
-      open_phase = d;
-      fresh = has-members_of phase.replies member ∙ e;
-      end = None;
-      completes = λ step t. absurd (cc);
-      grown = refl;
-    })
-    go c e n m o d h g s f = inl refl
+take_result phase call number member made now = grind (arith, eqb-true, grown_phase, has-members_of, nat_lt, nat_tests, same_Some)
 
 -- the last phase, which takes the message
 pub record TakesAt (phases : List Phase) (message : Message) (now : ℕ) : Type 0 where

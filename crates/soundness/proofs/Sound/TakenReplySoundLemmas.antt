@@ -1,17 +1,17 @@
 -- A reply that is taken, recorded or stale, keeps a record sound.
-use Rattle.std.proofs.Common.{◌≡◌, ℕ, suc, ◌+◌, ◌<◌, ◌⊎◌, List, length, set}
-use Rattle.std.proofs.Common.{Some, refl, sym, subst, subst₂, ap, ◌∙◌, inl, inr, arith, slice_get}
+use Rattle.std.proofs.Common.{◌≡◌, ℕ, suc, ◌+◌, ◌<◌, ◌⊎◌, length, set}
+use Rattle.std.proofs.Common.{Some, sym, subst, subst₂, ap, ◌∙◌, inl, inr, arith, slice_get}
 use Rattle.std.proofs.lemmas.Option.{same_Some}
 use Rattle.std.specs.List.{remove}
 use Rattle.bank.specs.declared.kind.Kind.{Kind}
 use Rattle.bank.specs.declared.reply.Reply.{Reply}
 use Rattle.mail.specs.declared.message.Message.{Message}
 use Rattle.phase.specs.Phase.{Phase, after_body, after_reply, after_take}
-use Rattle.record.specs.Records.{Call, Object, index_by_id}
+use Rattle.record.specs.Records.{Call, Object}
 use Rattle.record.specs.Legal.{IsLegal}
 use Rattle.record.specs.Fragments.{Code}
 use Rattle.soundness.specs.Sound.{IsPosted, IsSound}
-use Rattle.record.specs.Steps.{taking_phases, taken_object}
+use Rattle.record.specs.Steps.{taken_object}
 use Rattle.mail.specs.declared.message.Body.TheVariants as body
 use Rattle.soundness.proofs.ListLemmas.{all_get}
 use Rattle.soundness.proofs.Sound.CallIdLemmas.{found_by_id}
@@ -27,15 +27,7 @@ taken_is : (object : Object) → IsLegal object → (place : ℕ) (message : Mes
     slice_get object.calls index ≡ Some call → (takes : TakesAt call.phases message now) →
     taken_object object place message now ≡ WithCall object (remove object.mail place) index
     (record call { phases = set call.phases takes.place (after_take takes.phase message now) })
-taken_is object legal place message now index call c at takes =
-    let found : ℕ = index_by_id object.calls message.call in
-    let pc : found ≡ index = found_by_id object legal index call message.call c at in
-    let at' : slice_get object.calls found ≡ Some call = subst (λ i. slice_get object.calls i ≡ Some call) (sym pc) at in
-    let one : taken_object object place message now ≡ outcome found (taking_phases call.phases message now) = rw at' refl in
-    subst₂ (λ i phases. taken_object object place message now ≡ outcome i phases) pc takes.is one
-  where
-    outcome : ℕ → List Phase → Object
-    outcome i phases = WithCall object (remove object.mail place) i (record call { phases = phases })
+taken_is object legal place message now index call c at takes = grind (arith, found_by_id)
 
 pub taken_sound : {fragment : Code} {object : Object} {step now : ℕ} (place : ℕ) → IsSound fragment object step → step < now →
     (message : Message) (kind : Kind) (made : Reply) → slice_get object.mail place ≡ Some message →

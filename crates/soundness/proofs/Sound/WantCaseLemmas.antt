@@ -1,6 +1,6 @@
 -- What a call wants says how far it is: where its current phase is, and what is due.
 use Rattle.std.proofs.Common.{◌≡◌, ℕ, suc, ◌<◌, Bool, true, false, cond, List, [], ◌∷◌, length}
-use Rattle.std.proofs.Common.{Option, Some, None, IsSome, is_some, refl, sym, subst, ap, ◌∙◌, arith, slice_get}
+use Rattle.std.proofs.Common.{Option, Some, None, IsSome, is_some, refl, sym, ap, ◌∙◌, arith, slice_get}
 use Rattle.std.proofs.lemmas.Option.{same_Some}
 use Rattle.tag.specs.declared.tag.Tag.{Tag}
 use Rattle.bank.specs.declared.kind.Kind.{Kind}
@@ -86,8 +86,7 @@ Says object call next (wants.Supply k n) = Ready call × Sending object next k n
 Says object call next wants.Answer = Ready call × (next ≡ None)
 
 pub fetch_is : (kind : Kind) → is_fetch kind ≡ true → IsFetch kind
-fetch_is (Fetch tag) e = (tag, refl)
-fetch_is kind e = absurd (cc)
+fetch_is kind e = grind arith
 
 is_fetch_of : (kind : Kind) → IsFetch kind → is_fetch kind ≡ true
 is_fetch_of kind fetch = rw fetch.1 refl
@@ -109,8 +108,7 @@ module _ (object : Object) (call : Call) (next : Option (Kind × ℕ)) where
 
   settled_says : (last : PhaseEnded call) → IsFetch last.phase.kind → (s : Option (List ℕ)) → call.settled ≡ s →
       Says object call next (cond (is_some s) (want_for object next) (want_of_fetch object last.phase))
-  settled_says last fetch None s = lacking_says last fetch s (lacks_pieces last.phase) refl
-  settled_says last fetch (Some value) s = due_says next refl (record { last = last; settled = λ f. ap is_some s })
+  settled_says last fetch s is = grind (arith, due_says, lacking_says)
 
   ended_says : (last : PhaseEnded call) → (f : Bool) → is_fetch last.phase.kind ≡ f → Says object call next
       (cond f (cond (is_some call.settled) (want_for object next) (want_of_fetch object last.phase)) (want_for object next))
@@ -132,16 +130,12 @@ module _ (object : Object) (call : Call) (next : Option (Kind × ℕ)) where
 
   current_says : call.answered ≡ None → (p : Option Phase) → current_phase call.phases ≡ p →
       Says object call next (want_after object next call.settled p)
-  current_says unanswered None p =
-      record { open_call = unanswered; unended = λ other c. absurd (let no : None ≡ Some other = sym p ∙ c in cc) }
-  current_says unanswered (Some phase) p = phase_says unanswered phase p phase.end refl
+  current_says unanswered p is = grind (arith, phase_says)
 
   want_says : (a : Option ℕ) → call.answered ≡ a →
       Says object call next (cond (is_some a) wants.Done (want_after object next call.settled (current_phase call.phases)))
-  want_says None a = current_says a (current_phase call.phases) refl
-  want_says (Some step) a = tt
+  want_says a is = grind (arith, current_says)
 
 pub says : (object : Object) (index : ℕ) (call : Call) (want : Want) → want_of object index call ≡ want →
     Says object call (due_of object index call) want
-says object index call want e =
-    subst (Says object call (due_of object index call)) e (want_says object call (due_of object index call) call.answered refl)
+says object index call want e = grind (arith, want_says)

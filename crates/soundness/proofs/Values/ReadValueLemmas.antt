@@ -30,7 +30,6 @@ use Rattle.record.proofs.Phases.PastFetchLemmas.{IsLateWith, fetch_due, late_sta
 pub fetched_tag : (kind : CallKind) (number : ℕ) (phases : List Phase) (stage : Stage) → IsCourse kind number stage phases →
     (place : ℕ) (phase : Phase) (tag : Tag) → slice_get phases place ≡ Some phase → phase.kind ≡ Fetch tag →
     lacks_pieces phase ≡ false → stage_tag (stage_after kind number stage phases) ≡ Some tag
-fetched_tag kind number [] stage course place phase tag at e enough = absurd (cc)
 fetched_tag kind number (first ∷ []) stage course zero phase tag at e enough = by_end first.end refl
   where
     by_end : (o : Option ℕ) → first.end ≡ o → stage_tag (stage_after kind number stage (first ∷ [])) ≡ Some tag
@@ -41,7 +40,6 @@ fetched_tag kind number (first ∷ []) stage course zero phase tag at e enough =
     by_end (Some end) h =
         subst (λ o. stage_tag (passed kind number (begun_at stage first.position) o first.replies (lacks_pieces first)) ≡ Some tag) (sym h)
         ((first_late kind number (begun_at stage first.position) first phase tag course.0 (same_Some first phase at) e enough).1)
-fetched_tag kind number (first ∷ []) stage course (suc place) phase tag at e enough = absurd (cc)
 fetched_tag kind number (first ∷ next ∷ later) stage course zero phase tag at e enough =
     (late_stays kind number (next ∷ later) (stage_past kind number stage first) tag
     (subst (λ o. IsLateWith tag (passed kind number (begun_at stage first.position) o first.replies (lacks_pieces first))) (sym course.1.1)
@@ -49,6 +47,7 @@ fetched_tag kind number (first ∷ next ∷ later) stage course zero phase tag a
 fetched_tag kind number (first ∷ next ∷ later) stage course (suc place) phase tag at e enough =
     fetched_tag kind number (next ∷ later) (stage_past kind number stage first) course.2 place phase tag
     at e enough
+fetched_tag kind number _ stage course _ phase tag at e enough = absurd (cc)
 
 -- so is the tag of which a value was settled
 pub settled_tag : (fragment : Code) (object : Object) → IsLegal object → (index : ℕ) (call : Call) →
@@ -152,8 +151,7 @@ settled_journaled fragment object determines legal values coded index call at va
         subst (λ v. IsJournaled object tag v) same first.journaled
 
 some_value : (o : Option (List ℕ)) → IsSome o → (value : List ℕ) × (o ≡ Some value)
-some_value None h = absurd (cc)
-some_value (Some value) h = (value, refl)
+some_value o h = grind arith
 
 pub reads_journaled : (fragment : Code) (object : Object) → Determines fragment → IsLegal object → AreValues object →
     AreCoded fragment object → AreSettled fragment object → ReadsJournaled object

@@ -1,5 +1,5 @@
 -- The tag that a phase sends is in the journal.
-use Rattle.std.proofs.Common.{◌≡◌, ℕ, zero, suc, List, [], ◌∷◌, Some, refl, sym, ap, ◌∙◌, inr, slice_get}
+use Rattle.std.proofs.Common.{◌≡◌, ℕ, zero, suc, List, [], ◌∷◌, Some, refl, sym, ap, ◌∙◌, inr, slice_get, rules}
 use Rattle.std.proofs.lemmas.Option.{same_Some}
 use Rattle.tag.specs.declared.tag.Tag.{Tag}
 use Rattle.phase.specs.Phase.{Phase}
@@ -36,9 +36,7 @@ pub sent_by_write : (fragment : Code) (object : Object) (step : ℕ) → IsSound
     (index place : ℕ) (call : Call) (phase : Phase) (tag : Tag) → slice_get object.calls index ≡ Some call →
     slice_get call.phases place ≡ Some phase → kind_tag phase.kind ≡ Some tag → (value : List ℕ) → call.kind ≡ Write value →
     tag_of object index call ≡ Some tag
-sent_by_write fragment object step sound index place call phase tag at within e value k =
-    sent_tag value call.kind k call.id call.phases (first_stage call.kind (source_of object index))
-    (of_write_first value call.kind (source_of object index) k) (sound.legal.calls index call at).course place phase tag within e
+sent_by_write fragment object step sound index place call phase tag at within e value k = search (rules, of_write_first, sent_tag)
 
 pub sent_known : (fragment : Code) (object : Object) (step : ℕ) → IsSound fragment object step →
     (index place : ℕ) (call : Call) (phase : Phase) (tag : Tag) → slice_get object.calls index ≡ Some call →

@@ -1,6 +1,6 @@
 -- What is sent is the journal's value of its tag.
 use Rattle.std.proofs.Common.{◌≡◌, ℕ, ◌≤◌, true, List, Option, Some, None}
-use Rattle.std.proofs.Common.{IsSome, refl, sym, subst, ap, ◌∙◌, inl, inr, arith, slice_get}
+use Rattle.std.proofs.Common.{IsSome, refl, sym, subst, ap, ◌∙◌, inr, arith, slice_get}
 use Rattle.std.proofs.lemmas.Option.{same_Some}
 use Rattle.tag.specs.declared.tag.Tag.{Tag}
 use Rattle.layout.specs.Layout.{Layout}
@@ -9,13 +9,10 @@ use Rattle.bank.specs.declared.kind.Kind.{Kind}
 use Rattle.record.specs.declared.call.CallKind.{CallKind}
 use Rattle.record.specs.Records.{Call, Object, layout_at, bank_at}
 use Rattle.bank.specs.Bank.{knows}
-use Rattle.bank.specs.declared.kind.Kind.TheVariants.{Next, Spread, Query, PreWrite, Finalize, Fetch}
-use Rattle.record.specs.declared.call.CallKind.TheVariants.{Read, Write, Move}
+use Rattle.bank.specs.declared.kind.Kind.TheVariants.{PreWrite, Finalize, Fetch}
+use Rattle.record.specs.declared.call.CallKind.TheVariants.{Write}
 use Rattle.record.specs.PhaseOrder.{due}
 use Rattle.record.specs.declared.stage.Stage.{Stage}
-use Rattle.record.specs.declared.stage.Stage.TheVariants.{FetchAt, PreWriteAt}
-use Rattle.record.specs.declared.stage.Stage.TheVariants.{FinalizeAt}
-use Rattle.record.specs.declared.stage.Stage.TheVariants.{MoveFetch, MovePreWrite, MoveFinalize, Ended, Moved}
 use Rattle.record.specs.Journals.{stage_tag, tag_of, IsJournaled}
 use Rattle.record.specs.Fragments.{Code, Determines, IsFragment, IsCoded, IfCoded, kind_tag, request_tag, request_piece}
 use Rattle.soundness.specs.Sound.{IsSound}
@@ -39,9 +36,8 @@ sent_journaled fragment object step determines sound index call at tag e value v
         (sound.values.settled index call value at s) has)
 
     go : (kind : CallKind) → call.kind ≡ kind → sent_value kind call.settled ≡ Some value → IsJournaled object tag value
-    go Read k s = settled s
     go (Write w) k s = inr (record { index = index; call = call; at = at; kind = k ∙ ap Write (same_Some w value s); tagged = e })
-    go Move k s = settled s
+    go _ k s = settled s
 
 -- the tag that a due phase speaks of is the call's
 abbrev DueTag : Option (Kind × ℕ) → Option Tag → Type 0
@@ -49,15 +45,7 @@ DueTag None has = Unit {0}
 DueTag (Some next) has = (t : Tag) → kind_tag next.0 ≡ Some t → has ≡ Some t
 
 due_tags : (stage : Stage) → DueTag (due stage) (stage_tag stage)
-due_tags (FetchAt q l t) = λ t e. e
-due_tags (PreWriteAt l t) = λ t e. e
-due_tags (FinalizeAt l t) = λ t e. e
-due_tags (MoveFetch p t) = λ t e. e
-due_tags (MovePreWrite p t) = λ t e. e
-due_tags (MoveFinalize p t) = λ t e. e
-due_tags (Ended l t) = tt
-due_tags (Moved p t) = tt
-due_tags stage = λ t e. absurd (cc)
+due_tags stage = grind arith
 
 pub due_tag : (stage : Stage) (kind : Kind) (position : ℕ) (tag : Tag) → due stage ≡ Some (kind, position) →
     kind_tag kind ≡ Some tag → stage_tag stage ≡ Some tag
@@ -70,16 +58,11 @@ pub record AreSent (fragment : Code) (layout : Layout) (call : Call) (piece : �
   pub pieces : (member : ℕ) → piece member ≡ fragment_piece fragment layout value member
 
 some_sent : (o : Option (List ℕ)) → IsSome o → o ≡ Some (value_or_empty o)
-some_sent None some = absurd (cc)
-some_sent (Some value) some = refl
+some_sent o some = grind arith
 
 pub are_sent : (fragment : Code) (object : Object) (call : Call) (position : ℕ) → IsSome (sent_value call.kind call.settled) →
     AreSent fragment (layout_at object position) call (sent_pieces fragment object call position)
-are_sent fragment object call position some = record {
-  value = value_or_empty (sent_value call.kind call.settled);
-  is_value = some_sent (sent_value call.kind call.settled) some;
-  pieces = λ member. refl;
-}
+are_sent fragment object call position some = grind (arith, some_sent)
 
 -- what a phase that is due, or current, sends: where it pre-writes, the pieces of the call's value
 abbrev pub Sends : Code → Layout → Call → Kind → (ℕ → Piece) → Type 0
@@ -109,9 +92,6 @@ request_coded fragment object step determines sound index call at kind position 
 
     go : (k : Kind) → kind ≡ k →
         IfCoded fragment object position member (request_tag (request_to k (piece member))) (request_piece (request_to k (piece member)))
-    go Next k = tt
-    go (Spread status) k = tt
-    go Query k = tt
     go (Finalize tag) k = known tag (ap kind_tag k)
     go (Fetch tag) k = known tag (ap kind_tag k)
     go (PreWrite tag) k =
@@ -124,21 +104,18 @@ request_coded fragment object step determines sound index call at kind position 
               (sym (sent.pieces member) ∙ same_Some (piece member) kept p)
               (record { point = refl; len = refl; bytes = refl });
         }
+    go _ k = tt
 
 -- the tags of the journal have numbers of the past
 
 pub known_past : (fragment : Code) (object : Object) (step : ℕ) → IsSound fragment object step → (tag : Tag) →
     Known object tag → tag.number ≤ step
-known_past fragment object step sound tag (value, inl opening) = subst (λ t. t.number ≤ step) (sym opening.0) (omega arith)
-known_past fragment object step sound tag (value, inr written) = sound.past.tags written.index written.call tag written.at written.tagged
+known_past fragment object step sound tag known = grind arith
 
 pub bank_known : (fragment : Code) (object : Object) (step : ℕ) → IsSound fragment object step →
     (position member : ℕ) (tag : Tag) → knows (bank_at object position member) tag ≡ true → Known object tag
-bank_known fragment object step sound position member tag there =
-    let coded = sound.coded.banks position member tag there in
-    (coded.value, coded.journaled)
+bank_known fragment object step sound position member tag there = grind arith
 
 pub bank_known_past : (fragment : Code) (object : Object) (step : ℕ) → IsSound fragment object step →
     (position member : ℕ) (tag : Tag) → knows (bank_at object position member) tag ≡ true → tag.number ≤ step
-bank_known_past fragment object step sound position member tag there =
-    known_past fragment object step sound tag (bank_known fragment object step sound position member tag there)
+bank_known_past fragment object step sound position member tag there = grind (arith, bank_known, known_past)

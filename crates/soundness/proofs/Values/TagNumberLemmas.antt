@@ -1,5 +1,5 @@
 -- The numbers of tags are those of past steps.
-use Rattle.std.proofs.Common.{◌≡◌, ℕ, suc, ◌<◌, ◌≤◌, List}
+use Rattle.std.proofs.Common.{◌≡◌, ℕ, suc, ◌<◌, ◌≤◌, List, rules}
 use Rattle.std.proofs.Common.{Some, arith, le_trans, slice_get}
 use Rattle.std.specs.List.{AllByRecursion}
 use Rattle.tag.specs.declared.tag.Tag.{Tag}
@@ -53,7 +53,4 @@ pub coded_tag_past : (fragment : Code) (object : Object) (step now : ℕ) → st
     (kind : CallKind) (number from : ℕ) (phases : List Phase) → ((place : ℕ) (phase : Phase) →
     slice_get phases place ≡ Some phase → AllByRecursion (ReplyCoded fragment object phase) phase.replies) → (tag : Tag) →
     stage_tag (stage_after kind number (first_stage kind from) phases) ≡ Some tag → tag.number ≤ now
-coded_tag_past fragment object step now less sound kind number from phases coded tag e =
-    tag_past step now less kind number from phases
-    (all_at phases
-    (λ place phase within. shown_past fragment object step sound phase (coded place phase within))) tag e
+coded_tag_past fragment object step now less sound kind number from phases coded tag e = search (rules, all_at, shown_past, tag_past)

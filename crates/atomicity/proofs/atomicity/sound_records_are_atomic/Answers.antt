@@ -1,6 +1,6 @@
+use Rattle.std.proofs.Common.{arith}
 use Rattle.atomicity.proofs.AtomicRunLemmas.{atomic_of_coded}
 use Rattle.atomicity.proofs.atomicity.sound_records_are_atomic.Goals as goal
 
 pub returns : goal.returns
-returns c =
-    λ fragment object last code sound. atomic_of_coded fragment object code.determines sound.legal sound.values sound.coded sound.settled
+returns c = grind (arith, atomic_of_coded)

@@ -1,6 +1,6 @@
 -- What was fetched before had its pieces.
-use Rattle.std.proofs.Common.{◌≡◌, ℕ, zero, suc, ◌<◌, ◌≤◌, ◌⊎◌, true, false, ap, Option}
-use Rattle.std.proofs.Common.{Some, None, refl, subst₂, inl, inr, arith, le_of_lt, leb-true}
+use Rattle.std.proofs.Common.{◌≡◌, ℕ, zero, suc, ◌<◌, ◌≤◌, ◌⊎◌, true, Option}
+use Rattle.std.proofs.Common.{Some, subst₂, inl, inr, arith, le_of_lt, leb-true}
 use Rattle.std.proofs.lemmas.Option.{some_pair_parts}
 use Rattle.tag.specs.declared.tag.Tag.{Tag}
 use Rattle.tag.specs.Tag.{opening_tag}
@@ -10,9 +10,6 @@ use Rattle.bank.specs.declared.kind.Kind.TheVariants.{Finalize, Fetch}
 use Rattle.bank.specs.Knowledge.{came_by, finalized_at, HasFinalized}
 use Rattle.record.specs.PhaseOrder.{due}
 use Rattle.record.specs.declared.stage.Stage.{Stage}
-use Rattle.record.specs.declared.stage.Stage.TheVariants.{FetchAt}
-use Rattle.record.specs.declared.stage.Stage.TheVariants.{FinalizeAt}
-use Rattle.record.specs.declared.stage.Stage.TheVariants.{MoveFetch, MoveFinalize}
 use Rattle.record.specs.Legal.{IsLegal, HasBegun}
 use Rattle.soundness.proofs.Sound.DueKindLemmas.{fetches, finalizes}
 use Rattle.soundness.proofs.Sound.Enough.QuorumPieceLemmas.{Had, had_later, Somewhere}
@@ -21,32 +18,15 @@ use Rattle.soundness.proofs.Sound.Enough.StagePieceLemmas.{PieceFacts, AtPhase, 
 -- before a tag is fetched, it was finalized there
 pub fetch_rests : (object : Object) (now position : ℕ) (stage : Stage) (tag : Tag) → PieceFacts object now stage →
     due stage ≡ Some (Fetch tag, position) → Somewhere object position tag now
-fetch_rests object now position (FetchAt q l t) tag facts e =
-    let parts = some_pair_parts (Fetch t) (Fetch tag) q position e in
-    let same : t ≡ tag = (let k = parts.0 in cc) in
-    subst₂ (λ p u. Somewhere object p u now) parts.1 same facts
-fetch_rests object now position (MoveFetch q t) tag facts e =
-    let parts = some_pair_parts (Fetch t) (Fetch tag) q position e in
-    let same : t ≡ tag = (let k = parts.0 in cc) in
-    subst₂ (λ p u. Somewhere object p u now) parts.1 same facts
-fetch_rests object now position stage tag facts e = absurd (let no : false ≡ true = ap fetches e in cc)
+fetch_rests object now position stage tag facts e = grind (arith, fetches, some_pair_parts)
 
 -- before a tag is finalized by its own request, a quorum had its pieces
 fin_rests : (object : Object) (now position : ℕ) (stage : Stage) (tag : Tag) → PieceFacts object now stage →
     due stage ≡ Some (Finalize tag, position) → Had object position tag now
-fin_rests object now position (FinalizeAt q t) tag facts e =
-    let parts = some_pair_parts (Finalize t) (Finalize tag) q position e in
-    let same : t ≡ tag = (let k = parts.0 in cc) in
-    subst₂ (λ p u. Had object p u now) parts.1 same facts
-fin_rests object now position (MoveFinalize q t) tag facts e =
-    let parts = some_pair_parts (Finalize t) (Finalize tag) (suc q) position e in
-    let same : t ≡ tag = (let k = parts.0 in cc) in
-    subst₂ (λ p u. Had object p u now) parts.1 same facts
-fin_rests object now position stage tag facts e = absurd (let no : false ≡ true = ap finalizes e in cc)
+fin_rests object now position stage tag facts e = grind (arith, finalizes, some_pair_parts)
 
 pub came_at : (o : Option ℕ) (step : ℕ) → came_by o step ≡ true → (came : ℕ) × (o ≡ Some came) × (came ≤ step)
-came_at None step e = absurd (cc)
-came_at (Some came) step e = (came, refl, leb-true came step e)
+came_at o step e = grind (arith, leb-true)
 
 -- one step back from a finalized tag
 record Back (object : Object) (position : ℕ) (tag : Tag) (step : ℕ) : Type 0 where

@@ -1,6 +1,6 @@
 -- The members whose pieces a phase took: as many as the replies that bring a piece.
 use Rattle.std.proofs.Common.{nat_eq, ◌≡◌, ℕ, zero, suc, ◌+◌, ◌≤◌, Bool, true, false, cond, nat_lt, List, [], ◌∷◌}
-use Rattle.std.proofs.Common.{length, Some, IsSome, is_some, refl, sym, subst, ap, ◌∙◌, arith, eqb-true, slice_get}
+use Rattle.std.proofs.Common.{length, Some, IsSome, refl, sym, subst, ap, ◌∙◌, arith, eqb-true, slice_get}
 use Rattle.std.specs.List.{AllByRecursion, IsDistinct, list_any}
 use Rattle.std.proofs.lemmas.Bool.Decides.{nat_tests}
 use Rattle.std.proofs.lemmas.List.Recursion.{is_count_by}
@@ -16,7 +16,7 @@ use Rattle.phase.specs.declared.phase.Taken.{Taken}
 use Rattle.phase.specs.Phase.{Phase, has_piece, pieces_in, members_of, lacks_pieces}
 use Rattle.record.specs.Records.{Object}
 use Rattle.record.specs.Knowledge.{IsTruePhase}
-use Rattle.record.specs.Fragments.{Code, answer_piece, TookPiece, HasEnough, HasPiece, HasPieces}
+use Rattle.record.specs.Fragments.{Code, answer_piece, TookPiece, HasEnough, HasPieces}
 use Rattle.soundness.proofs.ListLemmas.{all_weaker}
 
 abbrev brings : Taken → Bool
@@ -39,17 +39,14 @@ holders_counted replies = is_count_by (λ rs. length (holders rs)) brings refl e
         go false = refl
 
 piece_brought : (answer : Answer) → IsSome (answer_piece answer) → has_piece answer ≡ true
-piece_brought (answer.Piece (Some piece)) some = refl
-piece_brought answer some = absurd (cc)
+piece_brought answer some = grind arith
 
 brought_piece : (answer : Answer) → has_piece answer ≡ true → IsSome (answer_piece answer)
-brought_piece (answer.Piece (Some piece)) e = refl
-brought_piece answer e = absurd (cc)
+brought_piece answer e = grind arith
 
 -- the test may compare either way round
 has_flipped : (xs : List ℕ) (x : ℕ) → list_any (nat_eq x) xs ≡ has xs x
-has_flipped [] x = refl
-has_flipped (y ∷ ys) x = grind (arith, nat_tests, has_flipped ys x)
+has_flipped xs x = grind (arith, nat_tests)
 
 -- a member whose piece was taken is one of them
 held_at : (replies : List Taken) (place : ℕ) (reply : Taken) → slice_get replies place ≡ Some reply →
@@ -97,26 +94,11 @@ not_short n k h = grind (arith, nat_tests)
 -- a phase with pieces of k members lacks none
 pub enough_not_lacking : (object : Object) (phase : Phase) → IsTruePhase object phase → HasEnough object phase →
     lacks_pieces phase ≡ false
-enough_not_lacking object phase truth has =
-    not_short (pieces_in phase.replies) phase.needed
-    (let n = truth.sized.needed in let c = counted phase has.members has.distinct has.pieces in let e = has.enough in omega arith)
+enough_not_lacking object phase truth has = grind (arith, counted, not_short)
 
 pub pieces_not_lacking : (fragment : Code) (object : Object) (phase : Phase) (value : List ℕ) → IsTruePhase object phase →
     HasPieces fragment object phase value → lacks_pieces phase ≡ false
-pieces_not_lacking fragment object phase value truth has =
-    enough_not_lacking object phase truth (record {
-      members = has.members;
-      distinct = has.distinct;
-      enough = has.enough;
-      pieces = all_weaker (HasPiece fragment object phase value) (TookPiece phase)
-          (λ member h. record {
-            place = h.place;
-            reply = h.reply;
-            within = h.within;
-            same_member = h.same_member;
-            some_piece = ap (λ a. is_some (answer_piece a)) h.same_piece;
-          }) has.members has.pieces;
-    })
+pieces_not_lacking fragment object phase value truth has = grind (arith, all_weaker, enough_not_lacking)
 
 -- and one that lacks none has pieces of k members
 
@@ -180,19 +162,5 @@ enough_counted n k e = grind (arith, nat_tests)
 
 pub not_lacking_enough : (object : Object) (phase : Phase) → IsTruePhase object phase → lacks_pieces phase ≡ false →
     HasEnough object phase
-not_lacking_enough object phase truth has = record {
-  members = holders phase.replies;
-  distinct = holders_distinct phase.replies truth.one_each;
-  enough =
-      let e = enough_counted (pieces_in phase.replies) phase.needed has in
-      let n = truth.sized.needed in
-      let c = holders_counted phase.replies in omega arith;
-  pieces = all_weaker (Brings phase.replies) (TookPiece phase)
-      (λ member b. record {
-        place = b.place;
-        reply = b.reply;
-        within = b.within;
-        same_member = b.same_member;
-        some_piece = b.some_piece;
-      }) (holders phase.replies) (holders_bring phase.replies);
-}
+not_lacking_enough object phase truth has =
+    grind (arith, all_weaker, enough_counted, holders, holders_bring, holders_counted, holders_distinct)

@@ -28,11 +28,7 @@ pub record Had (object : Object) (position : ℕ) (tag : Tag) (step : ℕ) : Typ
 
 pub had_later : (object : Object) (position : ℕ) (tag : Tag) (s u : ℕ) → s ≤ u → Had object position tag s →
     Had object position tag u
-had_later object position tag s u h had = record {
-  members = had.members;
-  is_quorum = had.is_quorum;
-  all = all_map (λ i e. came_by_later (arrived_at (bank_at object position i) tag) s u h e) _ had.all;
-}
+had_later object position tag s u h had = grind (arith, all_map, came_by_later)
 
 -- the tag was finalized at some member, or is the opening one
 abbrev pub Somewhere : Object → ℕ → Tag → ℕ → Type 0
@@ -40,8 +36,7 @@ Somewhere object position tag step = (tag ≡ opening_tag) ⊎ ((i : ℕ) × Has
 
 pub somewhere_later : (object : Object) (position : ℕ) (tag : Tag) (s u : ℕ) → s ≤ u → Somewhere object position tag s →
     Somewhere object position tag u
-somewhere_later object position tag s u h (inl opening) = inl opening
-somewhere_later object position tag s u h (inr (i, f)) = inr (i, came_by_later (finalized_at (bank_at object position i) tag) s u h f)
+somewhere_later object position tag s u h known = grind arith
 
 -- what a complete phase says of pieces
 pub record Says (object : Object) (kind : Kind) (position end : ℕ) (replies : List Taken) : Type 0 where
@@ -50,13 +45,11 @@ pub record Says (object : Object) (kind : Kind) (position end : ℕ) (replies : 
 
 true_pre : (tag : Tag) (bank : Bank) (made : ℕ) (answer : Answer) → IsTrueAnswer bank made (PreWrite tag) answer →
     HadPiece bank tag made
-true_pre tag bank made answer.Done h = h
-true_pre tag bank made answer h = absurd h
+true_pre tag bank made answer h = grind arith
 
 true_shown : (bank : Bank) (made : ℕ) (answer : Answer) → IsTrueAnswer bank made Query answer →
     HasFinalized bank (shown_tag answer) made
-true_shown bank made (answer.Greatest tag) h = h.0
-true_shown bank made answer h = absurd h
+true_shown bank made answer h = grind arith
 
 later_is : (a b : Tag) (P : Tag → Type 0) → P a → P b → P (later_tag a b)
 later_is a b P p q = cond_both (tag_lt a b) b a P (λ e. q) (λ e. p)

@@ -1,6 +1,6 @@
 -- At each stage of a call, the pieces of its tag are somewhere.
-use Rattle.std.proofs.Common.{◌≡◌, ℕ, zero, suc, ◌≤◌, Bool, true, false, cond, eqb, List, [], ◌∷◌}
-use Rattle.std.proofs.Common.{Option, Some, refl, sym, subst, subst₂, inl, arith, le_trans, le_of_lt, slice_get}
+use Rattle.std.proofs.Common.{◌≡◌, ℕ, zero, suc, ◌≤◌, Bool, true, false, cond, eqb, List, ◌∷◌}
+use Rattle.std.proofs.Common.{Option, Some, refl, sym, subst, arith, le_trans, le_of_lt, slice_get}
 use Rattle.std.proofs.lemmas.Bool.{cond_both}
 use Rattle.std.proofs.lemmas.Option.{some_pair_parts, same_Some}
 use Rattle.std.specs.List.{AllByRecursion}
@@ -14,16 +14,14 @@ use Rattle.phase.specs.declared.phase.Taken.{Taken}
 use Rattle.phase.specs.Phase.{Phase, lacks_pieces}
 use Rattle.record.specs.declared.call.CallKind.{CallKind}
 use Rattle.record.specs.Records.{Call, Object}
-use Rattle.bank.specs.declared.status.Status.TheVariants.{Unset, Pending, Final}
 use Rattle.bank.specs.declared.kind.Kind.TheVariants.{Query, PreWrite}
-use Rattle.record.specs.declared.call.CallKind.TheVariants.{Read, Write, Move}
 use Rattle.record.specs.Knowledge.{IsTruePhase}
 use Rattle.record.specs.PhaseOrder.{greatest_status, greatest_tag, due, after, passed, IsCourse, stage_past, begun_at}
 use Rattle.record.specs.PhaseOrder.{after_next, after_spread, after_query, after_again, tagged}
 use Rattle.record.specs.declared.stage.Stage.{Stage}
 use Rattle.record.specs.declared.stage.Stage.TheVariants.{ReadNext, ReadSpread, QueryFrom, FetchAt, PreWriteAt}
 use Rattle.record.specs.declared.stage.Stage.TheVariants.{FinalizeAt, AgainNext, MoveQuery}
-use Rattle.record.specs.declared.stage.Stage.TheVariants.{MoveFetch, MovePreWrite, MoveFinalize, Ended}
+use Rattle.record.specs.declared.stage.Stage.TheVariants.{MoveFetch, MovePreWrite, MoveFinalize}
 use Rattle.record.specs.Legal.{IsLegal, first_stage, source_of}
 use Rattle.soundness.proofs.PhaseStartLemmas.{StartsFrom}
 use Rattle.soundness.proofs.Quorums.QuorumMeetingLemmas.{start_before_end}
@@ -42,31 +40,21 @@ PieceFacts object now _ = Unit {0}
 
 says_at : (object : Object) (k kind : Kind) (p position end : ℕ) (replies : List Taken) → Says object kind position end replies →
     ◌≡◌ {A = Option (Kind × ℕ)} (Some (k, p)) (Some (kind, position)) → Says object k p end replies
-says_at object k kind p position end replies says e =
-    let parts = some_pair_parts k kind p position e in
-    subst₂ (λ kind position. Says object kind position end replies) (sym parts.0) (sym parts.1) says
+says_at object k kind p position end replies says e = grind (arith, some_pair_parts)
 
 after_next_pieces : (object : Object) (end : ℕ) (status : Status) (p m : ℕ) → PieceFacts object end (after_next status p m)
-after_next_pieces object end Unset p m = inl refl
-after_next_pieces object end Pending p m = tt
-after_next_pieces object end Final p m = tt
+after_next_pieces object end status p m = grind arith
 
 after_spread_pieces : (object : Object) (end : ℕ) (status : Status) (p m : ℕ) → PieceFacts object end (after_spread status p m)
-after_spread_pieces object end Unset p m = tt
-after_spread_pieces object end status p m = tt
+after_spread_pieces object end status p m = grind arith
 
 after_again_pieces : (object : Object) (end : ℕ) (status : Status) (last p : ℕ) (tag : Tag) →
     PieceFacts object end (after_again status last p tag)
-after_again_pieces object end Unset last p tag =
-    cond_both (eqb p last) (Ended last tag) (PreWriteAt p tag) (λ stage. PieceFacts object end stage) (λ e. tt) (λ e. tt)
-after_again_pieces object end Pending last p tag = tt
-after_again_pieces object end Final last p tag = tt
+after_again_pieces object end status last p tag = grind (arith, cond_both)
 
 tagged_pieces : (object : Object) (end : ℕ) (kind : CallKind) (number place last : ℕ) (greatest : Tag) →
     Somewhere object place greatest end → PieceFacts object end (tagged kind number place last greatest)
-tagged_pieces object end Read number place last greatest some = some
-tagged_pieces object end (Write value) number place last greatest some = tt
-tagged_pieces object end Move number place last greatest some = some
+tagged_pieces object end kind number place last greatest some = grind arith
 
 query_pieces : (object : Object) (kind : CallKind) (number : ℕ) (found : Tag) (j last : ℕ) (greatest : Tag) (shown_at end : ℕ) →
     Somewhere object j found end → Somewhere object shown_at greatest end →
@@ -106,7 +94,6 @@ pieces_after object kind number now (QueryFrom p last greatest shown_at) asked p
     let here = says_at object Query asked p position end replies says e in
     query_pieces object kind number (greatest_tag replies) p last greatest shown_at end (here.shown refl)
     (somewhere_later object shown_at greatest now end over facts)
-pieces_after object kind number now (FetchAt q last tag) asked position end replies true e says over facts = tt
 pieces_after object kind number now (FetchAt q last tag) asked position end replies false e says over facts =
     cond_both (eqb q last) (AgainNext last last tag) (PreWriteAt last tag) (λ stage. PieceFacts object end stage) (λ e. tt) (λ e. tt)
 pieces_after object kind number now (PreWriteAt last tag) asked position end replies lacks e says over facts =
@@ -115,11 +102,10 @@ pieces_after object kind number now (AgainNext last p tag) asked position end re
     after_again_pieces object end (greatest_status replies) last p tag
 pieces_after object kind number now (MoveQuery p) asked position end replies lacks e says over facts =
     let here = says_at object Query asked p position end replies says e in here.shown refl
-pieces_after object kind number now (MoveFetch p tag) asked position end replies true e says over facts = tt
-pieces_after object kind number now (MoveFetch p tag) asked position end replies false e says over facts = tt
 pieces_after object kind number now (MovePreWrite p tag) asked position end replies lacks e says over facts =
     let here = says_at object (PreWrite tag) asked (suc p) position end replies says e in here.brought tag refl
-pieces_after object kind number now stage asked position end replies lacks e says over facts = tt
+pieces_after object kind number now (MoveFetch p tag) asked position end replies true e says over facts = tt
+pieces_after object kind number now _ asked position end replies _ e says over facts = tt
 
 pub record AtPhase (object : Object) (phase : Phase) : Type 0 where
   pub stage : Stage
@@ -132,7 +118,6 @@ at_phase : (object : Object) → AllByRecursion IsLawful object.layouts →
     (kind : CallKind) (number : ℕ) (phases : List Phase) (now : ℕ) (stage : Stage) → IsCourse kind number stage phases →
     AllByRecursion (IsTruePhase object) phases → StartsFrom now phases → PieceFacts object now stage →
     (place : ℕ) (phase : Phase) → slice_get phases place ≡ Some phase → AtPhase object phase
-at_phase object lawful kind number [] now stage course truth starts facts place phase e = absurd (cc)
 at_phase object lawful kind number (first ∷ phases) now stage course truth starts facts zero phase e =
     subst (λ p. AtPhase object p) (same_Some first phase e)
     (record {
@@ -142,7 +127,6 @@ at_phase object lawful kind number (first ∷ phases) now stage course truth sta
       is_due = course.0;
       facts = begun_has (λ s. PieceFacts object now s) stage first.position (λ begins. tt) facts;
     })
-at_phase object lawful kind number (first ∷ []) now stage course truth starts facts (suc place) phase e = absurd (cc)
 at_phase object lawful kind number (first ∷ next ∷ later) now stage course truth starts facts (suc place) phase e =
     let end = course.1.0 in
     let ended = course.1.1 in
@@ -158,14 +142,13 @@ at_phase object lawful kind number (first ∷ next ∷ later) now stage course t
     (says_of object first end truth.0 ended)
     (le_trans before grew) (begun_has (λ s. PieceFacts object now s) stage first.position (λ begins. tt) facts)))
     place phase e
+at_phase object lawful kind number _ now stage course truth starts facts _ phase e = absurd (cc)
 
 first_pieces : (object : Object) (kind : CallKind) (from now : ℕ) → PieceFacts object now (first_stage kind from)
-first_pieces object Read from now = tt
-first_pieces object kind from now = tt
+first_pieces object kind from now = grind arith
 
 starts_at_zero : (phases : List Phase) → StartsFrom 0 phases
-starts_at_zero [] = tt
-starts_at_zero (phase ∷ phases) = omega arith
+starts_at_zero phases = grind arith
 
 pub call_at_phase : (object : Object) → IsLegal object → (index : ℕ) (call : Call) → slice_get object.calls index ≡ Some call →
     (place : ℕ) (phase : Phase) → slice_get call.phases place ≡ Some phase → AtPhase object phase
