@@ -24,7 +24,7 @@ is_taggable Read greatest = true
 is_taggable (Write value) greatest = nat_lt (greatest.number + 1) (2 ^ 64)
 is_taggable Move greatest = true
 
--- whether the stage is no query, or the greatest tag after these replies has a next tag where the call needs one
+-- whether the stage is no query, or the greatest tag after these replies has a next tag if the call needs one
 abbrev pub has_next_tag : CallKind → Stage → List Taken → Bool
 has_next_tag kind (QueryFrom position last greatest shown_at) replies =
     is_taggable kind (later_tag greatest (greatest_tag replies))

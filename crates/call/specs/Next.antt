@@ -9,7 +9,7 @@ use Rattle.call.specs.declared.next.Next.{Next}
 use Rattle.call.specs.declared.next.Next.TheVariants as next
 use Rattle.call.specs.Call.{OpenCall, reached}
 
--- what a call does whose phase is done and leads on: it begins the phase that is due, or is answered where none is
+-- what a call does whose phase is done and leads on: it begins the phase that is due, or is answered if none is
 abbrev pub leads_to : Option (Kind × ℕ) → Next
 leads_to None = next.Answer
 leads_to (Some asked) = next.Begin asked.0 asked.1

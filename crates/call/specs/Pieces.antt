@@ -8,7 +8,7 @@ use Rattle.bank.specs.Bank.{empty_piece}
 use Rattle.bank.specs.declared.kind.Kind.{Kind}
 use Rattle.bank.specs.declared.kind.Kind.TheVariants.{PreWrite}
 
--- the piece of a member: of the encoded value if there is one, and else of the empty value
+-- the piece of a member: of the encoded value if there is one, and otherwise of the empty value
 abbrev pub piece_from : Option Coding → (member : ℕ) → Piece
 piece_from None member = empty_piece member
 piece_from (Some coded) member = piece_at_point coded.value coded.k member

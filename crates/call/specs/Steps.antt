@@ -1,5 +1,5 @@
 -- The contracts that docs/trusted.md lists do not depend on this file; other contracts and proofs do.
--- What the steps of a call make of it.
+-- How the steps of a call change it.
 use Rattle.std.specs.Prelude.{ℕ, suc, None}
 use Rattle.layout.specs.Layout.{Layout}
 use Rattle.bank.specs.declared.kind.Kind.{Kind}

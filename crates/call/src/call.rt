@@ -49,9 +49,9 @@ impl Model for Call {
 }
 
 impl Call {
-    /// A call that begins at a stage, together with its first phase, of which `ask` says the call's id, the phase's
-    /// number, its kind and its position. The position has this layout, and `now` is the step at which the phase
-    /// begins. Where a first reading is to begin, it begins at the position, which is to be the object's base.
+    /// Makes a call that begins at a stage, together with its first phase, of which `ask` says the call's id, the
+    /// phase's number, its kind and its position. The position has this layout, and `now` is the step at which the
+    /// phase begins. If a first reading is to begin, it begins at the position, which is to be the object's base.
     ///
     /// `NoMemory` is the only refusal.
     pub fn begin(
@@ -76,8 +76,8 @@ impl Call {
         })
     }
 
-    /// The phase of this kind that follows the current one, at a position with this layout. It begins at step `now`.
-    /// The call does not change: `enter` puts the phase into it, and is never refused.
+    /// Makes the phase of this kind that follows the current one, at a position with this layout. It begins at step
+    /// `now`. The call does not change: `enter` puts the phase into it, and is never refused.
     ///
     /// `NoMemory` is the only refusal.
     pub fn next_phase(
@@ -102,7 +102,7 @@ impl Call {
     }
 
     /// This phase takes the place of the current one, which is returned. `stage` is the stage that the call has
-    /// reached. Where a first reading is to begin, it begins at the phase's position. It allocates no memory.
+    /// reached. If a first reading is to begin, it begins at the phase's position. It allocates no memory.
     pub fn enter(&mut self, stage: Stage, phase: Phase) -> Phase
         requires stage { stage ≡ reached self.old }
         requires named { phase.call ≡ self.old.id }
@@ -113,8 +113,8 @@ impl Call {
         mem::replace(&mut self.phase, phase)
     }
 
-    /// The next phase begins: what `next_phase`, `reached` and `enter` do together. Returns the phase before it. Where
-    /// it is refused, nothing changes.
+    /// The next phase begins: what `next_phase`, `reached` and `enter` do together. Returns the phase before it. If it
+    /// is refused, nothing changes.
     ///
     /// `NoMemory` is the only refusal.
     pub fn begin_next(

@@ -1,5 +1,6 @@
-//! One call that is not answered. It keeps its current phase alone, and the stage at which that phase began. It never
-//! looks at other calls, at messages that wait, or at a bank: its caller hands it each reply, and sends its requests.
+//! One call that is not answered. A `Call` keeps only its current phase, and the stage at which that phase began. It
+//! never looks at other calls, at messages that wait, or at a bank: its caller passes it each reply, and sends its
+//! requests.
 #![tactic(auto)]
 
 pub use call::Call;

@@ -13,8 +13,8 @@ use phase::Ask;
 use std::alloc::Global;
 use tag::Refusal;
 
-/// The requests of a phase to all members, member 0 first. For a phase that sends pieces, `coded` is the encoded value,
-/// with a piece for each member.
+/// Makes the requests of a phase to all members, member 0 first. For a phase that sends pieces, `coded` is the encoded
+/// value, with a piece for each member.
 ///
 /// `NoMemory` is the only refusal.
 pub fn requests(
@@ -37,8 +37,8 @@ pub fn requests(
     Ok(messages)
 }
 
-/// The request of a phase to a member. For a phase that sends pieces, `coded` is the encoded value, with a piece for
-/// the member.
+/// Makes the request of a phase to a member. For a phase that sends pieces, `coded` is the encoded value, with a piece
+/// for the member.
 ///
 /// `NoMemory` is the only refusal.
 pub fn request_to(ask: Ask, member: u8, coded: Option<&Coded>) -> Result<Message, Refusal>

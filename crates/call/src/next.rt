@@ -1,8 +1,8 @@
 //! What a call does next.
 use bank::Kind;
 
-/// What a call does next. The position is that of the members that the phase asks. Where a first reading is to begin,
-/// the position is 0 and means nothing: the reading begins at the object's base.
+/// What a call does next. The position is that of the members that the phase asks. If a first reading is to begin, the
+/// position is 0 and means nothing: the reading begins at the object's base.
 #[derive(Clone, Copy, Debug, PartialEq, Eq)]
 pub enum Next {
     /// It waits: its current phase lacks a quorum.

@@ -1,5 +1,5 @@
 -- The call of a number begins the phase that is due.
-use Rattle.std.proofs.Common.{◌≡◌, ℕ, suc, pred, ◌<◌, Bool, true, false, ◌++◌, length, get_or, slice_get, set}
+use Rattle.std.proofs.Common.{◌≡◌, ℕ, suc, pred, ◌<◌, Bool, true, false, length, get_or, slice_get}
 use Rattle.std.proofs.Common.{Option, Some, None, IfSome, refl, sym, subst, ap, ◌∙◌, arith}
 use Rattle.std.proofs.lemmas.Option.{same_Some}
 use Rattle.tag.specs.declared.limits.TheConstants.{MOST_STEPS}
@@ -9,7 +9,7 @@ use Rattle.tag.specs.declared.tag.Tag.{Tag}
 use Rattle.layout.specs.Layout.{Layout}
 use Rattle.encoder.specs.Fragment.{fragment}
 use Rattle.bank.specs.declared.kind.Kind.{Kind}
-use Rattle.bank.specs.declared.kind.Kind.TheVariants.{Next, Spread, Query, PreWrite, Finalize, Fetch}
+use Rattle.bank.specs.declared.kind.Kind.TheVariants.{PreWrite}
 use Rattle.record.specs.declared.stage.Stage.{Stage}
 use Rattle.record.specs.declared.stage.Want.{Want}
 use Rattle.record.specs.declared.stage.Want.TheVariants as want
@@ -18,16 +18,16 @@ use Rattle.record.specs.PhaseOrder.{begun_at, due}
 use Rattle.record.specs.Legal.{IsLegal, due_of}
 use Rattle.record.specs.Preconditions.{MayStep}
 use Rattle.record.specs.Wants.{Wants}
-use Rattle.record.specs.Steps.{stepped, on_call, advanced_object, begun_object}
+use Rattle.record.specs.Steps.{stepped, on_call, advanced_object}
 use Rattle.record.specs.Sending.{sent_pieces}
 use Rattle.soundness.proofs.Sound.WantPreconditionLemmas.{Plain, advance_ready, lacking_of}
 use Rattle.soundness.proofs.Sound.RestartLemmas.{anew_due}
 use Rattle.transfer.specs.Limits.{IsBelowLimit}
 use Rattle.register.specs.Causes.{unless, wants_due, due_step, due_cause, new_phase_cause}
 use Rattle.call.specs.Pieces.{piece_from, HavePieces}
-use Rattle.register.specs.Position.{Position, layouts_of, banks_of}
+use Rattle.register.specs.Position.{Position}
 use Rattle.register.specs.State.{Contents, made, state_of}
-use Rattle.register.specs.Tracked.{Tracked, calls_of, with_begun}
+use Rattle.register.specs.Tracked.{Tracked}
 use Rattle.register.proofs.BeginPhaseLemmas.{IsBeginning}
 use Rattle.register.proofs.ChangedCallLemmas.{below_limit, due_below, requests_plain, with_due, with_due_is}
 use Rattle.register.proofs.FirstReadingLemmas.{begun_below}
@@ -42,20 +42,9 @@ wanted_for false = want.Advance
 wanted_for true = want.Again
 
 pub wants_it : (anew : Bool) (w : Want) → wants_due anew w ≡ true → w ≡ wanted_for anew
-wants_it false want.Replies e = absurd (cc)
 wants_it false want.Advance e = refl
-wants_it false want.Again e = absurd (cc)
-wants_it false (want.Supply k n) e = absurd (cc)
-wants_it false (want.Settle k len) e = absurd (cc)
-wants_it false want.Answer e = absurd (cc)
-wants_it false want.Done e = absurd (cc)
-wants_it true want.Replies e = absurd (cc)
-wants_it true want.Advance e = absurd (cc)
 wants_it true want.Again e = refl
-wants_it true (want.Supply k n) e = absurd (cc)
-wants_it true (want.Settle k len) e = absurd (cc)
-wants_it true want.Answer e = absurd (cc)
-wants_it true want.Done e = absurd (cc)
+wants_it _ _ e = absurd (cc)
 
 below_kept : {c : Contents} {number index : ℕ} {t : Tracked} → IsFound c number index t
     → IfSome (due (begun_at t.stage c.base)) (λ asked. asked.1 < length c.positions)
@@ -81,9 +70,7 @@ stage_near {c = c} {t = t} f is =
 pub due_read : {c : Contents} {number index : ℕ} {t old : Tracked} {stage started : Stage} {next to : Option (Kind × ℕ)}
     → IsFound c number index t → old ≡ get_or c.calls index old → stage ≡ old.stage → started ≡ begun_at stage c.base
     → next ≡ due started → next ≡ to → due (begun_at t.stage c.base) ≡ to
-due_read {c = c} f read stage_is begins next_is is =
-    ap (λ (u : Tracked). due (begun_at u.stage c.base)) (same f read) ∙ ap (λ s. due (begun_at s c.base)) (sym stage_is)
-    ∙ ap due (sym begins) ∙ sym next_is ∙ is
+due_read {c = c} f read stage_is begins next_is is = cc (same f read)
 
 pub due_there : {c : Contents} {number index : ℕ} {t : Tracked} {kind : Kind} {position : ℕ} → IsFound c number index t
     → due (begun_at t.stage c.base) ≡ Some (kind, position) → position < length c.positions
@@ -126,12 +113,8 @@ plain_due true object legal index call wants = anew_due object legal index call 
 
 -- a phase that sends no pieces needs no coded value
 have_none : (kind : Kind) (members : ℕ) → ((tag : Tag) → kind ≡ PreWrite tag → ⊥) → HavePieces kind members None
-have_none Next members not_pre = tt
-have_none (Spread status) members not_pre = tt
-have_none Query members not_pre = tt
 have_none (PreWrite tag) members not_pre = not_pre tag refl
-have_none (Finalize tag) members not_pre = tt
-have_none (Fetch tag) members not_pre = tt
+have_none _ members not_pre = tt
 
 -- the call wants it
 module _ {c : Contents} {number index : ℕ} {t : Tracked} {w : Want} (anew : Bool) (wanted : IsWanting c number index t w)
@@ -176,22 +159,11 @@ module _ {c : Contents} {number index : ℕ} {t : Tracked} {w : Want} (anew : Bo
         ≡ state_of (with_due c index t kind position layout now (piece_from None))
     begun_is =
         let f = wanted.found in
-        ap (λ o. record { object = o; last = now })
-        (due_stepped anew (pred number) now object
-        ∙ ap (λ i. on_call object (slice_get object.calls i) (λ call. advanced_object fragment object i call now)) (sym (place f))
-        ∙ ap (λ o. on_call object o (λ call. advanced_object fragment object index call now)) (at f)
-        ∙ ap (λ d. begun_object fragment object index t.call d now) (sym (due_now c f.kept index t f.there) ∙ is_due)
-        ∙ with_due_is c index t kind position layout now (sent_pieces fragment object t.call position) placed
-        (f.kept.numbered index t.call (at f))
-        ∙ ap (λ ms. record {
-          delta = c.delta;
-          layouts = layouts_of c.positions;
-          banks = banks_of c.positions;
-          mail = c.mail ++ ms;
-          calls = calls_of (set c.calls index (with_begun t (suc index) kind position layout now));
-        })
-        (requests_plain (suc index) (suc (length t.call.phases)) kind position layout.members 0
-        (sent_pieces fragment object t.call position) (piece_from None) no_pieces))
+        let sent = sent_pieces fragment object t.call position in
+        let begins = with_due_is c index t kind position layout now sent placed (f.kept.numbered index t.call (at f)) in
+        let phase = suc (length t.call.phases) in
+        let plain = requests_plain (suc index) phase kind position layout.members 0 sent (piece_from None) no_pieces in
+        cc (due_stepped anew (pred number) now object, place f, at f, due_now c f.kept index t f.there, is_due, begins, plain)
 
   -- the call, as it is read once more, begins that phase
   pub beginning : {here : Position} {layout : Layout} {old : Tracked} → here ≡ get_or c.positions position here → layout ≡ here.layout

@@ -25,20 +25,16 @@ use Rattle.register.specs.Position.{layouts_of, banks_of}
 use Rattle.register.specs.State.{Contents, State, state_of, made}
 use Rattle.register.specs.Tracked.{Tracked, calls_of}
 use Rattle.register.specs.View.{receipt_at, receipt_of}
-use Rattle.register.proofs.ListLemmas.{map_set, any_put}
+use Rattle.std.proofs.lemmas.List.{map-set}
+use Rattle.register.proofs.ListLemmas.{any_put}
 use Rattle.register.proofs.StepInvariantLemmas.{call_kept, steps_on}
 use Rattle.register.proofs.RoomLemmas.{step_within, step_past}
 use Rattle.register.proofs.ChangedCallLemmas.{any_none}
 use Rattle.register.proofs.FoundCallLemmas.{IsFound, IsWanting, at, at_place, at_number, same, caused, later}
 
 not_answer : (w : Want) → (w ≡ want.Answer → ⊥) → is_answer w ≡ false
-not_answer want.Replies other = refl
-not_answer want.Advance other = refl
-not_answer want.Again other = refl
-not_answer (want.Supply k n) other = refl
-not_answer (want.Settle k len) other = refl
 not_answer want.Answer other = absurd (other refl)
-not_answer want.Done other = refl
+not_answer _ other = refl
 
 -- a call with an answer
 abbrev pub answered_tracked : Tracked → (now : ℕ) → Tracked
@@ -47,10 +43,9 @@ answered_tracked t now = record { call = record t.call { answered = Some now }; 
 -- a move with an answer is not open
 closed : (call : Call) → (kind : CallKind) → call.kind ≡ kind → (kind ≡ Move → (step : ℕ) × (call.answered ≡ Some step))
     → is_open_move call ≡ false
-closed call Read e answered = ap (λ k. is_move k && not (is_some call.answered)) e
-closed call (Write value) e answered = ap (λ k. is_move k && not (is_some call.answered)) e
 closed call Move e answered =
     ap (λ k. is_move k && not (is_some call.answered)) e ∙ ap (λ (o : Option ℕ). is_move Move && not (is_some o)) (answered refl).1
+closed call _ e answered = ap (λ k. is_move k && not (is_some call.answered)) e
 
 and_false : (b : Bool) → (b && false) ≡ false
 and_false true = refl
@@ -94,10 +89,10 @@ module _ {c : Contents} {number index : ℕ} {t : Tracked} (wanted : IsWanting c
       wanted.found.named refl
       ∙ ap (λ o. on_call object o (λ call. answered_object object index call now)) there
       ∙ ap (λ cs. record { delta = c.delta; layouts = layouts_of c.positions; banks = banks_of c.positions; mail = c.mail; calls = cs })
-      (sym (map_set (λ (u : Tracked). u.call) c.calls index new)))
+      (sym (map-set (λ (u : Tracked). u.call) c.calls index new)))
 
   as_set : calls_of (set c.calls index new) ≡ set (calls_of c.calls) index new.call
-  as_set = map_set (λ (u : Tracked). u.call) c.calls index new
+  as_set = map-set (λ (u : Tracked). u.call) c.calls index new
 
   -- no other move is open
   others : t.call.kind ≡ Move → (i : ℕ) (x : Call) → slice_get (set object.calls index new.call) i ≡ Some x → is_open_move x ≡ false
@@ -145,8 +140,7 @@ module _ {c : Contents} {number index : ℕ} {t : Tracked} (wanted : IsWanting c
       go (Write value) e =
           same (λ m. let clash : operations.Write ≡ operations.Move = sym (ap operation_of e) ∙ m in absurd (cc)) ∙ kept.moving
           ∙ sym (unmoved (ap is_move e))
-      go Move e = ended (ap operation_of e) ∙ sym
-          (ap has_open_move as_set ∙ any_none is_open_move (set object.calls index new.call) (others e))
+      go Move e = cc (ended (ap operation_of e), as_set, any_none is_open_move (set object.calls index new.call) (others e))
 
   answered_kept : c.last < now → (moving : Bool) → moving ≡ has_open_move (calls_of (set c.calls index new)) →
       IsKept (record c { calls = set c.calls index new; is_moving = moving; last = now })
@@ -163,8 +157,7 @@ module _ {c : Contents} {number index : ℕ} {t : Tracked} (wanted : IsWanting c
 
     pub answer_step : (moving : Bool) → state_of (record c { calls = set c.calls index made_call; is_moving = moving; last = now })
         ≡ made (Step.AnswerCall (pred number)) now (state_of c)
-    answer_step moving = ap (λ u. state_of (record c { calls = set c.calls index u; is_moving = moving; last = now })) same_new
-        ∙ sym (answer_is moving)
+    answer_step moving = cc (same_new, answer_is moving)
 
     pub answer_kept : {operation : Operation} {moving : Bool} → operation ≡ operation_of t.call.kind
         → (operation ≡ operations.Move → moving ≡ false)

@@ -46,17 +46,16 @@ out_behind call calls from next position b is start out = record {
     counted true start = let source = out.source in omega (arith, source, start)
     counted false start = let source = out.source in omega (arith, source, start)
 
+move_of : (k : CallKind) → is_move k ≡ true → k ≡ Move
+move_of Move e = refl
+move_of _ e = absurd (cc)
+
 pub out_found : (calls : List Call) (from position : ℕ) → is_moved_out calls from position ≡ true → IsOut calls from position
 out_found [] from position e = absurd (cc)
 out_found (call ∷ calls) from position e =
     go (is_move call.kind) (from == position) refl refl
     (λ e. out_found calls from position e) (λ e. out_found calls (suc from) position e) e
   where
-    move_of : (k : CallKind) → is_move k ≡ true → k ≡ Move
-    move_of Read e = absurd (cc)
-    move_of (Write value) e = absurd (cc)
-    move_of Move e = refl
-
     go : (b same : Bool) → is_move call.kind ≡ b → (from == position) ≡ same
         → (is_moved_out calls from position ≡ true → IsOut calls from position)
         → (is_moved_out calls (suc from) position ≡ true → IsOut calls (suc from) position)
@@ -113,11 +112,6 @@ in_turn (call ∷ calls) moves = (
       ap is_some (moves 0 (suc m.index) call m.call refl m.at (omega arith) (move_of call.kind is) m.kind).1),
   in_turn calls (λ i j a b p q less k l. moves (suc i) (suc j) a b p q (omega (arith, less)) k l),
 )
-  where
-    move_of : (k : CallKind) → is_move k ≡ true → k ≡ Move
-    move_of Read e = absurd (cc)
-    move_of (Write value) e = absurd (cc)
-    move_of Move e = refl
 
 -- how many moves are open
 abbrev pub opens : Bool → ℕ

@@ -1,5 +1,5 @@
 -- A move begins, by what was read.
-use Rattle.std.proofs.Common.{◌≡◌, ◌-◌, ◌+◌, ◌<◌, ◌++◌, ◌∷◌, ℕ, suc, true, length, get_or, List, [], None, sym, subst, ap, ◌∙◌}
+use Rattle.std.proofs.Common.{◌≡◌, ◌-◌, ◌+◌, ◌<◌, ◌++◌, ◌∷◌, ℕ, suc, length, get_or, List, [], None, sym, subst, ap, ◌∙◌}
 use Rattle.std.proofs.Common.{arith}
 use Rattle.layout.specs.Layout.{Layout, IsLawful}
 use Rattle.bank.specs.Bank.{empty_piece}
@@ -20,7 +20,7 @@ use Rattle.register.specs.Tracked.{Tracked, with_begun}
 use Rattle.register.proofs.BeginRefusalLemmas.{moved_cause_is, moving_fits, MayMove, may_move}
 use Rattle.register.proofs.FoundCallLemmas.{later}
 use Rattle.register.proofs.LastPositionLemmas.{IsLast, last_of}
-use Rattle.register.proofs.NewMoveLemmas.{fresh_move, with_moving, next_position, with_moving_is, moved_is, moved_kept}
+use Rattle.register.proofs.NewMoveLemmas.{fresh_move, moved_parts, with_moving, next_position, with_moving_is, moved_is, moved_kept}
 
 -- what is read of a register where a move begins: its last position, the call's number, and the call
 pub record IsMoved (c : Contents) (now number from : ℕ) (source : Layout) (call : Tracked) : Type 0 where
@@ -68,16 +68,7 @@ module _ {c : Contents} {now number from : ℕ} {source : Layout} {call : Tracke
       (mail_is : mail ≡ asked call) (new_is : new ≡ with_begun call number (Spread Pending) from source now)
       (reserved_is : reserved ≡ c.calls) (pushed_is : pushed ≡ reserved ++ new ∷ []) where
     abbrev made_of : Contents
-    made_of = record {
-      delta = c.delta;
-      positions = positions;
-      mail = mail;
-      calls = pushed;
-      base = c.base;
-      is_moving = true;
-      stored = c.stored;
-      last = now;
-    }
+    made_of = moved_parts c now positions mail pushed
 
     same : made_of ≡ with_moving c number from source layout now
     same =
@@ -94,5 +85,4 @@ module _ {c : Contents} {now number from : ℕ} {source : Layout} {call : Tracke
 
     pub move_step : state_of made_of
         ≡ record { object = moving_object (state_of c).object (next_id (state_of c).object) layout now; last = now }
-    move_step = ap state_of same ∙ ap (λ x. record { object = x; last = now })
-        (sym (moved_is c now number from source layout b.last b.numbered))
+    move_step = cc (same, moved_is c now number from source layout b.last b.numbered)

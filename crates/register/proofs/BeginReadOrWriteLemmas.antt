@@ -65,9 +65,7 @@ module _ {c : Contents} {kind : CallKind} {now number : ℕ} {layout : Layout} {
 
   pub begun_cause : MayCall c now
       → reading_cause (state_of c).object kind now ≡ mail_cause (asked call)
-  begun_cause may =
-      reading_cause_is c kind now number layout b.kept.based b.placed b.numbered may.within may.few
-      ∙ ap (λ (u : Tracked). mail_cause (asked u)) (sym b.is_fresh)
+  begun_cause may = cc (reading_cause_is c kind now number layout b.kept.based b.placed b.numbered may.within may.few, b.is_fresh)
 
   -- what the mail and the calls are made
   module _ {mail : List Message} {reserved pushed : List Tracked} {new : Tracked} (mail_is : mail ≡ asked call)
@@ -77,9 +75,7 @@ module _ {c : Contents} {kind : CallKind} {now number : ℕ} {layout : Layout} {
     mail_made = mail_is ∙ ap asked b.is_fresh
 
     calls_made : pushed ≡ c.calls ++ reading kind number c.base layout now ∷ []
-    calls_made =
-        pushed_is ∙ ap (λ cs. cs ++ new ∷ []) reserved_is
-        ∙ ap (λ u. c.calls ++ u ∷ []) (new_is ∙ ap (λ (u : Tracked). with_begun u number Next c.base layout now) b.is_fresh)
+    calls_made = cc (pushed_is, reserved_is, new_is, b.is_fresh)
 
     pub begun_kept : MayCall c now → {s : State} → state_of c ≡ s → s.last < now
         → IsKept (record c { mail = mail; calls = pushed; last = now })
@@ -89,7 +85,4 @@ module _ {c : Contents} {kind : CallKind} {now number : ℕ} {layout : Layout} {
 
     pub begun_step : state_of (record c { mail = mail; calls = pushed; last = now })
         ≡ record { object = called_object (state_of c).object (next_id (state_of c).object) kind now; last = now }
-    begun_step =
-        ap (λ ms. state_of (record c { mail = ms; calls = pushed; last = now })) mail_made
-        ∙ ap (λ cs. state_of (record c { mail = reading_mail c number layout; calls = cs; last = now })) calls_made
-        ∙ ap (λ x. record { object = x; last = now }) (sym (called_is c kind now number layout b.kept.based b.placed b.numbered))
+    begun_step = cc (mail_made, calls_made, called_is c kind now number layout b.kept.based b.placed b.numbered)

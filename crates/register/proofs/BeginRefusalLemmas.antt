@@ -1,8 +1,7 @@
 -- Why a call does not begin.
-use Rattle.std.proofs.Common.{nat_lt, nat_le, ◌≡◌, ℕ, suc, ◌+◌, ◌<◌, ◌≤◌, Bool, true, false, not, length, Option, Some, None, refl, sym}
+use Rattle.std.proofs.Common.{nat_lt, nat_le, ◌≡◌, ℕ, suc, ◌+◌, ◌<◌, ◌≤◌, Bool, true, false, not, length, Some, None, refl, sym}
 use Rattle.std.proofs.Common.{subst, ap, ◌∙◌}
 use Rattle.tag.specs.declared.limits.TheConstants.{MOST_CALLS, MOST_MESSAGES, MOST_POSITIONS, MOST_STEPS}
-use Rattle.tag.specs.declared.refusal.Refusal.{Refusal}
 use Rattle.tag.specs.declared.refusal.Refusal.TheVariants.{Full, MovePending}
 use Rattle.layout.specs.Layout.{Layout}
 use Rattle.encoder.specs.Fragment.{fragment}
@@ -21,7 +20,7 @@ use Rattle.register.proofs.ChangedCallLemmas.{sound_room}
 use Rattle.register.proofs.ListLemmas.{length_map}
 use Rattle.register.proofs.LastPositionLemmas.{IsLast, last_lawful}
 use Rattle.register.proofs.NewMoveLemmas.{moving_mail, moved_is, moved_sound}
-use Rattle.register.proofs.RoomLemmas.{few_room, many_full, is_lt, lt_of, le_of, step_within, sum_few}
+use Rattle.register.proofs.RoomLemmas.{few_room, many_full, is_lt, lt_of, le_of, not_true, passed, step_within, sum_few}
 
 -- where no move is open, and the limits of the steps, of the positions and of the calls are kept, the messages alone decide
 pub moved_cause_is : (c : Contents) (now number from : ℕ) (source layout : Layout) → IsKept c → c.is_moving ≡ false → IsLast c from source
@@ -68,15 +67,6 @@ module _ (c : Contents) (now from : ℕ) (source layout : Layout) (kept : IsKept
   no_cause fits after = by_mail ∙ few_room (moving_mail c number from source)
       (moving_fits c now number from source kept none is_last refl after) (by_room ∙ fits)
 
-not_true : (b : Bool) → not b ≡ true → b ≡ false
-not_true true e = absurd (cc)
-not_true false e = refl
-
--- what holds where nothing refuses it comes first, and nothing that comes later does
-kept_unless : (b : Bool) (refusal : Refusal) (later : Option Refusal) → unless b refusal later ≡ None → (b ≡ true) × (later ≡ None)
-kept_unless true refusal later e = (refl, e)
-kept_unless false refusal later e = absurd (cc)
-
 -- what holds where a call may begin
 pub record MayCall (c : Contents) (now : ℕ) : Type 0 where
   pub within : now ≤ MOST_STEPS
@@ -86,8 +76,8 @@ pub may_call : (c : Contents) (step : Step) (now : ℕ) → new_call_cause step 
 may_call c step now free =
     let object = (state_of c).object in
     let mail = mail_cause (stepped fragment step now object).mail in
-    let within = kept_unless (nat_le now MOST_STEPS) Full (unless (nat_lt (length object.calls) MOST_CALLS) Full mail) free in
-    let few = kept_unless (nat_lt (length object.calls) MOST_CALLS) Full mail within.1 in
+    let within = passed (nat_le now MOST_STEPS) Full (unless (nat_lt (length object.calls) MOST_CALLS) Full mail) free in
+    let few = passed (nat_lt (length object.calls) MOST_CALLS) Full mail within.1 in
     record {
       within = le_of now MOST_STEPS within.0;
       few = subst (λ n. n < MOST_CALLS) (length_map (λ (u : Tracked). u.call) c.calls) (lt_of (length object.calls) MOST_CALLS few.0);
@@ -103,9 +93,9 @@ pub may_move : (c : Contents) (now : ℕ) (layout : Layout) → IsKept c → mov
 may_move c now layout kept free =
     let object = (state_of c).object in
     let begun = new_call_cause (Step.CallMove (next_id object) layout) now object in
-    let none = kept_unless (not (has_open_move object.calls)) MovePending
+    let none = passed (not (has_open_move object.calls)) MovePending
     (unless (nat_lt (length object.layouts) MOST_POSITIONS) Full begun) free in
-    let few = kept_unless (nat_lt (length object.layouts) MOST_POSITIONS) Full begun none.1 in
+    let few = passed (nat_lt (length object.layouts) MOST_POSITIONS) Full begun none.1 in
     record {
       none = kept.moving ∙ not_true (has_open_move object.calls) none.0;
       few_positions = subst (λ n. n < MOST_POSITIONS) (length_map (λ (p : Position). p.layout) c.positions)

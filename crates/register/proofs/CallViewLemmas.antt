@@ -10,19 +10,18 @@ use Rattle.tag.specs.declared.limits.TheConstants.{MOST_MEMBERS}
 use Rattle.layout.specs.Layout.{IsLawful}
 use Rattle.phase.specs.declared.phase.Taken.{Taken}
 use Rattle.phase.specs.Phase.{Phase, members_of}
-use Rattle.record.specs.Journals.{stage_tag, tag_of, operation_of}
+use Rattle.record.specs.Journals.{stage_tag, operation_of}
 use Rattle.record.specs.Knowledge.{IsTrueReply, IsTruePhase}
 use Rattle.record.specs.Records.{Object, layout_at, no_layout}
-use Rattle.record.specs.Wants.{current_phase, fetched_or, phase_tag, viewed_tag}
+use Rattle.record.specs.Wants.{current_phase, fetched_or, viewed_tag}
 use Rattle.soundness.proofs.Quorums.ReplyTruthLemmas.{all_get_or}
 use Rattle.soundness.proofs.Sound.WantCaseLemmas.{last_at}
 use Rattle.register.specs.State.{Contents, state_of}
-use Rattle.record.specs.declared.stage.Stage.{Stage}
 use Rattle.record.specs.declared.stage.Want.{Want}
 use Rattle.register.specs.Tracked.{Tracked}
 use Rattle.register.specs.View.{view_at, viewed, phase_view}
 use Rattle.register.proofs.FoundCallLemmas.{IsFound, IsWanting, at, at_number, staged}
-use Rattle.register.proofs.ListLemmas.{all_found}
+use Rattle.soundness.proofs.ListLemmas.{all_get}
 
 in_range : (object : Object) (phase : Phase) (replies : List Taken) (q : ℕ) → AllByRecursion (IsTrueReply object phase) replies
     → list_any (eqb q) (members_of replies) ≡ true → q < length (layout_at object phase.position).members
@@ -40,7 +39,7 @@ module _ {c : Contents} {number index : ℕ} {t : Tracked} (found : IsFound c nu
   pub truth : IsTruePhase (state_of c).object phase
   truth =
       let last = last_at t.call.phases phase current in
-      all_found (IsTruePhase (state_of c).object) t.call.phases last.place phase
+      all_get (IsTruePhase (state_of c).object) t.call.phases last.place phase
       (found.kept.sound.legal.calls index t.call (at found)).phases last.within
 
   pub layout_lawful : IsLawful (layout_at (state_of c).object phase.position)
@@ -58,9 +57,7 @@ module _ {c : Contents} {number index : ℕ} {t : Tracked} (found : IsFound c nu
       omega (arith, few, same, most, limit)
 
   tag_is : viewed_tag (state_of c).object (pred number) t.call ≡ fetched_or phase.kind (stage_tag t.stage)
-  tag_is =
-      ap (λ p. phase_tag p (tag_of (state_of c).object (pred number) t.call)) current
-      ∙ ap (λ (s : Stage). fetched_or phase.kind (stage_tag s)) (sym (staged found))
+  tag_is = cc (current, staged found)
 
   pub view_is : {w : Want} → IsWanting c number index t w → view_at (state_of c).object number ≡ Some (record {
     kind = operation_of t.call.kind;

@@ -4,15 +4,16 @@ use Rattle.std.proofs.Common.{List, [], ◌∷◌, ◌++◌, length, set, Option
 use Rattle.std.proofs.Common.{arith, slice_get}
 use Rattle.std.specs.List.{list_any}
 use Rattle.std.proofs.lemmas.Bool.Decides.{nat_tests}
-use Rattle.std.proofs.lemmas.List.{length_push}
+use Rattle.std.proofs.lemmas.List.{length_push, map-set}
 use Rattle.std.proofs.lemmas.Option.{same_Some, slice_get-map, slice_get_past, get_or_from_slice_get}
+use Rattle.std.proofs.lemmas.List.Folds.{list_any-append}
 use Rattle.tag.specs.declared.limits.TheConstants.{MOST_PHASES, MOST_POSITIONS}
 use Rattle.tag.specs.declared.tag.Tag.{Tag}
 use Rattle.layout.specs.Layout.{Layout}
 use Rattle.encoder.specs.Fragment.{fragment}
 use Rattle.piece.specs.declared.piece.Piece.{Piece}
 use Rattle.bank.specs.declared.kind.Kind.{Kind}
-use Rattle.bank.specs.declared.kind.Kind.TheVariants.{Next, Spread, Query, PreWrite, Finalize, Fetch}
+use Rattle.bank.specs.declared.kind.Kind.TheVariants.{PreWrite}
 use Rattle.mail.specs.declared.message.Message.{Message}
 use Rattle.phase.specs.Phase.{Phase, lacks_pieces}
 use Rattle.record.specs.declared.call.CallKind.{CallKind}
@@ -23,13 +24,13 @@ use Rattle.record.specs.Legal.{first_stage, source_of}
 use Rattle.soundness.specs.Sound.{IsSound}
 use Rattle.record.specs.Steps.{with_phase, new_phase}
 use Rattle.record.specs.Sending.{request_to, requests}
-use Rattle.register.specs.Position.{Position, layouts_of, banks_of}
+use Rattle.register.specs.Position.{Position, layouts_of}
 use Rattle.register.specs.Tracked.{Tracked, calls_of, with_begun}
 use Rattle.register.specs.State.{Contents, object_of, state_of}
 use Rattle.register.proofs.PieceLengthLemmas.{few_have_room, mail_short}
 use Rattle.register.specs.Kept.{HasRoomIfFew, IsKept}
 use Rattle.register.specs.Causes.{call_at, if_call, unless}
-use Rattle.register.proofs.ListLemmas.{map_set, length_map}
+use Rattle.register.proofs.ListLemmas.{length_map}
 use Rattle.register.proofs.StepInvariantLemmas.{call_kept, open_moves_set}
 use Rattle.tag.specs.declared.refusal.Refusal.{Refusal}
 use Rattle.tag.specs.declared.refusal.Refusal.TheVariants.{NoCall, Full}
@@ -51,12 +52,8 @@ no_call object (suc index) (inr past) = slice_get_past object.calls index (omega
 -- Requests
 
 request_plain : (kind : Kind) (a b : Piece) → ((tag : Tag) → kind ≡ PreWrite tag → ⊥) → request_to kind a ≡ request_to kind b
-request_plain Next a b plain = refl
-request_plain (Spread status) a b plain = refl
-request_plain Query a b plain = refl
 request_plain (PreWrite tag) a b plain = absurd (plain tag refl)
-request_plain (Finalize tag) a b plain = refl
-request_plain (Fetch tag) a b plain = refl
+request_plain _ a b plain = refl
 
 -- requests that bring no piece
 pub requests_plain : (call phase : ℕ) (kind : Kind) (position : ℕ) (servers : List ℕ) (member : ℕ) (f g : ℕ → Piece) →
@@ -64,23 +61,7 @@ pub requests_plain : (call phase : ℕ) (kind : Kind) (position : ℕ) (servers 
     ≡ requests call phase kind position servers member g
 requests_plain call phase kind position [] member f g plain = refl
 requests_plain call phase kind position (server ∷ servers) member f g plain =
-    ap (λ q. record {
-      call = call;
-      phase = phase;
-      position = position;
-      member = member;
-      body =
-          Rattle.mail.specs.declared.message.Body.TheVariants.Request q;
-    }
-    ∷ requests call phase kind position servers (suc member) f) (request_plain kind (f member) (g member) plain)
-    ∙ ap (λ ms. record {
-      call = call;
-      phase = phase;
-      position = position;
-      member = member;
-      body = Rattle.mail.specs.declared.message.Body.TheVariants.Request (request_to kind (g member));
-    } ∷ ms)
-    (requests_plain call phase kind position servers (suc member) f g plain)
+    cc (request_plain kind (f member) (g member) plain, requests_plain call phase kind position servers (suc member) f g plain)
 
 -- Open moves
 
@@ -97,17 +78,12 @@ none_any p [] i x none e = absurd (cc)
 none_any p (y ∷ ys) zero x none e = ap p (sym (same_Some y x e)) ∙ (or_false (p y) (list_any p ys) none).0
 none_any p (y ∷ ys) (suc i) x none e = none_any p ys i x (or_false (p y) (list_any p ys) none).1 e
 
+pub or_none : (b : Bool) → (b || false) ≡ b
+or_none true = refl
+or_none false = refl
+
 pub any_push : {A : Type 0} (p : A → Bool) (xs : List A) (y : A) → list_any p (xs ++ y ∷ []) ≡ (list_any p xs || p y)
-any_push p [] y = go (p y)
-  where
-    go : (b : Bool) → (b || false) ≡ b
-    go true = refl
-    go false = refl
-any_push p (x ∷ xs) y = ap (λ b. p x || b) (any_push p xs y) ∙ go (p x) (list_any p xs) (p y)
-  where
-    go : (a b c : Bool) → (a || (b || c)) ≡ ((a || b) || c)
-    go true b c = refl
-    go false b c = refl
+any_push p xs y = list_any-append p xs (y ∷ []) ∙ ap (λ b. list_any p xs || b) (or_none (p y))
 
 -- One call changes
 
@@ -132,31 +108,7 @@ pub with_due_is : (c : Contents) (index : ℕ) (t : Tracked) (kind : Kind) (posi
     with_phase (state_of c).object index t.call kind position now piece
     ≡ (state_of (with_due c index t kind position layout now piece)).object
 with_due_is c index t kind position layout now piece same id =
-    ap (λ n. record {
-      delta = c.delta;
-      layouts = layouts_of c.positions;
-      banks = banks_of c.positions;
-      mail = c.mail ++ requests n (suc (length t.call.phases)) kind position (layout_at (state_of c).object position).members 0 piece;
-      calls = set (calls_of c.calls) index (record t.call {
-        phases = t.call.phases ++ new_phase n (suc (length t.call.phases)) kind position (layout_at (state_of c).object position) now
-            ∷ [];
-      });
-    }) id
-    ∙ ap (λ (l : Layout). record {
-      delta = c.delta;
-      layouts = layouts_of c.positions;
-      banks = banks_of c.positions;
-      mail = c.mail ++ requests (suc index) (suc (length t.call.phases)) kind position l.members 0 piece;
-      calls = set (calls_of c.calls) index (record t.call
-          { phases = t.call.phases ++ new_phase (suc index) (suc (length t.call.phases)) kind position l now ∷ [] });
-    }) same
-    ∙ ap (λ cs. record {
-      delta = c.delta;
-      layouts = layouts_of c.positions;
-      banks = banks_of c.positions;
-      mail = c.mail ++ requests (suc index) (suc (length t.call.phases)) kind position layout.members 0 piece;
-      calls = cs;
-    }) (sym (map_set (λ (u : Tracked). u.call) c.calls index (with_begun t (suc index) kind position layout now)))
+    let changed = map-set (λ (u : Tracked). u.call) c.calls index (with_begun t (suc index) kind position layout now) in cc
 
 pub with_due_kept : (c : Contents) (index : ℕ) (t : Tracked) (kind : Kind) (position : ℕ) (layout : Layout) (now : ℕ) (piece : ℕ → Piece)
     → IsKept c →
@@ -213,8 +165,6 @@ room_there count most later none = go (nat_lt count most) refl none
 pub requests_length : (call phase : ℕ) (kind : Kind) (position : ℕ) (a b : List ℕ) (member : ℕ) (piece : ℕ → Piece) → length a ≡ length b →
     requests call phase kind position a member piece ≡ requests call phase kind position b member piece
 requests_length call phase kind position [] [] member piece e = refl
-requests_length call phase kind position [] (y ∷ b) member piece e = absurd (cc)
-requests_length call phase kind position (x ∷ a) [] member piece e = absurd (cc)
 requests_length call phase kind position (x ∷ a) (y ∷ b) member piece e =
     ap (λ ms. record {
       call = call;
@@ -224,6 +174,7 @@ requests_length call phase kind position (x ∷ a) (y ∷ b) member piece e =
       body = Rattle.mail.specs.declared.message.Body.TheVariants.Request (request_to kind (piece member));
     } ∷ ms)
     (requests_length call phase kind position a b (suc member) piece (omega (arith, e)))
+requests_length call phase kind position _ _ member piece e = absurd (cc)
 
 -- the messages of a sound record have room, where they are not too many
 pub sound_room : (object : Object) (step : ℕ) → IsSound fragment object step → HasRoomIfFew object.mail

@@ -14,10 +14,9 @@ dropped_so_far f banks count = map f (take count banks) ++ drop count banks
 -- the next one is still as it was
 pub next_is : (f : Bank → Bank) (banks : List Bank) (i : ℕ) (other : Bank)
     → get_or (dropped_so_far f banks i) i other ≡ get_or banks i other
-next_is f [] zero other = refl
-next_is f [] (suc i) other = refl
-next_is f (bank ∷ banks) zero other = refl
 next_is f (bank ∷ banks) (suc i) other = next_is f banks i other
+next_is f [] (suc i) other = refl
+next_is f _ _ other = refl
 
 pub next_dropped : (f : Bank → Bank) (banks : List Bank) (i : ℕ) (bank : Bank) → slice_get banks i ≡ Some bank
     → set (dropped_so_far f banks i) i (f bank) ≡ dropped_so_far f banks (suc i)
@@ -37,12 +36,11 @@ next_freed (first ∷ banks) (suc i) bank at =
 
 -- in all no more than all of them store
 pub first_least : (banks : List Bank) (i : ℕ) → banks_bytes (take i banks) ≤ banks_bytes banks
-first_least [] zero = omega arith
-first_least [] (suc i) = omega arith
-first_least (first ∷ banks) zero = omega arith
 first_least (first ∷ banks) (suc i) =
     let rest = first_least banks i in
     omega (arith, rest, sum_by-cons bank_bytes first (take i banks), sum_by-cons bank_bytes first banks)
+first_least [] (suc i) = omega arith
+first_least _ _ = omega arith
 
 -- and at the end all have
 pub all_dropped : (f : Bank → Bank) (banks : List Bank) → dropped_so_far f banks (length banks) ≡ map f banks

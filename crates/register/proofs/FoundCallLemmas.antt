@@ -1,11 +1,11 @@
 -- A call of a register, found by its number.
-use Rattle.std.proofs.Common.{◌≡◌, ℕ, suc, pred, ◌<◌, ◌≤◌, false, cond, is_some, List, [], ◌∷◌, length, get_or, slice_get, Option, Some}
+use Rattle.std.proofs.Common.{◌≡◌, ℕ, suc, pred, ◌<◌, ◌≤◌, List, [], ◌∷◌, length, get_or, slice_get, Option, Some}
 use Rattle.std.proofs.Common.{None, option_map, IfSome, sym, ap, subst, ◌∙◌, refl}
-use Rattle.std.proofs.lemmas.Option.{slice_get_read, same_Some}
+use Rattle.std.proofs.lemmas.Option.{slice_get_read, same_Some, slice_get_within}
 use Rattle.phase.specs.Phase.{Phase}
 use Rattle.record.specs.PhaseOrder.{begun_at, due}
 use Rattle.record.specs.Legal.{due_of, stage_of, BeginsAt}
-use Rattle.record.specs.Wants.{current_phase, want_of, want_after}
+use Rattle.record.specs.Wants.{current_phase, want_of}
 use Rattle.record.specs.declared.stage.Want.{Want}
 use Rattle.record.specs.declared.stage.Want.TheVariants as want
 use Rattle.tag.specs.declared.limits.TheConstants.{MOST_POSITIONS}
@@ -20,7 +20,6 @@ use Rattle.register.specs.State.{Contents, State, object_of, state_of}
 use Rattle.register.specs.Tracked.{Tracked, HasPositionsBelow, tracked_want}
 use Rattle.register.specs.View.{want_at}
 use Rattle.register.proofs.FirstReadingLemmas.{begun_want}
-use Rattle.register.proofs.ListLemmas.{found_within}
 use Rattle.register.proofs.StepInvariantLemmas.{call_found, due_now, due_placed, is_below, few_positions}
 
 -- the call of this number stands at this place of what is kept
@@ -50,9 +49,7 @@ module _ {c : Contents} {number index : ℕ} {t : Tracked} (found : IsFound c nu
   due_kept = due_now c found.kept index t found.there ∙ ap (λ i. due_of (state_of c).object i t.call) place
 
   pub wants : tracked_want (object_of None c.positions [] []) t ≡ want_of (state_of c).object (pred number) t.call
-  wants = ap (λ (w : Want). cond (is_some t.call.answered) want.Done w)
-      (begun_want (state_of c).object t.stage c.base t.call.settled (current_phase t.call.phases)
-      ∙ ap (λ next. want_after (state_of c).object next t.call.settled (current_phase t.call.phases)) due_kept)
+  wants = cc (begun_want (state_of c).object t.stage c.base t.call.settled (current_phase t.call.phases), due_kept)
 
   -- it is at a position that is there
   pub below_due : IfSome (due_of (state_of c).object (pred number) t.call) (λ asked. asked.1 < length c.positions)
@@ -79,15 +76,14 @@ module _ {c : Contents} {number index : ℕ} {t : Tracked} (found : IsFound c nu
   pub same : {old : Tracked} → old ≡ get_or c.calls index old → t ≡ old
   same {old = old} read =
       same_Some t old (sym found.there
-      ∙ slice_get_read c.calls (length c.calls) index old refl (found_within c.calls index t found.there) read)
+      ∙ slice_get_read c.calls (length c.calls) index old refl (slice_get_within c.calls index t found.there) read)
 
   pub again : {old : Tracked} → old ≡ get_or c.calls index old → IsFound c number index old
   again read = subst (λ (u : Tracked). IsFound c number index u) (same read) found
 
   -- its entry, which has its number
   pub entry_is : option_map (entry_of number) (call_at (state_of c).object number) ≡ Some (entry_of t.call.id t.call)
-  entry_is = ap (option_map (entry_of number)) at_number
-      ∙ ap (λ n. Some (entry_of n t.call)) (sym (found.kept.numbered index t.call at ∙ found.named))
+  entry_is = cc (at_number, found.kept.numbered index t.call at, found.named)
 
   pub caused : (cause : Call → Option Refusal) → if_call (call_at (state_of c).object number) cause ≡ cause t.call
   caused cause = ap (λ o. if_call o cause) at_number
@@ -135,17 +131,9 @@ few_those {c = c} kept same = subst (λ (ps : List Position). length ps ≤ MOST
 -- a call that wants neither to settle nor to begin anew
 pub not_settle : (w : Want) (later : Option Refusal) → ((k len : ℕ) → w ≡ want.Settle k len → ⊥) → (w ≡ want.Again → ⊥)
     → if_settle w later ≡ Some NotNow
-not_settle want.Replies later no_settle no_again = refl
-not_settle want.Advance later no_settle no_again = refl
 not_settle want.Again later no_settle no_again = absurd (no_again refl)
-not_settle (want.Supply k n) later no_settle no_again = refl
 not_settle (want.Settle k len) later no_settle no_again = absurd (no_settle k len refl)
-not_settle want.Answer later no_settle no_again = refl
-not_settle want.Done later no_settle no_again = refl
-
-pub not_some : {X : Type 0} (o : Option X) → ((x : X) → o ≡ Some x → ⊥) → is_some o ≡ false
-not_some None no_some = refl
-not_some (Some x) no_some = absurd (no_some x refl)
+not_settle _ later no_settle no_again = refl
 
 -- what comes after what a caller sees comes after what is kept
 pub later : (c : Contents) {s : State} {now : ℕ} → state_of c ≡ s → s.last < now → c.last < now

@@ -13,15 +13,13 @@ use Rattle.decoder.proofs.UniqueValueLemmas.{determined}
 use Rattle.record.specs.Fragments.{Determines, IsCode}
 
 all_take : (P : ℕ → Type 0) (k : ℕ) (xs : List ℕ) → AllByRecursion P xs → AllByRecursion P (take k xs)
-all_take P zero xs all = tt
-all_take P (suc k) [] all = tt
 all_take P (suc k) (x ∷ xs) all = (all.0, all_take P k xs all.1)
+all_take P _ _ all = tt
 
 distinct_take : (k : ℕ) (xs : List ℕ) → IsDistinct nat_eq xs → IsDistinct nat_eq (take k xs)
 unfolding IsDistinct
-distinct_take zero xs distinct = tt
-distinct_take (suc k) [] distinct = tt
 distinct_take (suc k) (x ∷ xs) distinct = (all_take (λ y. nat_eq x y ≡ false) k xs distinct.0, distinct_take k xs distinct.1)
+distinct_take _ _ distinct = tt
 
 length-take_within : (k : ℕ) (xs : List ℕ) → k ≤ length xs → length (take k xs) ≡ k
 length-take_within zero xs within = refl

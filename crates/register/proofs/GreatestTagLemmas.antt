@@ -11,10 +11,10 @@ use Rattle.phase.specs.Phase.{Phase, lacks_pieces}
 use Rattle.record.specs.declared.call.CallKind.{CallKind}
 use Rattle.record.specs.declared.call.CallKind.TheVariants.{Read, Write, Move}
 use Rattle.record.specs.declared.stage.Stage.{Stage}
-use Rattle.record.specs.declared.stage.Stage.TheVariants.{ReadBegin, ReadNext, ReadSpread, QueryFrom, FetchAt, PreWriteAt, FinalizeAt}
+use Rattle.record.specs.declared.stage.Stage.TheVariants.{ReadBegin, ReadNext, ReadSpread, QueryFrom, FetchAt, PreWriteAt}
 use Rattle.record.specs.declared.stage.Stage.TheVariants.{AgainNext}
-use Rattle.record.specs.declared.stage.Stage.TheVariants.{AgainSpread, MoveSpread, MoveQuery, MoveFetch, MovePreWrite, MoveFinalize}
-use Rattle.record.specs.declared.stage.Stage.TheVariants.{MoveFinal, Ended, Moved}
+use Rattle.record.specs.declared.stage.Stage.TheVariants.{MoveQuery, MoveFetch, MovePreWrite}
+use Rattle.record.specs.declared.stage.Stage.TheVariants.{Ended}
 use Rattle.record.specs.PhaseOrder.{shown_tag, greatest_tag, greatest_status, after_next, after_spread, after_again, tagged, after, passed}
 use Rattle.record.specs.PhaseOrder.{begun_at, stage_past, stage_after}
 use Rattle.record.specs.Legal.{first_stage}
@@ -37,7 +37,6 @@ greatest_up_to n (t ∷ ts) shown = later_up_to n (shown_tag t.reply.answer) (gr
 
 after_up_to : (n : ℕ) (kind : CallKind) (number : ℕ) (stage : Stage) (replies : List Taken) (lacks : Bool)
     → AllByRecursion (ShownUpTo n) replies → FoundUpTo n stage → FoundUpTo n (after kind number stage replies lacks)
-after_up_to n kind number ReadBegin replies lacks shown so_far = tt
 after_up_to n kind number (ReadNext position finalized) replies lacks shown so_far = go (greatest_status replies)
   where
     go : (status : Status) → FoundUpTo n (after_next status position finalized)
@@ -71,8 +70,6 @@ after_up_to n kind number (FetchAt shown_at last tag) replies lacks shown so_far
     go true b = tt
     go false true = tt
     go false false = tt
-after_up_to n kind number (PreWriteAt last tag) replies lacks shown so_far = tt
-after_up_to n kind number (FinalizeAt last tag) replies lacks shown so_far = tt
 after_up_to n kind number (AgainNext last position tag) replies lacks shown so_far = go (greatest_status replies) (position == last)
   where
     ends : (b : Bool) → FoundUpTo n (cond b (Ended last tag) (PreWriteAt position tag))
@@ -83,19 +80,12 @@ after_up_to n kind number (AgainNext last position tag) replies lacks shown so_f
     go Unset b = ends (position == last)
     go Pending b = tt
     go Final b = tt
-after_up_to n kind number (AgainSpread last position tag status) replies lacks shown so_far = tt
-after_up_to n kind number (MoveSpread position) replies lacks shown so_far = tt
-after_up_to n kind number (MoveQuery position) replies lacks shown so_far = tt
 after_up_to n kind number (MoveFetch position tag) replies lacks shown so_far = go lacks
   where
     go : (lacks : Bool) → FoundUpTo n (cond lacks (MoveQuery position) (MovePreWrite position tag))
     go true = tt
     go false = tt
-after_up_to n kind number (MovePreWrite position tag) replies lacks shown so_far = tt
-after_up_to n kind number (MoveFinalize position tag) replies lacks shown so_far = tt
-after_up_to n kind number (MoveFinal position tag) replies lacks shown so_far = tt
-after_up_to n kind number (Ended last tag) replies lacks shown so_far = tt
-after_up_to n kind number (Moved position tag) replies lacks shown so_far = tt
+after_up_to n kind number _ replies lacks shown so_far = tt
 
 passed_up_to : (n : ℕ) (kind : CallKind) (number : ℕ) (stage : Stage) (end : Option ℕ) (replies : List Taken)
     (lacks : Bool) → AllByRecursion (ShownUpTo n) replies → FoundUpTo n stage
@@ -105,23 +95,8 @@ passed_up_to n kind number stage (Some end) replies lacks shown so_far = after_u
 
 -- nor does a first reading that begins
 pub begun_up_to : (n : ℕ) (stage : Stage) (position : ℕ) → FoundUpTo n stage → FoundUpTo n (begun_at stage position)
-begun_up_to n ReadBegin position so_far = tt
-begun_up_to n (ReadNext p f) position so_far = tt
-begun_up_to n (ReadSpread p f s) position so_far = tt
 begun_up_to n (QueryFrom p l t q) position so_far = so_far
-begun_up_to n (FetchAt q l t) position so_far = tt
-begun_up_to n (PreWriteAt l t) position so_far = tt
-begun_up_to n (FinalizeAt l t) position so_far = tt
-begun_up_to n (AgainNext l p t) position so_far = tt
-begun_up_to n (AgainSpread l p t s) position so_far = tt
-begun_up_to n (MoveSpread p) position so_far = tt
-begun_up_to n (MoveQuery p) position so_far = tt
-begun_up_to n (MoveFetch p t) position so_far = tt
-begun_up_to n (MovePreWrite p t) position so_far = tt
-begun_up_to n (MoveFinalize p t) position so_far = tt
-begun_up_to n (MoveFinal p t) position so_far = tt
-begun_up_to n (Ended l t) position so_far = tt
-begun_up_to n (Moved p t) position so_far = tt
+begun_up_to n _ position so_far = tt
 
 pub stage_up_to : (n : ℕ) (kind : CallKind) (number : ℕ) (stage : Stage) (phases : List Phase)
     → AllByRecursion (λ (phase : Phase). AllByRecursion (ShownUpTo n) phase.replies) phases → FoundUpTo n stage
@@ -134,5 +109,4 @@ stage_up_to n kind number stage (p ∷ ps) shown so_far =
 
 pub first_up_to : (n : ℕ) (kind : CallKind) (from : ℕ) → FoundUpTo n (first_stage kind from)
 first_up_to n Read from = tt
-first_up_to n (Write value) from = tt
-first_up_to n Move from = tt
+first_up_to n _ from = tt

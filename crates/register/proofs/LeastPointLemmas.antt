@@ -4,23 +4,21 @@ use Rattle.std.proofs.Common.{arith}
 use Rattle.piece.specs.declared.piece.Piece.{Piece}
 use Rattle.phase.specs.declared.phase.Taken.{Taken}
 use Rattle.phase.specs.Phase.{Phase}
-use Rattle.record.specs.Records.{layout_at}
 use Rattle.record.specs.Wants.{current_phase}
 use Rattle.record.specs.declared.stage.Want.{Want}
 use Rattle.record.specs.declared.stage.Want.TheVariants as want
 use Rattle.register.specs.Causes.{pieces_cause, if_settle}
-use Rattle.register.specs.Coding.{piece_by, piece_list, pieces_below, least_of}
+use Rattle.register.specs.Coding.{piece_by, piece_list, pieces_below}
 use Rattle.register.specs.State.{Contents, state_of}
 use Rattle.register.specs.Tracked.{Tracked}
-use Rattle.register.specs.View.{fetched_pieces, pieces_of}
+use Rattle.register.specs.View.{fetched_pieces}
 use Rattle.register.proofs.CallViewLemmas.{truth}
 use Rattle.register.proofs.FoundCallLemmas.{IsWanting, at_number, caused}
 use Rattle.register.proofs.SettleLemmas.{k_is}
 
 pub take_none : {X : Type 0} (k : ℕ) (none : List X) → none ≡ [] → take k none ≡ []
-take_none zero none e = refl
-take_none (suc k) [] e = refl
 take_none (suc k) (x ∷ xs) e = absurd (cc)
+take_none _ _ e = refl
 
 pub take_push : {X : Type 0} (k : ℕ) (xs : List X) (x : X) → length (take k xs) < k → take k (xs ++ x ∷ []) ≡ take k xs ++ x ∷ []
 take_push zero xs x less = absurd (omega (arith, less))
@@ -37,9 +35,7 @@ pub least_pushed : (k member : ℕ) (replies : List Taken) (items : List Piece) 
     → length items < k
     → Some piece ≡ piece_by replies member → items ++ piece ∷ [] ≡ take k (pieces_below replies (suc member))
 least_pushed k member replies items piece is less by =
-    ap (λ xs. xs ++ piece ∷ []) is
-    ∙ sym (take_push k (pieces_below replies member) piece (subst (λ (xs : List Piece). length xs < k) is less))
-    ∙ ap (λ o. take k (pieces_below replies member ++ piece_list o)) by
+    cc (take_push k (pieces_below replies member) piece (subst (λ (xs : List Piece). length xs < k) is less))
 
 pub least_full : (k member : ℕ) (replies : List Taken) (items : List Piece) → items ≡ take k (pieces_below replies member)
     → k ≤ length items
@@ -57,8 +53,4 @@ pub pieces_are : {c : Contents} {number index : ℕ} {t : Tracked} {k len : ℕ}
     → current_phase t.call.phases ≡ Some phase
     → fetched_pieces (state_of c).object number ≡ take k (pieces_below phase.replies phase.members)
 pieces_are {c = c} {t = t} {k = k} {phase = phase} wanted current =
-    ap (pieces_of (state_of c).object) (at_number wanted.found)
-    ∙ ap (least_of (state_of c).object) current
-    ∙ ap (λ k. take k (pieces_below phase.replies (length (layout_at (state_of c).object phase.position).members)))
-    (sym (k_is wanted current))
-    ∙ ap (λ n. take k (pieces_below phase.replies n)) (sym (truth wanted.found current).sized.members)
+    cc (at_number wanted.found, k_is wanted current, (truth wanted.found current).sized.members)

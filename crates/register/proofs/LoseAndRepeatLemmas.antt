@@ -1,5 +1,5 @@
 -- Messages that are lost or repeated.
-use Rattle.std.proofs.Common.{◌≡◌, ℕ, ◌<◌, List, [], ◌∷◌, ◌++◌, length, slice_get, Some, sym, ap, subst, ◌∙◌}
+use Rattle.std.proofs.Common.{◌≡◌, ℕ, ◌<◌, List, [], ◌∷◌, ◌++◌, length, slice_get, Some, sym, ap, subst}
 use Rattle.std.specs.List.{remove}
 use Rattle.encoder.specs.Fragment.{fragment}
 use Rattle.mail.specs.declared.message.Message.{Message}
@@ -26,8 +26,7 @@ pub repeating_is : (c : Contents) (place : ℕ) → place < length c.mail
     ≡ on_message (state_of c).object (slice_get c.mail place) (λ message. repeated_object (state_of c).object message)
 repeating_is c place within =
     let there = found c.mail place within in
-    ap (λ ms. object_of c.delta c.positions ms c.calls) (repeated_is c.mail place there.0 there.1)
-    ∙ sym (ap (λ m. on_message (state_of c).object m (λ message. repeated_object (state_of c).object message)) there.1)
+    cc (repeated_is c.mail place there.0 there.1, there.1)
 
 pub repeating_keeps : (c : Contents) (place now : ℕ) → c.last < now → IsKept c → place < length c.mail
     → IsKept (record c { mail = repeated c.mail place; last = now })

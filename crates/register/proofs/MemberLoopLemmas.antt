@@ -135,15 +135,11 @@ pub waits_behind : (call phase member from : ℕ) (mail : List Message) → AreO
 waits_behind call phase member zero mail others = refl
 waits_behind call phase member (suc from) [] others = absurd others
 waits_behind call phase member (suc from) (m ∷ mail) others =
-    ap (λ b. b || waits mail call phase member) (not_of call phase member m others.0)
-    ∙ waits_behind call phase member from mail others.1
+    cc (not_of call phase member m others.0, waits_behind call phase member from mail others.1)
 
 -- the same requests, by the numbers that a phase has
 pub same_requests : (mail : List Message) (replies : List Taken) (call : ℕ) (n m : ℕ) (j k : Kind) (p q : ℕ) (servers : List ℕ)
     (piece : ℕ → Piece) → n ≡ m → j ≡ k → p ≡ q
     → missing mail (members_of replies) (requests call n j p servers 0 piece)
     ≡ missing mail (members_of replies) (requests call m k q servers 0 piece)
-same_requests mail replies call n m j k p q servers piece number kind position =
-    ap (λ x. missing mail (members_of replies) (requests call x j p servers 0 piece)) number
-    ∙ ap (λ x. missing mail (members_of replies) (requests call m x p servers 0 piece)) kind
-    ∙ ap (λ x. missing mail (members_of replies) (requests call m k x servers 0 piece)) position
+same_requests mail replies call n m j k p q servers piece number kind position = cc

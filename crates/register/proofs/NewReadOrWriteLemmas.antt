@@ -1,6 +1,6 @@
 -- What the call of a read or a write makes of a register.
-use Rattle.std.proofs.Common.{get_or, nat_lt, nat_le, ◌+◌, ◌≡◌, ℕ, zero, suc, ◌<◌, ◌≤◌, ◌⊎◌, Bool, true, false, ◌&&◌, ◌||◌, cond, List, []}
-use Rattle.std.proofs.Common.{◌∷◌, ◌++◌, length, set, take, Option, Some, refl, sym, subst, ap, ◌∙◌, inl, inr, arith, slice_get}
+use Rattle.std.proofs.Common.{get_or, nat_lt, nat_le, ◌+◌, ◌≡◌, ℕ, suc, ◌<◌, ◌≤◌, ◌⊎◌, Bool, true, false, ◌&&◌, ◌||◌, List, []}
+use Rattle.std.proofs.Common.{◌∷◌, ◌++◌, length, take, Option, Some, refl, sym, subst, ap, ◌∙◌, inl, inr, arith, slice_get}
 use Rattle.std.specs.List.{AllByRecursion}
 use Rattle.std.proofs.lemmas.Option.{slice_get_within}
 use Rattle.tag.specs.declared.limits.TheConstants.{LONGEST_VALUE, MOST_CALLS, MOST_MESSAGES, MOST_PHASES, MOST_STEPS}
@@ -8,6 +8,7 @@ use Rattle.layout.specs.Layout.{Layout}
 use Rattle.encoder.specs.Fragment.{fragment}
 use Rattle.bank.specs.Bank.{empty_piece}
 use Rattle.bank.specs.declared.kind.Kind.TheVariants.{Next}
+use Rattle.soundness.proofs.Sound.NewCallLemmas.{moves_push}
 use Rattle.soundness.proofs.Sound.NewPhaseSoundLemmas.{get_pushed}
 use Rattle.record.specs.declared.call.CallKind.{CallKind}
 use Rattle.record.specs.declared.call.CallKind.TheVariants.{Read, Write}
@@ -20,12 +21,13 @@ use Rattle.soundness.specs.Sound.{IsSound}
 use Rattle.record.specs.Steps.{Step, new_call, called_object}
 use Rattle.record.specs.Sending.{requests}
 use Rattle.register.specs.Kept.{is_open_move, has_open_move, IsKept}
-use Rattle.register.specs.Position.{Position, layouts_of, banks_of}
+use Rattle.register.specs.Position.{Position}
 use Rattle.register.specs.State.{Contents, HasNumbersAsIds, next_id, state_of}
 use Rattle.register.specs.Tracked.{Tracked, calls_of, with_begun}
-use Rattle.register.proofs.ListLemmas.{map_push, set_push, length_map, length_push, all_pushed}
+use Rattle.soundness.proofs.ListLemmas.{all_push}
+use Rattle.register.proofs.ListLemmas.{map_push, set_push, length_map, length_push}
 use Rattle.register.proofs.StepInvariantLemmas.{steps_on, next_is_new}
-use Rattle.register.proofs.ChangedCallLemmas.{any_push}
+use Rattle.register.proofs.ChangedCallLemmas.{any_push, or_none}
 use Rattle.register.proofs.RoomLemmas.{le_of, is_lt, not_lt, sum_few, step_within, step_past}
 use Rattle.register.specs.Causes.{unless, if_step}
 use Rattle.mail.specs.declared.message.Message.{Message}
@@ -51,39 +53,24 @@ with_reading c kind number layout now = record c {
   last = now;
 }
 
--- the record with a call numbered `number` that begins at a position, whose layout this is
-abbrev built : Contents → CallKind → (now base : ℕ) → Layout → (number : ℕ) → Object
-built c kind now base layout number = record {
-  delta = c.delta;
-  layouts = layouts_of c.positions;
-  banks = banks_of c.positions;
-  mail = c.mail ++ requests number 1 Next base layout.members 0 empty_piece;
-  calls = set (calls_of c.calls ++ new_call number kind now ∷ []) (length (calls_of c.calls)) (reading kind number base layout now).call;
-}
-
 pub called_is : (c : Contents) (kind : CallKind) (now number : ℕ) (layout : Layout) → c.base ≡ base_of (state_of c).object
     → layout_at (state_of c).object c.base ≡ layout → number ≡ suc (length c.calls) →
     called_object (state_of c).object (next_id (state_of c).object) kind now ≡ (state_of (with_reading c kind number layout now)).object
 called_is c kind now number layout based same is =
-    ap (λ b. built c kind now b (layout_at (state_of c).object b) (suc (length (calls_of c.calls)))) (sym based)
-    ∙ ap (λ (l : Layout). built c kind now c.base l (suc (length (calls_of c.calls)))) same
-    ∙ ap (λ n. built c kind now c.base layout n) (ap suc (length_map (λ (u : Tracked). u.call) c.calls) ∙ sym is)
-    ∙ ap (λ cs. record {
-      delta = c.delta;
-      layouts = layouts_of c.positions;
-      banks = banks_of c.positions;
-      mail = c.mail ++ requests number 1 Next c.base layout.members 0 empty_piece;
-      calls = cs;
-    }) (set_push (calls_of c.calls) (new_call number kind now) (reading kind number c.base layout now).call
-    ∙ sym (map_push (λ (u : Tracked). u.call) c.calls (reading kind number c.base layout now)))
+    let count = length_map (λ (u : Tracked). u.call) c.calls in
+    let put = set_push (calls_of c.calls) (new_call number kind now) (reading kind number c.base layout now).call in
+    let pushed = map_push (λ (u : Tracked). u.call) c.calls (reading kind number c.base layout now) in
+    cc
+
+pub calls_pushed : (c : Contents) (new : Tracked) → calls_of (c.calls ++ new ∷ []) ≡ calls_of c.calls ++ new.call ∷ []
+calls_pushed c new = map_push (λ (u : Tracked). u.call) c.calls new
 
 -- sources of the calls before one more
-pub moves_push : (calls : List Call) (call : Call) (i : ℕ) → i ≤ length calls
-    → moves_in (take i (calls ++ call ∷ [])) ≡ moves_in (take i calls)
-moves_push [] call zero h = refl
-moves_push [] call (suc i) h = absurd (omega arith)
-moves_push (c ∷ calls) call zero h = refl
-moves_push (c ∷ calls) call (suc i) h = ap (λ m. cond (is_move c.kind) (suc m) m) (moves_push calls call i (omega arith))
+pub source_pushed : (c : Contents) (new : Tracked) (i : ℕ) → i ≤ length c.calls
+    → moves_in (take i (calls_of (c.calls ++ new ∷ []))) ≡ moves_in (take i (calls_of c.calls))
+source_pushed c new i within =
+    ap (λ cs. moves_in (take i cs)) (calls_pushed c new)
+    ∙ moves_push (calls_of c.calls) new.call i (subst (λ n. i ≤ n) (sym (length_map (λ (u : Tracked). u.call) c.calls)) within)
 
 -- and ids of the calls with one more
 pub numbered_push : (c : Contents) (number : ℕ) (new : Call) → HasNumbersAsIds (state_of c).object → number ≡ suc (length c.calls)
@@ -125,19 +112,11 @@ module _ (c : Contents) (kind : CallKind) (now number : ℕ) (layout : Layout) (
   abbrev later : Object
   later = (state_of (with_reading c kind number layout now)).object
 
-  pushed : calls_of (c.calls ++ new ∷ []) ≡ calls_of c.calls ++ new.call ∷ []
-  pushed = map_push (λ (u : Tracked). u.call) c.calls new
-
-  same_source : (i : ℕ) → i ≤ length c.calls → source_of later i ≡ source_of (state_of c).object i
-  same_source i within =
-      ap (λ cs. moves_in (take i cs)) pushed
-      ∙ moves_push (calls_of c.calls) new.call i (subst (λ n. i ≤ n) (sym (length_map (λ (u : Tracked). u.call) c.calls)) within)
-
   staged : (i : ℕ) (u : Tracked) → (slice_get c.calls i ≡ Some u) ⊎ ((i ≡ length c.calls) × (new ≡ u)) → u.stage ≡ stage_of later i u.call
   staged i u (inl found) =
       let within = slice_get_within c.calls i u found in
       kept.staged i u found ∙ ap (λ m. stage_after u.call.kind u.call.id (first_stage u.call.kind m) u.call.phases)
-      (sym (same_source i (omega (arith, within))))
+      (sym (source_pushed c new i (omega (arith, within))))
   staged i u (inr here) = subst (λ (u : Tracked). u.stage ≡ stage_of later i u.call) here.1
       (ap (λ s. begun_at s c.base) (reading_first kind (source_of later i) is_reading))
 
@@ -148,22 +127,19 @@ module _ (c : Contents) (kind : CallKind) (now number : ℕ) (layout : Layout) (
       positions = kept.limits.positions;
       calls = subst (λ n. n ≤ MOST_CALLS) (sym (length_map (λ (u : Tracked). u.call) (c.calls ++ new ∷ []) ∙ length_push c.calls new))
           (omega (arith, few));
-      phases = subst (λ cs. AllByRecursion (λ (call : Call). length call.phases ≤ MOST_PHASES) cs) (sym pushed)
-          (all_pushed (λ (call : Call). length call.phases ≤ MOST_PHASES) (calls_of c.calls) new.call kept.limits.phases (omega arith));
+      phases = subst (λ cs. AllByRecursion (λ (call : Call). length call.phases ≤ MOST_PHASES) cs) (sym (calls_pushed c new))
+          (all_push (λ (call : Call). length call.phases ≤ MOST_PHASES) (calls_of c.calls) new.call kept.limits.phases (omega arith));
       stored = kept.limits.stored;
     };
     based = kept.based;
-    numbered = λ i call e. numbered_push c number new.call kept.numbered is refl i call (subst (λ cs. slice_get cs i ≡ Some call) pushed e);
+    numbered = λ i call e. numbered_push c number new.call kept.numbered is refl i call
+        (subst (λ cs. slice_get cs i ≡ Some call) (calls_pushed c new) e);
     staged = λ i u e. staged i u (get_pushed c.calls new u i e);
-    moving = kept.moving ∙ sym (ap has_open_move pushed ∙ any_push is_open_move (calls_of c.calls) new.call
+    moving = kept.moving ∙ sym (ap has_open_move (calls_pushed c new) ∙ any_push is_open_move (calls_of c.calls) new.call
         ∙ ap (λ b. has_open_move (calls_of c.calls) || (b && true)) (reading_stays kind is_reading)
         ∙ or_none (has_open_move (calls_of c.calls)));
     stored = kept.stored;
   }
-    where
-      or_none : (b : Bool) → (b || false) ≡ b
-      or_none true = refl
-      or_none false = refl
 
 -- there is a position
 pub some_position : (c : Contents) → IsKept c → 0 < length c.positions

@@ -1,5 +1,5 @@
 -- An object that was just opened.
-use Rattle.std.proofs.Common.{◌≡◌, ℕ, suc, ◌+◌, false, cond, is_some, List, [], ◌∷◌, ◌++◌, get_or, Option, None, sym, ap, ◌∙◌, refl, arith}
+use Rattle.std.proofs.Common.{◌≡◌, ℕ, suc, false, cond, is_some, List, [], ◌∷◌, ◌++◌, get_or, Option, None, sym, ap, refl, arith}
 use Rattle.std.proofs.lemmas.List.Sums.{sum_by-cons, sum_by_push}
 use Rattle.encoder.specs.Fragment.{fragment}
 use Rattle.layout.specs.Layout.{Layout, IsLawful}
@@ -63,5 +63,4 @@ opened_keeps layout delta now lawful = record {
 }
   where
     none : all_bytes (opened_banks layout.members 0 delta now ∷ []) ≡ 0
-    none = sum_by-cons banks_bytes (opened_banks layout.members 0 delta now) []
-        ∙ ap (λ n. n + 0) (opened_banks_bytes layout.members 0 delta now)
+    none = cc (sum_by-cons banks_bytes (opened_banks layout.members 0 delta now) [], opened_banks_bytes layout.members 0 delta now)

@@ -29,7 +29,9 @@ use Rattle.record.specs.Fragments.{IsCoded, IfCoded, body_tag, body_piece, answe
 use Rattle.record.specs.Journals.{IsJournaled}
 use Rattle.soundness.specs.Sound.{IsSound, IsPosted}
 use Rattle.register.specs.Kept.{HasRoomIfFew}
-use Rattle.register.proofs.ListLemmas.{all_found, found, found_or}
+use Rattle.soundness.proofs.ListLemmas.{all_get}
+use Rattle.std.proofs.lemmas.Option.{get_or_from_slice_get}
+use Rattle.register.proofs.ListLemmas.{found}
 
 le_times : (y k : ℕ) → 1 ≤ k → y ≤ y * k
 le_times zero k some = omega arith
@@ -55,8 +57,8 @@ pub some_k : (object : Object) (step : ℕ) → IsSound fragment object step →
     → 1 ≤ (layout_at object position).k
 some_k object step sound position within =
     let there = found object.layouts position within in
-    let lawful = all_found IsLawful object.layouts position there.0 sound.legal.layouts there.1 in
-    subst (λ (l : Layout). 1 ≤ l.k) (sym (found_or object.layouts position there.0 no_layout there.1)) lawful.some
+    let lawful = all_get IsLawful object.layouts position there.0 sound.legal.layouts there.1 in
+    subst (λ (l : Layout). 1 ≤ l.k) (sym (get_or_from_slice_get object.layouts position there.0 no_layout there.1)) lawful.some
 
 journaled_short : (object : Object) (step : ℕ) → IsSound fragment object step → (tag : Tag) (value : List ℕ) → IsJournaled object tag value
     → length value ≤ LONGEST_VALUE
@@ -85,7 +87,7 @@ if_short object step sound position member within tag piece coded = coded_short 
 pub posted_within : (object : Object) (step : ℕ) → IsSound fragment object step → (message : Message) → IsPosted object message
     → message.position < length object.layouts
 posted_within object step sound message posted =
-    let truth = all_found (IsTruePhase object) posted.call.phases posted.place posted.phase
+    let truth = all_get (IsTruePhase object) posted.call.phases posted.place posted.phase
     (sound.legal.calls posted.index posted.call posted.at).phases posted.within in
     subst (λ p. p < length object.layouts) (sym posted.same_position) truth.placed
 
@@ -95,15 +97,8 @@ answer_short : (object : Object) (step : ℕ) → IsSound fragment object step �
     → answer_bytes a ≤ LONGEST_VALUE
 answer_short object step sound position member made within (kind.Fetch tag) (answer.Piece (Some piece)) truth coded =
     if_short object step sound position member within tag (Some piece) coded
-answer_short object step sound position member made within kind.Next (answer.Piece (Some piece)) truth coded = absurd truth
-answer_short object step sound position member made within (kind.Spread status) (answer.Piece (Some piece)) truth coded = absurd truth
-answer_short object step sound position member made within kind.Query (answer.Piece (Some piece)) truth coded = absurd truth
-answer_short object step sound position member made within (kind.PreWrite tag) (answer.Piece (Some piece)) truth coded = absurd truth
-answer_short object step sound position member made within (kind.Finalize tag) (answer.Piece (Some piece)) truth coded = absurd truth
-answer_short object step sound position member made within k (answer.Piece None) truth coded = omega arith
-answer_short object step sound position member made within k answer.Done truth coded = omega arith
-answer_short object step sound position member made within k (answer.Pointer status) truth coded = omega arith
-answer_short object step sound position member made within k (answer.Greatest tag) truth coded = omega arith
+answer_short object step sound position member made within _ (answer.Piece (Some piece)) truth coded = absurd truth
+answer_short object step sound position member made within k _ truth coded = omega arith
 
 message_short : (object : Object) (step : ℕ) → IsSound fragment object step → (message : Message) → IsPosted object message
     → IfCoded fragment object message.position message.member (body_tag message.body) (body_piece message.body)
@@ -119,11 +114,7 @@ message_short object step sound message posted coded = go message.body refl
     asks : (q : Request) → message.body ≡ body.Request q → request_bytes q ≤ LONGEST_VALUE
     asks (request.PreWrite tag piece) is = if_short object step sound message.position message.member within tag (Some piece)
         (coded_as (body.Request (request.PreWrite tag piece)) is)
-    asks request.Next is = omega arith
-    asks (request.Spread status) is = omega arith
-    asks request.Query is = omega arith
-    asks (request.Finalize tag) is = omega arith
-    asks (request.Fetch tag) is = omega arith
+    asks _ is = omega arith
 
     go : (b : Body) → message.body ≡ b → body_bytes b ≤ LONGEST_VALUE
     go (body.Request q) is = asks q is

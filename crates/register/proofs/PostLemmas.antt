@@ -1,5 +1,5 @@
 -- The current phase of a call that sends no pieces asks again.
-use Rattle.std.proofs.Common.{◌≡◌, ℕ, pred, ◌<◌, Bool, true, false, not, cond, List, ◌++◌, get_or, Option, Some, None, refl, sym}
+use Rattle.std.proofs.Common.{◌≡◌, ℕ, pred, ◌<◌, Bool, true, false, List, ◌++◌, get_or, Option, Some, None, refl, sym}
 use Rattle.std.proofs.Common.{subst, ap, ◌∙◌}
 use Rattle.tag.specs.declared.limits.TheConstants.{MOST_STEPS}
 use Rattle.tag.specs.declared.refusal.Refusal.{Refusal}
@@ -7,7 +7,7 @@ use Rattle.tag.specs.declared.refusal.Refusal.TheVariants.{NotNow, Full}
 use Rattle.tag.specs.declared.tag.Tag.{Tag}
 use Rattle.encoder.specs.Fragment.{fragment}
 use Rattle.bank.specs.declared.kind.Kind.{Kind}
-use Rattle.bank.specs.declared.kind.Kind.TheVariants.{Next, Spread, Query, PreWrite, Finalize, Fetch}
+use Rattle.bank.specs.declared.kind.Kind.TheVariants.{PreWrite}
 use Rattle.mail.specs.Mail.{mail_cause}
 use Rattle.phase.specs.Phase.{Phase, members_of}
 use Rattle.record.specs.declared.stage.Want.{Want}
@@ -20,44 +20,27 @@ use Rattle.record.specs.Wants.{current_phase}
 use Rattle.register.specs.Causes.{unless, if_step, is_replies, is_plain, may_post, post_cause}
 use Rattle.call.specs.Pieces.{piece_from, HavePieces}
 use Rattle.register.specs.Coding.{is_pre_write}
-use Rattle.register.specs.Position.{layouts_of, banks_of}
-use Rattle.register.specs.State.{Contents, made, state_of}
-use Rattle.register.specs.Tracked.{Tracked, calls_of, asked_again}
+use Rattle.register.specs.State.{Contents, made, object_of, state_of}
+use Rattle.register.specs.Tracked.{Tracked, asked_again}
 use Rattle.register.proofs.AskAgainLemmas.{IsAsking, phase_members, phase_call}
 use Rattle.register.proofs.ChangedCallLemmas.{requests_plain}
 use Rattle.register.proofs.FoundCallLemmas.{IsWanting, at, at_place, same, caused}
-use Rattle.register.proofs.RoomLemmas.{step_past}
+use Rattle.register.proofs.RoomLemmas.{not_true, step_past}
 
 pub not_replies : (w : Want) → (w ≡ want.Replies → ⊥) → is_replies w ≡ false
 not_replies want.Replies other = absurd (other refl)
-not_replies want.Advance other = refl
-not_replies want.Again other = refl
-not_replies (want.Supply k n) other = refl
-not_replies (want.Settle k len) other = refl
-not_replies want.Answer other = refl
-not_replies want.Done other = refl
+not_replies _ other = refl
 
 pub plain_phase : (o : Option Phase) → is_plain o ≡ true → (p : Phase) × (o ≡ Some p) × (is_pre_write p.kind ≡ false)
 plain_phase None e = absurd (cc)
 plain_phase (Some p) e = (p, refl, not_true (is_pre_write p.kind) e)
-  where
-    not_true : (b : Bool) → not b ≡ true → b ≡ false
-    not_true true e = absurd (cc)
-    not_true false e = refl
 
 pub no_pre : (kind : Kind) → is_pre_write kind ≡ false → (tag : Tag) → kind ≡ PreWrite tag → ⊥
-no_pre kind plain tag e = true_false (sym (ap is_pre_write e) ∙ plain)
-  where
-    true_false : true ≡ false → ⊥
-    true_false e = absurd (cc)
+no_pre kind plain tag e = absurd (let clash : true ≡ false = sym (ap is_pre_write e) ∙ plain in cc)
 
 no_coded : (kind : Kind) (members : ℕ) → is_pre_write kind ≡ false → HavePieces kind members None
-no_coded Next members plain = tt
-no_coded (Spread status) members plain = tt
-no_coded Query members plain = tt
 no_coded (PreWrite tag) members plain = absurd (cc)
-no_coded (Finalize tag) members plain = tt
-no_coded (Fetch tag) members plain = tt
+no_coded _ members plain = tt
 
 module _ {c : Contents} {number index : ℕ} {t : Tracked} {w : Want} (wanted : IsWanting c number index t w) (now : ℕ) where
   abbrev for_room : (may : Bool) → Option Refusal
@@ -71,9 +54,7 @@ module _ {c : Contents} {number index : ℕ} {t : Tracked} {w : Want} (wanted : 
       ∙ ap (λ v. for_room (may_post v (current_phase t.call.phases))) wanted.wants ∙ ap (λ p. for_room (may_post w p)) current
 
   pub post_refused : (w ≡ want.Replies → ⊥) → post_cause now (state_of c).object number ≡ Some NotNow
-  post_refused other =
-      post_by (current_phase t.call.phases) refl
-      ∙ ap (λ b. for_room (cond b (is_plain (current_phase t.call.phases)) false)) (not_replies w other)
+  post_refused other = cc (post_by (current_phase t.call.phases) refl, not_replies w other)
 
 -- where the call wants replies, and its current phase is known
 module _ {c : Contents} {number index : ℕ} {t : Tracked}
@@ -113,13 +94,7 @@ module _ {c : Contents} {number index : ℕ} {t : Tracked}
         (subst (λ n. stepped fragment (Step.Post (pred n)) now object ≡ stepped fragment (Step.Post index) now object) f.named refl
         ∙ ap (λ o. on_call object o (λ call. steps.asked_again fragment object call (current_phase call.phases))) (at f)
         ∙ ap (λ q. steps.asked_again fragment object t.call q) there
-        ∙ ap (λ rs. record {
-          delta = c.delta;
-          layouts = layouts_of c.positions;
-          banks = banks_of c.positions;
-          mail = c.mail ++ missing c.mail (members_of p.replies) rs;
-          calls = calls_of c.calls;
-        })
+        ∙ ap (λ rs. object_of c.delta c.positions (c.mail ++ missing c.mail (members_of p.replies) rs) c.calls)
         (requests_plain p.call p.number p.kind p.position servers 0 (sent_pieces fragment object t.call p.position) (piece_from None)
         (no_pre p.kind chosen.2)
         ∙ ap (λ n. requests n p.number p.kind p.position servers 0 (piece_from None)) (phase_call f there)))

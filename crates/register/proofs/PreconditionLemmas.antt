@@ -1,5 +1,5 @@
 -- A step that no cause refuses may be made.
-use Rattle.std.proofs.Common.{◌≡◌, ℕ, zero, suc, pred, Bool, true, false, not, nat_le, length, slice_get}
+use Rattle.std.proofs.Common.{◌≡◌, ℕ, zero, suc, pred, true, false, not, nat_le, length, slice_get}
 use Rattle.std.proofs.Common.{Option, Some, None, refl, sym, ap, subst, ◌∙◌}
 use Rattle.tag.specs.declared.limits.TheConstants.{LONGEST_VALUE}
 use Rattle.tag.specs.declared.refusal.Refusal.{Refusal}
@@ -17,7 +17,7 @@ use Rattle.record.specs.Wants.{current_phase, want_of}
 use Rattle.record.specs.declared.stage.Want.{Want}
 use Rattle.record.specs.declared.stage.Want.TheVariants as want
 use Rattle.register.specs.Act.{HasLawfulValues, act_cause, step_of}
-use Rattle.register.specs.Causes.{unless, if_call, if_message, if_settle, call_at, is_answer, is_plain, may_post}
+use Rattle.register.specs.Causes.{if_call, if_message, if_settle, call_at, is_answer, is_plain, may_post}
 use Rattle.register.specs.Causes.{is_decoded_in, served_cause, supplied_cause, taken_cause}
 use Rattle.register.specs.Coding.{is_decoded_from, pieces_due}
 use Rattle.register.specs.Kept.{IsKept, has_open_move}
@@ -30,39 +30,19 @@ use Rattle.register.proofs.FoundCallLemmas.{IsFound, IsWanting, at_place}
 use Rattle.register.proofs.ListLemmas.{found_of_map}
 use Rattle.register.proofs.NewMoveLemmas.{none_open}
 use Rattle.register.proofs.PostLemmas.{plain_phase, no_pre}
-use Rattle.register.proofs.RoomLemmas.{le_of}
+use Rattle.register.proofs.RoomLemmas.{le_of, not_true, passed}
 use Rattle.register.proofs.SentPieceLemmas.{takes}
 use Rattle.register.proofs.SettleLemmas.{k_is, may_settle}
 use Rattle.register.proofs.StepInvariantLemmas.{next_is_new}
 
--- where nothing refuses, the condition holds, and no later cause refuses
-pub passed : (holds : Bool) (refusal : Refusal) (later : Option Refusal) → unless holds refusal later ≡ None
-    → (holds ≡ true) × (later ≡ None)
-passed true refusal later none = (refl, none)
-passed false refusal later none = absurd (cc)
-
-pub not_true : (b : Bool) → not b ≡ true → b ≡ false
-not_true true e = absurd (cc)
-not_true false e = refl
-
 answer_is : (w : Want) → is_answer w ≡ true → w ≡ want.Answer
 answer_is want.Answer e = refl
-answer_is want.Replies e = absurd (cc)
-answer_is want.Advance e = absurd (cc)
-answer_is want.Again e = absurd (cc)
-answer_is (want.Supply k n) e = absurd (cc)
-answer_is (want.Settle k len) e = absurd (cc)
-answer_is want.Done e = absurd (cc)
+answer_is _ e = absurd (cc)
 
 -- a call that may post wants replies, and its current phase sends no pieces
 post_is : (w : Want) (phase : Option Phase) → may_post w phase ≡ true → (w ≡ want.Replies) × (is_plain phase ≡ true)
 post_is want.Replies phase e = (refl, e)
-post_is want.Answer phase e = absurd (cc)
-post_is want.Advance phase e = absurd (cc)
-post_is want.Again phase e = absurd (cc)
-post_is (want.Supply k n) phase e = absurd (cc)
-post_is (want.Settle k len) phase e = absurd (cc)
-post_is want.Done phase e = absurd (cc)
+post_is _ phase e = absurd (cc)
 
 -- the call wants to settle a value
 record IsSettling (w : Want) (later : Option Refusal) : Type 0 where
@@ -73,12 +53,7 @@ record IsSettling (w : Want) (later : Option Refusal) : Type 0 where
 
 settling_is : (w : Want) (later : Option Refusal) → if_settle w later ≡ None → IsSettling w later
 settling_is (want.Settle k len) later none = record { k = k; len = len; wants = refl; free = none }
-settling_is want.Replies later none = absurd (cc)
-settling_is want.Answer later none = absurd (cc)
-settling_is want.Advance later none = absurd (cc)
-settling_is want.Again later none = absurd (cc)
-settling_is (want.Supply k n) later none = absurd (cc)
-settling_is want.Done later none = absurd (cc)
+settling_is _ later none = absurd (cc)
 
 decoded_phase : (object : Object) (phase : Option Phase) (decoded : Decoding) → is_decoded_in object phase decoded ≡ true
     → (p : Phase) × (phase ≡ Some p) × (is_decoded_from (layout_at object p.position).k p.replies decoded ≡ true)

@@ -1,6 +1,7 @@
 -- Recorded pieces, and what a call wants that is to settle a value.
 use Rattle.std.proofs.Common.{◌≡◌, ℕ, suc, ◌&&◌, ◌||◌, Bool, true, false, cond, is_some, List, [], ◌∷◌}
 use Rattle.std.proofs.Common.{slice_get, Option, Some, None, sym, ap, subst, ◌∙◌, refl, arith}
+use Rattle.std.proofs.lemmas.Option.{same_Some}
 use Rattle.std.specs.List.{All, AllByRecursion}
 use Rattle.std.specs.Cmp.Lexicographic.{same_text}
 use Rattle.std.proofs.lemmas.Bool.{eqb-true}
@@ -68,9 +69,7 @@ taken_of (t ∷ replies) piece e = go (λ r. taken_of replies piece r) (has_same
 
 pub is_answer : (a : Answer) (piece : Piece) → answer_piece a ≡ Some piece → a ≡ answer.Piece (Some piece)
 is_answer (answer.Piece o) piece e = ap answer.Piece e
-is_answer answer.Done piece e = absurd (cc)
-is_answer (answer.Pointer status) piece e = absurd (cc)
-is_answer (answer.Greatest tag) piece e = absurd (cc)
+is_answer _ piece e = absurd (cc)
 
 -- the point of a recorded piece of a fetch is its member
 pub point_is : (object : Object) (position member : ℕ) (tag : Tag) (kind : Kind) (a : Answer) (piece : Piece) → kind ≡ Fetch tag
@@ -84,9 +83,6 @@ point_is object position member tag kind a piece fetch is coded =
 
 pub settle_k : (a b c d : ℕ) → want.Settle a b ≡ want.Settle c d → a ≡ c
 settle_k a b c d e = cc
-
-pub same_phase : (p q : Phase) → Some p ≡ Some q → p ≡ q
-same_phase p q e = cc
 
 -- what a call wants that is to settle a value
 settles_is : (object : Object) (index : ℕ) (call : Call) (u : Unsettled call false)
@@ -112,7 +108,4 @@ settles_is object index call u =
 pub settles_with : (object : Object) (index : ℕ) (call : Call) (phase : Phase) → current_phase call.phases ≡ Some phase
     → (u : Unsettled call false)
     → want_of object index call ≡ want.Settle (layout_at object phase.position).k (value_len phase.replies)
-settles_with object index call phase current u =
-    settles_is object index call u
-    ∙ ap (λ (p : Phase). want.Settle (layout_at object p.position).k (value_len p.replies))
-    (same_phase u.phase phase (sym u.current ∙ current))
+settles_with object index call phase current u = cc (settles_is object index call u, same_Some u.phase phase (sym u.current ∙ current))

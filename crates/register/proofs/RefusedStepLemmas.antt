@@ -20,7 +20,4 @@ written_back xs i {read = read} same is = ap (set xs i) (same ∙ is) ∙ set-ge
 pub as_it_was : {c : Contents} {s : State} {positions : List Position} {mail : List Message} {calls : List Tracked} → IsKept c
     → state_of c ≡ s → positions ≡ c.positions → mail ≡ c.mail → calls ≡ c.calls
     → state_of (record c { positions = positions; mail = mail; calls = calls }) ≡ s
-as_it_was {c = c} {mail = mail} {calls = calls} kept view positions_are mail_is calls_are =
-    ap (λ positions. state_of (record c { positions = positions; mail = mail; calls = calls })) positions_are
-    ∙ ap (λ mail. state_of (record c { mail = mail; calls = calls })) mail_is
-    ∙ ap (λ calls. state_of (record c { calls = calls })) calls_are ∙ view
+as_it_was {c = c} {mail = mail} {calls = calls} kept view positions_are mail_is calls_are = cc

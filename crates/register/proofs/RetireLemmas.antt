@@ -5,7 +5,7 @@ use Rattle.std.proofs.Common.{arith}
 use Rattle.std.proofs.Common.{add-one}
 use Rattle.std.proofs.lemmas.Bool.Decides.{nat_tests}
 use Rattle.std.proofs.lemmas.List.Sums.{sum_by-cons}
-use Rattle.std.proofs.lemmas.Option.{slice_get_read}
+use Rattle.std.proofs.lemmas.Option.{slice_get_read, get_or_from_slice_get}
 use Rattle.tag.specs.declared.limits.TheConstants.{MOST_BYTES, MOST_POSITIONS, MOST_STEPS}
 use Rattle.tag.specs.declared.refusal.Refusal.TheVariants.{NotNow, Full}
 use Rattle.layout.specs.Layout.{Layout}
@@ -26,7 +26,9 @@ use Rattle.register.specs.Retiring.{is_moved_out, is_retirable, retire_cause}
 use Rattle.register.specs.Kept.{IsKept, has_open_move}
 use Rattle.register.specs.Position.{Position, layouts_of, banks_of, banks_bytes, all_bytes}
 use Rattle.register.specs.State.{Contents, State, made, object_of, state_of}
-use Rattle.register.proofs.ListLemmas.{found_map, found_or, length_map, map_set, set_same, sum_at, sum_put}
+use Rattle.std.proofs.lemmas.List.{map-set}
+use Rattle.soundness.proofs.Sound.TakenReplyLemmas.{set_same}
+use Rattle.register.proofs.ListLemmas.{found_map, length_map, sum_at, sum_put}
 use Rattle.register.proofs.StepInvariantLemmas.{base_within, steps_on}
 use Rattle.register.proofs.RoomLemmas.{step_past, step_within}
 use Rattle.register.proofs.AnsweredMoveLemmas.{out_found, in_turn, opens, out_counted, shifted}
@@ -109,8 +111,7 @@ module _ (c : Contents) (kept : IsKept c) where
           → unless (same && is) NotNow (if_step now None) ≡ None → MayStep fragment object Step.Retire
       go true true test is free =
           let here : position ≡ base_of object = grind (arith, nat_tests, test) in moved position here is
-      go true false test is free = absurd (cc)
-      go false is test e free = absurd (cc)
+      go _ _ test _ free = absurd (cc)
 
 -- What the register holds afterwards
 
@@ -138,8 +139,7 @@ base_part {c = c} {p = p} kept read =
     let at = slice_get_read c.positions (length c.positions) c.base p refl (base_within c kept) read in
     let part = sum_at banks_bytes (banks_of c.positions) c.base p.banks
     (found_map (λ (p : Position). p.banks) c.positions c.base p at) in
-    let total = kept.stored in
-    omega (arith, part, total)
+    omega (arith, part, kept.stored)
 
 -- what was read of a register that refuses nothing
 pub retiring : {c : Contents} {p new : Position} (position now : ℕ) → IsKept c → {s : State} → state_of c ≡ s
@@ -160,7 +160,7 @@ module _ {c : Contents} {now : ℕ} {p new : Position} (r : IsRetiring c now p n
   base_banks : get_or (banks_of c.positions) (base_of was) [] ≡ p.banks
   base_banks =
       ap (λ n. get_or (banks_of c.positions) n []) (sym r.kept.based)
-      ∙ found_or (banks_of c.positions) c.base p.banks [] (found_map (λ (p : Position). p.banks) c.positions c.base p r.at)
+      ∙ get_or_from_slice_get (banks_of c.positions) c.base p.banks [] (found_map (λ (p : Position). p.banks) c.positions c.base p r.at)
 
   -- what is freed is what the base's banks store
   pub freed_is : {freed : ℕ} → freed ≡ banks_bytes p.banks → freed ≡ base_bytes was
@@ -168,21 +168,15 @@ module _ {c : Contents} {now : ℕ} {p new : Position} (r : IsRetiring c now p n
 
   layouts_are : layouts_of (set c.positions c.base new) ≡ layouts_of c.positions
   layouts_are =
-      map_set (λ (p : Position). p.layout) c.positions c.base new
+      map-set (λ (p : Position). p.layout) c.positions c.base new
       ∙ set_same (layouts_of c.positions) c.base new.layout
       (found_map (λ (p : Position). p.layout) c.positions c.base p r.at ∙ ap Some (sym r.layout))
 
   banks_are : banks_of (set c.positions c.base new) ≡ (retired_object was now).banks
-  banks_are =
-      map_set (λ (p : Position). p.banks) c.positions c.base new
-      ∙ ap (set (banks_of c.positions) c.base) (r.banks ∙ ap (map (λ bank. retired_bank bank now)) (sym base_banks))
-      ∙ ap (λ n. set (banks_of c.positions) n (map (λ bank. retired_bank bank now) (get_or (banks_of c.positions) (base_of was) [])))
-      r.kept.based
+  banks_are = cc (map-set (λ (p : Position). p.banks) c.positions c.base new, r.banks, base_banks, r.kept.based)
 
   retiring_is : object_of c.delta (set c.positions c.base new) c.mail c.calls ≡ retired_object was now
-  retiring_is =
-      ap (λ ls. parts was ls (banks_of (set c.positions c.base new))) layouts_are
-      ∙ ap (λ bs. parts was (layouts_of c.positions) bs) banks_are
+  retiring_is = cc (layouts_are, banks_are)
 
   stored_is : c.stored - banks_bytes p.banks ≡ all_bytes (banks_of (set c.positions c.base new))
   stored_is =
@@ -190,10 +184,9 @@ module _ {c : Contents} {now : ℕ} {p new : Position} (r : IsRetiring c now p n
       let put = sum_put banks_bytes (banks_of c.positions) c.base p.banks new.banks there in
       let part = sum_at banks_bytes (banks_of c.positions) c.base p.banks there in
       let list : all_bytes (banks_of (set c.positions c.base new)) ≡ all_bytes (set (banks_of c.positions) c.base new.banks) =
-      ap all_bytes (map_set (λ (p : Position). p.banks) c.positions c.base new) in
+      ap all_bytes (map-set (λ (p : Position). p.banks) c.positions c.base new) in
       let none : banks_bytes new.banks ≡ 0 = ap banks_bytes r.banks ∙ none_stored p.banks now in
-      let total = r.kept.stored in
-      omega (arith, put, part, list, none, total)
+      omega (arith, put, part, list, none, r.kept.stored)
 
   module _ {freed : ℕ} (is : freed ≡ banks_bytes p.banks) where
     -- what is held then

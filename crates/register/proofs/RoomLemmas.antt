@@ -1,6 +1,6 @@
 -- Room for phases and messages.
 use Rattle.std.proofs.Common.{◌≡◌, ℕ, suc, ◌+◌, ◌<◌, ◌≤◌, ◌&&◌, nat_lt, nat_le, true, false, cond, List, [], ◌∷◌, ◌++◌, length, Option}
-use Rattle.std.proofs.Common.{Some, None, Result, Ok, Err, IsErrAnd, Bool, sym, ap, subst, ◌∙◌, inr, refl, arith}
+use Rattle.std.proofs.Common.{Some, None, Result, Ok, Err, IsErrAnd, Bool, not, sym, ap, subst, ◌∙◌, inr, refl, arith}
 use Rattle.std.proofs.lemmas.Bool.Decides.{nat_tests}
 use Rattle.tag.specs.Cause.{IsRefusalBy}
 use Rattle.tag.specs.declared.limits.TheConstants.{MOST_BYTES, MOST_MESSAGES, MOST_STEPS}
@@ -32,6 +32,16 @@ le_of n m is = grind (arith, nat_tests, is)
 
 pub not_le : (n m : ℕ) → m < n → nat_le n m ≡ false
 not_le n m more = grind (arith, nat_tests, more)
+
+pub not_true : (b : Bool) → not b ≡ true → b ≡ false
+not_true true e = absurd (cc)
+not_true false e = refl
+
+-- where nothing refuses, the condition holds, and no later cause refuses
+pub passed : (holds : Bool) (refusal : Refusal) (later : Option Refusal) → unless holds refusal later ≡ None
+    → (holds ≡ true) × (later ≡ None)
+passed true refusal later none = (refl, none)
+passed false refusal later none = absurd (cc)
 
 -- a step within the limit of steps is refused for what comes after that
 pub step_within : (now : ℕ) (later : Option Refusal) → now ≤ MOST_STEPS → if_step now later ≡ later
@@ -89,8 +99,7 @@ pub sum_few : (mail : List Message) (call phase : ℕ) (kind : Kind) (position :
     → count ≡ length servers → b ≡ nat_le (length mail + count) MOST_MESSAGES
     → nat_le (length (mail ++ requests call phase kind position servers 0 piece)) MOST_MESSAGES ≡ b
 sum_few mail call phase kind position servers piece count b is room =
-    ap (λ n. nat_le n MOST_MESSAGES) (length_append mail (requests call phase kind position servers 0 piece)
-    ∙ ap (λ n. length mail + n) (length_requests call phase kind position servers 0 piece ∙ sym is)) ∙ sym room
+    cc (length_append mail (requests call phase kind position servers 0 piece), length_requests call phase kind position servers 0 piece)
 
 -- whether messages with these have room
 pub more_few : (mail more : List Message) (count : ℕ) (b : Bool) → count ≡ length more → b ≡ nat_le (length mail + count) MOST_MESSAGES

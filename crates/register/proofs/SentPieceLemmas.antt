@@ -1,12 +1,12 @@
 -- A call that is to send the pieces of its value.
 use Rattle.std.proofs.Common.{◌≡◌, ℕ, pred, ◌<◌, ◌⊎◌, cond, is_some, List, [], length, get_or, Option, Some, None, IsSome, IfSome}
 use Rattle.std.proofs.Common.{option_map, sym, ap, subst, ◌∙◌, inl, inr, refl, Result, Ok, Err, IfErr}
-use Rattle.std.proofs.lemmas.Option.{slice_get_read}
+use Rattle.std.proofs.lemmas.Option.{slice_get_read, get_or_from_slice_get, same_Some}
 use Rattle.tag.specs.declared.refusal.Refusal.{Refusal}
 use Rattle.tag.specs.declared.refusal.Refusal.TheVariants.{NotNow, NoMemory}
 use Rattle.tag.specs.Refusal.{IsByCause}
 use Rattle.bank.specs.declared.kind.Kind.{Kind}
-use Rattle.bank.specs.declared.kind.Kind.TheVariants.{Next, Spread, Query, PreWrite, Finalize, Fetch}
+use Rattle.bank.specs.declared.kind.Kind.TheVariants.{PreWrite}
 use Rattle.encoder.specs.Fragment.{fragment}
 use Rattle.layout.specs.Layout.{Layout}
 use Rattle.phase.specs.Phase.{Phase}
@@ -24,16 +24,16 @@ use Rattle.register.specs.Coding.{is_pre_write, sending_position, pieces_positio
 use Rattle.register.specs.Position.{Position, layouts_of}
 use Rattle.register.specs.State.{Contents, object_of, state_of}
 use Rattle.register.specs.Tracked.{Tracked, tracked_want}
-use Rattle.register.specs.View.{coding_at, coding_of, to_code}
+use Rattle.register.specs.View.{coding_at}
 use Rattle.register.proofs.FirstReadingLemmas.{begun_pieces}
 use Rattle.register.proofs.FoundCallLemmas.{IsFound, at_number, at_place, caused, below, below_due, due_kept}
-use Rattle.register.proofs.ListLemmas.{found_map, found_or}
+use Rattle.register.proofs.ListLemmas.{found_map}
 
 -- the layout that is read at a position
 pub layout_read : (ps : List Position) (i : ℕ) (p : Position) → i < length ps → p ≡ get_or ps i p
     → get_or (layouts_of ps) i no_layout ≡ p.layout
 layout_read ps i p within read =
-    found_or (layouts_of ps) i p.layout no_layout
+    get_or_from_slice_get (layouts_of ps) i p.layout no_layout
     (found_map (λ (p : Position). p.layout) ps i p (slice_get_read ps (length ps) i p refl within read))
 
 -- a phase that sends pieces
@@ -44,12 +44,8 @@ pub record IsSending (current : Option Phase) (position : ℕ) : Type 0 where
   pub same : phase.position ≡ position
 
 sends_pieces : (kind : Kind) (p position : ℕ) → cond (is_pre_write kind) (Some p) None ≡ Some position → IsPreWrite kind × (p ≡ position)
-sends_pieces Next p position e = absurd (cc)
-sends_pieces (Spread s) p position e = absurd (cc)
-sends_pieces Query p position e = absurd (cc)
 sends_pieces (PreWrite tag) p position e = ((tag, refl), cc)
-sends_pieces (Finalize tag) p position e = absurd (cc)
-sends_pieces (Fetch tag) p position e = absurd (cc)
+sends_pieces _ p position e = absurd (cc)
 
 pub sending_of : (current : Option Phase) (position : ℕ) → sending_position current ≡ Some position → IsSending current position
 sending_of None position e = absurd (cc)
@@ -60,10 +56,7 @@ sending_of (Some phase) position e =
 due_below : (n position : ℕ) (next : Option (Kind × ℕ)) → IfSome next (λ asked. asked.1 < n)
     → option_map (λ (asked : Kind × ℕ). asked.1) next ≡ Some position → position < n
 due_below n position None below e = absurd (cc)
-due_below n position (Some asked) below e = let same : asked.1 ≡ position = same_number asked.1 position e in subst (λ m. m < n) same below
-  where
-    same_number : (a b : ℕ) → Some a ≡ Some b → a ≡ b
-    same_number a b e = cc
+due_below n position (Some asked) below e = let same : asked.1 ≡ position = same_Some asked.1 position e in subst (λ m. m < n) same below
 
 no_none : {X : Type 0} (o : Option X) → IsSome o → None ≡ o → ⊥
 no_none None some e = absurd (cc)
@@ -119,11 +112,7 @@ module _ {c : Contents} {number index : ℕ} {t : Tracked} {position : ℕ} (s :
       go want.Replies is e =
           let here = sending_of (current_phase t.call.phases) position e in
           inr (here.phase, record { wants = (at_place s.found, is); current = here.is }, here.kind)
-      go want.Advance is e = absurd (cc)
-      go want.Again is e = absurd (cc)
-      go (want.Settle k len) is e = absurd (cc)
-      go want.Answer is e = absurd (cc)
-      go want.Done is e = absurd (cc)
+      go _ is e = absurd (cc)
 
   pub position_there : position < length c.positions
   position_there = go (want_of object (pred number) t.call) s.due
@@ -134,11 +123,7 @@ module _ {c : Contents} {number index : ℕ} {t : Tracked} {position : ℕ} (s :
       go want.Replies e =
           let here = sending_of (current_phase t.call.phases) position e in
           subst (λ p. p < length c.positions) here.same ((below s.found).current here.phase here.is)
-      go want.Advance e = absurd (cc)
-      go want.Again e = absurd (cc)
-      go (want.Settle k len) e = absurd (cc)
-      go want.Answer e = absurd (cc)
-      go want.Done e = absurd (cc)
+      go _ e = absurd (cc)
 
   pub sent_value_there : None ≡ sent_value t.call.kind t.call.settled → ⊥
   sent_value_there none =
@@ -152,9 +137,4 @@ module _ {c : Contents} {number index : ℕ} {t : Tracked} {position : ℕ} (s :
   pub coding_is : {value : List ℕ} {layout : Layout} → Some value ≡ sent_value t.call.kind t.call.settled
       → layout_at object position ≡ layout
       → coding_at object number ≡ Some (value, layout.k, length layout.members)
-  coding_is {value = value} sent layout_is =
-      ap (coding_of object number) (at_number s.found)
-      ∙ ap (option_map (to_code object t.call)) s.due
-      ∙ ap (λ v. Some (v, (layout_at object position).k, length (layout_at object position).members))
-      (or_empty (sent_value t.call.kind t.call.settled) value sent)
-      ∙ ap (λ (l : Layout). Some (value, l.k, length l.members)) layout_is
+  coding_is {value = value} sent layout_is = cc (at_number s.found, s.due, or_empty (sent_value t.call.kind t.call.settled) value sent)

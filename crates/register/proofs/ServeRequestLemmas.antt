@@ -14,7 +14,7 @@ use Rattle.bank.specs.Knowledge.{arrived_at}
 use Rattle.bank.specs.Serve.{served_bank, reply_to, answer_to}
 use Rattle.bank.specs.declared.request.Request.{Request}
 use Rattle.bank.specs.declared.reply.Answer.TheVariants as answer
-use Rattle.std.proofs.lemmas.Option.{slice_get_read}
+use Rattle.std.proofs.lemmas.Option.{slice_get_read, slice_get_within, get_or_from_slice_get}
 use Rattle.bank.specs.declared.row.Row.{Row}
 use Rattle.std.specs.FinMap as finmap
 use Rattle.bank.specs.declared.request.Request.TheVariants as request
@@ -26,11 +26,13 @@ use Rattle.mail.specs.Mail.{mail_bytes, replied, replied_message}
 use Rattle.record.specs.Records.{Call, Object, bank_at, no_bank, retired_first}
 use Rattle.soundness.specs.Sound.{IsSound}
 use Rattle.soundness.proofs.Sound.ServedBankLemmas.{served-retired}
-use Rattle.record.specs.Steps.{Step, on_message, served_by}
+use Rattle.record.specs.Steps.{Step}
 use Rattle.register.specs.Position.{Position, layouts_of, banks_of, banks_bytes, all_bytes}
 use Rattle.register.specs.State.{Contents, object_of, state_of, made}
 use Rattle.register.specs.Kept.{IsKept}
-use Rattle.register.proofs.ListLemmas.{same_some, found_within, found_or, found_map, map_set, set_same, sum_put}
+use Rattle.std.proofs.lemmas.List.{map-set}
+use Rattle.soundness.proofs.Sound.TakenReplyLemmas.{set_same}
+use Rattle.register.proofs.ListLemmas.{same_some, found_map, sum_put}
 use Rattle.register.proofs.FirstReadingLemmas.{first_set, member_set}
 use Rattle.register.proofs.ListLemmas.{sum_at}
 use Rattle.register.proofs.StepInvariantLemmas.{steps_on}
@@ -44,11 +46,7 @@ added_few b (request.PreWrite tag piece) = go (is_some (arrived_at b tag))
     go : (known : Bool) → cond known 0 (length piece.bytes) ≤ length piece.bytes
     go true = omega arith
     go false = omega arith
-added_few b request.Next = omega arith
-added_few b (request.Spread status) = omega arith
-added_few b request.Query = omega arith
-added_few b (request.Finalize tag) = omega arith
-added_few b (request.Fetch tag) = omega arith
+added_few b _ = omega arith
 
 pub served_few : (b : Bank) (q : Request) (now : ℕ) → bank_bytes (served_bank b q now) ≤ bank_bytes b + request_bytes q
 served_few b q now = let sum = served_bytes b q now in let few = added_few b q in omega (arith, sum, few)
@@ -67,7 +65,7 @@ pub record IsServing (c : Contents) (place : ℕ) (m : Message) (p : Position) (
 
 pub position_there : {c : Contents} (place : ℕ) {m : Message} → IsKept c → slice_get c.mail place ≡ Some m → m.position < length c.positions
 position_there {c = c} place {m = m} kept waits =
-    let t = there c kept place m waits in found_within c.positions m.position t.position t.at
+    let t = there c kept place m waits in slice_get_within c.positions m.position t.position t.at
 
 pub serving : {c : Contents} (place : ℕ) {m : Message} {p : Position} {q : Request} → IsKept c → slice_get c.mail place ≡ Some m
     → m.body ≡ body.Request q → p ≡ get_or c.positions m.position p → IsServing c place m p q
@@ -101,7 +99,7 @@ module _ {c : Contents} {place : ℕ} {m : Message} {p : Position} {q : Request}
   held = s.held
 
   pub member_there : m.member < length p.banks
-  member_there = found_within p.banks m.member b held
+  member_there = slice_get_within p.banks m.member b held
 
   -- what the bank stores is part of all that is stored
   pub part_stored : bank_bytes b ≤ c.stored
@@ -120,9 +118,9 @@ module _ {c : Contents} {place : ℕ} {m : Message} {p : Position} {q : Request}
 
   bank_is : bank_at (state_of c).object m.position m.member ≡ b
   bank_is =
-      ap (λ bs. get_or bs m.member no_bank) (found_or (banks_of c.positions) m.position p.banks []
+      ap (λ bs. get_or bs m.member no_bank) (get_or_from_slice_get (banks_of c.positions) m.position p.banks []
       (found_map (λ (p : Position). p.banks) c.positions m.position p at))
-      ∙ found_or p.banks m.member b no_bank held
+      ∙ get_or_from_slice_get p.banks m.member b no_bank held
 
   placed : m.position < length (state_of c).object.layouts
   placed = (there c kept place m waits).placed
@@ -153,11 +151,7 @@ module _ {c : Contents} {place : ℕ} {m : Message} {p : Position} {q : Request}
           kept : (outside : Bool) → answer_bytes (answer.Piece (cond outside None (piece_of b tag))) ≤ LONGEST_VALUE
           kept true = omega arith
           kept false = kept_short tag (piece_of b tag) refl
-      go request.Next = omega arith
-      go (request.Spread status) = omega arith
-      go request.Query = omega arith
-      go (request.PreWrite tag piece) = omega arith
-      go (request.Finalize tag) = omega arith
+      go _ = omega arith
 
   pub reply_room : length c.mail ≤ MOST_MESSAGES → mail_bytes c.mail + answer_bytes (answer_to b q) ≤ MOST_BYTES
   reply_room few = reply_has_room (state_of c).object c.last kept.sound few (answer_bytes (answer_to b q)) answer_short
@@ -167,41 +161,28 @@ module _ {c : Contents} {place : ℕ} {m : Message} {p : Position} {q : Request}
       (banks : new.banks ≡ set p.banks m.member (served_bank b q now)) where
     layouts_are : layouts_of (set c.positions m.position new) ≡ layouts_of c.positions
     layouts_are =
-        map_set (λ (p : Position). p.layout) c.positions m.position new
+        map-set (λ (p : Position). p.layout) c.positions m.position new
         ∙ set_same (layouts_of c.positions) m.position new.layout
         (found_map (λ (p : Position). p.layout) c.positions m.position p at ∙ ap Some (sym layout))
 
     banks_are : banks_of (set c.positions m.position new)
         ≡ set (banks_of c.positions) m.position (set (get_or (banks_of c.positions) m.position []) m.member (served_bank b q now))
     banks_are =
-        map_set (λ (p : Position). p.banks) c.positions m.position new
-        ∙ ap (set (banks_of c.positions) m.position) (banks
-        ∙ ap (λ bs. set bs m.member (served_bank b q now))
-        (sym (found_or (banks_of c.positions) m.position p.banks []
-        (found_map (λ (p : Position). p.banks) c.positions m.position p at))))
+        let there = found_map (λ (p : Position). p.banks) c.positions m.position p at in
+        let held = get_or_from_slice_get (banks_of c.positions) m.position p.banks [] there in
+        cc (map-set (λ (p : Position). p.banks) c.positions m.position new, banks, held)
 
     mail_is : replied c.mail place (reply_to b q now) ≡ set c.mail place (answered m (reply_to b q now))
     mail_is = ap (replied_message c.mail place (reply_to b q now)) waits
 
     pub serving_is : object_of c.delta (set c.positions m.position new) (replied c.mail place (reply_to b q now)) c.calls
         ≡ (made (Step.Serve place) now (state_of c)).object
-    serving_is =
-        ap (λ ls. parts c.delta ls (banks_of (set c.positions m.position new)) (replied c.mail place (reply_to b q now))
-        (state_of c).object.calls) layouts_are
-        ∙ ap (λ bs. parts c.delta (layouts_of c.positions) bs (replied c.mail place (reply_to b q now)) (state_of c).object.calls) banks_are
-        ∙ ap (λ ms. parts c.delta (layouts_of c.positions)
-        (set (banks_of c.positions) m.position (set (get_or (banks_of c.positions) m.position []) m.member (served_bank b q now))) ms
-        (state_of c).object.calls) mail_is
-        ∙ sym (ap (λ (b : Bank). parts c.delta (layouts_of c.positions)
-        (set (banks_of c.positions) m.position (set (get_or (banks_of c.positions) m.position []) m.member (served_bank b q now)))
-        (set c.mail place (answered m (reply_to b q now))) (state_of c).object.calls) bank_is)
-        ∙ sym (ap (λ b. served_by (state_of c).object place m b now) s.is)
-        ∙ sym (ap (λ o. on_message (state_of c).object o (λ message. served_by (state_of c).object place message message.body now)) waits)
+    serving_is = cc (layouts_are, banks_are, mail_is, bank_is, s.is, waits)
 
     -- the base is where it was
     base_is : retired_first (banks_of (set c.positions m.position new)) ≡ retired_first (banks_of c.positions)
     base_is =
-        ap retired_first (map_set (λ (p : Position). p.banks) c.positions m.position new)
+        ap retired_first (map-set (λ (p : Position). p.banks) c.positions m.position new)
         ∙ first_set (banks_of c.positions) m.position p.banks new.banks
         (found_map (λ (p : Position). p.banks) c.positions m.position p at)
         (ap (λ (bs : List Bank). (get_or bs 0 no_bank).retired) banks
@@ -215,10 +196,9 @@ module _ {c : Contents} {place : ℕ} {m : Message} {p : Position} {q : Request}
         (found_map (λ (p : Position). p.banks) c.positions m.position p at) in
         let same : banks_bytes new.banks ≡ banks_bytes (set p.banks m.member (served_bank b q now)) = ap banks_bytes banks in
         let list : all_bytes (banks_of (set c.positions m.position new)) ≡ all_bytes (set (banks_of c.positions) m.position new.banks) =
-        ap all_bytes (map_set (λ (p : Position). p.banks) c.positions m.position new) in
+        ap all_bytes (map-set (λ (p : Position). p.banks) c.positions m.position new) in
         let total : c.stored ≡ all_bytes (banks_of c.positions) = kept.stored in
-        let part = part_stored in
-        omega (arith, inner, outer, same, list, total, part)
+        omega (arith, inner, outer, same, list, total, part_stored)
 
     pub stored_fits : c.stored + request_bytes q ≤ MOST_BYTES → c.stored - bank_bytes b + bank_bytes (served_bank b q now) ≤ MOST_BYTES
     stored_fits room = let few = served_few b q now in let part = part_stored in omega (arith, few, part, room)

@@ -17,7 +17,8 @@ use Rattle.record.specs.Steps.{Step}
 use Rattle.register.specs.Position.{Position}
 use Rattle.register.specs.State.{Contents, State, state_of, made}
 use Rattle.register.specs.Kept.{IsKept}
-use Rattle.register.proofs.ListLemmas.{same_some, found_within}
+use Rattle.std.proofs.lemmas.Option.{slice_get_within}
+use Rattle.register.proofs.ListLemmas.{same_some}
 use Rattle.register.proofs.ServeRequestLemmas.{IsServing, stored_few, serving_is, serving_keeps, stored_fits, reply_room}
 
 -- the bank has served the request
@@ -51,7 +52,7 @@ module _ {c : Contents} {place : ℕ} {m : Message} {p : Position} {q : Request}
       (set_here p.banks m.member bank (served_bank bank q now) d.request.held)
 
   pub new_there : m.member < length new.banks
-  new_there = found_within new.banks m.member (served_bank bank q now) put
+  new_there = slice_get_within new.banks m.member (served_bank bank q now) put
 
   pub new_fits : c.stored - bank_bytes bank + bank_bytes (served_bank bank q now) ≤ MOST_BYTES
   new_fits = stored_fits d.request now d.layout d.banks d.room
@@ -69,9 +70,7 @@ module _ {c : Contents} {place : ℕ} {m : Message} {p : Position} {q : Request}
     pub serve_step : (stored : ℕ) → state_of (record c
         { positions = set c.positions m.position new; mail = mail; stored = stored; last = now })
         ≡ made (Step.Serve place) now (state_of c)
-    serve_step stored =
-        ap (λ ms. state_of (record c { positions = set c.positions m.position new; mail = ms; stored = stored; last = now })) mail_made
-        ∙ ap (λ o. record { object = o; last = now }) (serving_is d.request now d.layout d.banks)
+    serve_step stored = cc (mail_made, serving_is d.request now d.layout d.banks)
 
     pub serve_kept : {before after : ℕ} → before ≡ bank_bytes bank → after ≡ bank_bytes (served_bank bank q now)
         → {s : State} → state_of c ≡ s → s.last < now

@@ -13,11 +13,10 @@ use Rattle.record.specs.Accounts.{position_bytes}
 -- a server that is no member stores nothing
 pub none_stored : (server : ℕ) (members : List ℕ) (banks : List Bank) → AllByRecursion (λ m. nat_eq server m ≡ false) members
     → position_bytes server members banks ≡ 0
-none_stored server [] banks others = refl
-none_stored server (m ∷ ms) [] others = refl
 none_stored server (m ∷ ms) (b ∷ bs) others =
     let apart : (m == server) ≡ false = grind (arith, nat_tests, others.0) in
     ap (λ t. cond t (bank_bytes b) 0 + position_bytes server ms bs) apart ∙ ap (λ n. 0 + n) (none_stored server ms bs others.1)
+none_stored server _ _ others = refl
 
 -- the bytes of the bank at a place, if there is one
 abbrev pub bytes_of : Option Bank → ℕ
@@ -56,8 +55,7 @@ stored_at server (m ∷ ms) (b ∷ bs) (suc i) distinct within here =
     let inside : i < length ms = omega (arith, within) in
     let apart = all_at (λ y. nat_eq m y ≡ false) ms i 0 distinct.0 inside in
     let other : (m == server) ≡ false = grind (arith, nat_tests, apart, here) in
-    ap (λ t. cond t (bank_bytes b) 0 + position_bytes server ms bs) other ∙ none_plus (position_bytes server ms bs)
-    ∙ stored_at server ms bs i distinct.1 inside here
+    cc (other, none_plus (position_bytes server ms bs), stored_at server ms bs i distinct.1 inside here)
 
 from_places : (P : ℕ → Type 0) (xs : List ℕ) → ((k : ℕ) → k < length xs → P (get_or xs k 0)) → AllByRecursion P xs
 from_places P [] each = tt

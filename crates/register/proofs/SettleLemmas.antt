@@ -1,6 +1,7 @@
 -- A call settles a value that was decoded from pieces of its current phase.
 use Rattle.std.proofs.Common.{◌≡◌, ℕ, pred, ◌<◌, ◌≤◌, nat_eq, Bool, true, false, List, [], ◌∷◌, length}
 use Rattle.std.proofs.Common.{get_or, set, Option, Some, None, sym, ap, subst, ◌∙◌, refl, arith}
+use Rattle.std.proofs.lemmas.Option.{same_Some}
 use Rattle.std.specs.List.{AllByRecursion, list_all}
 use Rattle.std.proofs.lemmas.Bool.{eqb-true}
 use Rattle.std.proofs.lemmas.Bool.Decides.{Decides-eqb}
@@ -19,7 +20,7 @@ use Rattle.record.specs.Records.{Call, Object, layout_at}
 use Rattle.record.specs.Fragments.{answer_piece, answer_tag, IsFetch, IfCoded, HasPiece}
 use Rattle.record.specs.Preconditions.{MayStep}
 use Rattle.soundness.specs.Sound.{IsSound}
-use Rattle.record.specs.Steps.{Step, stepped, on_call, settled_object}
+use Rattle.record.specs.Steps.{Step, stepped, settled_object}
 use Rattle.record.specs.declared.stage.Want.{Want}
 use Rattle.record.specs.Wants.{current_phase, value_len}
 use Rattle.record.specs.declared.stage.Want.TheVariants as want
@@ -32,9 +33,11 @@ use Rattle.register.specs.State.{Contents, State, state_of, made}
 use Rattle.register.specs.Tracked.{Tracked, calls_of}
 use Rattle.register.proofs.FoundCallLemmas.{IsFound, IsWanting, at, at_place, place, same, caused, later}
 use Rattle.register.proofs.StepInvariantLemmas.{steps_on, call_kept, open_moves_set}
-use Rattle.register.proofs.ListLemmas.{all_found, map_set, length_map}
+use Rattle.soundness.proofs.ListLemmas.{all_get}
+use Rattle.std.proofs.lemmas.List.{map-set}
+use Rattle.register.proofs.ListLemmas.{length_map}
 use Rattle.register.proofs.RoomLemmas.{step_within, step_past}
-use Rattle.register.proofs.RecordedPieceLemmas.{IsTaken, all_by, both_left, both_right, is_answer, point_is, settle_k, same_phase}
+use Rattle.register.proofs.RecordedPieceLemmas.{IsTaken, all_by, both_left, both_right, is_answer, point_is, settle_k}
 use Rattle.register.proofs.RecordedPieceLemmas.{settles_with}
 use Rattle.register.proofs.RecordedPieceLemmas.{taken_of}
 
@@ -104,7 +107,7 @@ module _ {c : Contents} {number index : ℕ} {t : Tracked} (found : IsFound c nu
   settled_is : state_of (record c { calls = set c.calls index (settled_tracked t value); last = now })
       ≡ made (Step.Settle (pred number) value) now (state_of c)
   settled_is =
-      ap (λ calls. state_with calls) (map_set (λ (t : Tracked). t.call) c.calls index (settled_tracked t value))
+      ap (λ calls. state_with calls) (map-set (λ (t : Tracked). t.call) c.calls index (settled_tracked t value))
       ∙ sym (ap (λ (o : Object). state_at o) step_is)
     where
       state_with : List Call → State
@@ -115,9 +118,7 @@ module _ {c : Contents} {number index : ℕ} {t : Tracked} (found : IsFound c nu
 
       step_is : stepped fragment (Step.Settle (pred number) value) now (state_of c).object
           ≡ settled_object (state_of c).object index t.call value
-      step_is =
-          ap (λ o. on_call (state_of c).object o (λ call. settled_object (state_of c).object (pred number) call value)) (at_place found)
-          ∙ ap (λ i. settled_object (state_of c).object i t.call value) (sym (place found))
+      step_is = cc (at_place found, place found)
 
   module _ {new : Tracked} (made_is : new ≡ settled_tracked t value) where
     pub settle_is : state_of (record c { calls = set c.calls index new; last = now })
@@ -130,7 +131,7 @@ module _ {c : Contents} {number index : ℕ} {t : Tracked} (found : IsFound c nu
         subst (λ (u : Tracked). IsKept (record c { calls = set c.calls index u; last = now })) (sym made_is)
         (call_kept c index now t (settled_tracked t value) c.mail c.is_moving found.kept found.there refl refl
         (found.kept.staged index t found.there)
-        (all_found (λ (call : Call). length call.phases ≤ MOST_PHASES) (calls_of c.calls) index t.call found.kept.limits.phases (at found))
+        (all_get (λ (call : Call). length call.phases ≤ MOST_PHASES) (calls_of c.calls) index t.call found.kept.limits.phases (at found))
         (found.kept.moving ∙ sym (open_moves_set c.calls index t (settled_tracked t value) found.there refl refl))
         (subst (λ (s : State). IsSound fragment s.object now) (sym settled_is)
         (steps_on c now (Step.Settle (pred number) value) (later c view after) found.kept may)))
@@ -170,11 +171,11 @@ module _ {c : Contents} {number index : ℕ} {t : Tracked} {k len : ℕ} (wanted
       unsettled = unsettled_of o (pred number) t.call k len wanted.wants
 
       fetch : IsFetch phase.kind
-      fetch = subst (λ (p : Phase). IsFetch p.kind) (same_phase unsettled.phase phase (sym unsettled.current ∙ current)) unsettled.fetch
+      fetch = subst (λ (p : Phase). IsFetch p.kind) (same_Some unsettled.phase phase (sym unsettled.current ∙ current)) unsettled.fetch
 
       coded : IfCoded fragment o phase.position taken.reply.member (answer_tag phase.kind taken.reply.reply.answer)
           (answer_piece taken.reply.reply.answer)
-      coded = all_found (λ (taken : Taken). IfCoded fragment o phase.position taken.member (answer_tag phase.kind taken.reply.answer)
+      coded = all_get (λ (taken : Taken). IfCoded fragment o phase.position taken.member (answer_tag phase.kind taken.reply.answer)
           (answer_piece taken.reply.answer))
           phase.replies taken.place taken.reply
           (let last = last_at t.call.phases phase current in found.kept.sound.coded.phases index last.place t.call phase

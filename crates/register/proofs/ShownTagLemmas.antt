@@ -14,12 +14,9 @@ use Rattle.mail.specs.declared.message.Body.TheVariants as body
 use Rattle.phase.specs.declared.phase.Taken.{Taken}
 use Rattle.phase.specs.Phase.{Phase, is_current, has_taken, with_reply, after_body, after_take}
 use Rattle.record.specs.declared.call.CallKind.{CallKind}
-use Rattle.record.specs.declared.call.CallKind.TheVariants.{Read, Write, Move}
+use Rattle.record.specs.declared.call.CallKind.TheVariants.{Write}
 use Rattle.record.specs.declared.stage.Stage.{Stage}
-use Rattle.record.specs.declared.stage.Stage.TheVariants.{ReadBegin, ReadNext, ReadSpread, QueryFrom, FetchAt, PreWriteAt, FinalizeAt}
-use Rattle.record.specs.declared.stage.Stage.TheVariants.{AgainNext}
-use Rattle.record.specs.declared.stage.Stage.TheVariants.{AgainSpread, MoveSpread, MoveQuery, MoveFetch, MovePreWrite, MoveFinalize}
-use Rattle.record.specs.declared.stage.Stage.TheVariants.{MoveFinal, Ended, Moved}
+use Rattle.record.specs.declared.stage.Stage.TheVariants.{QueryFrom}
 use Rattle.record.specs.Records.{Call, Object}
 use Rattle.record.specs.PhaseOrder.{shown_tag, greatest_tag}
 use Rattle.record.specs.Fragments.{Code, IfCoded, answer_tag, answer_piece}
@@ -28,7 +25,8 @@ use Rattle.record.specs.Legal.{first_stage, source_of, stage_of}
 use Rattle.soundness.specs.Sound.{IsSound}
 use Rattle.transfer.specs.Limits.{IsTaggable, HasNextTag}
 use Rattle.register.proofs.GreatestTagLemmas.{FoundUpTo, ShownUpTo, later_up_to, greatest_up_to, stage_up_to, first_up_to}
-use Rattle.register.proofs.ListLemmas.{all_found, all_weaker, all_pushed}
+use Rattle.soundness.proofs.ListLemmas.{all_get, all_push}
+use Rattle.register.proofs.ListLemmas.{all_weaker}
 
 -- a journaled tag is past
 journaled_past : (fragment : Code) (object : Object) (step : ℕ) → IsSound fragment object step → (tag : Tag) (value : List ℕ)
@@ -42,9 +40,7 @@ shown_past : (fragment : Code) (object : Object) (step : ℕ) → IsSound fragme
     → IfCoded fragment object position member (answer_tag kind a) (answer_piece a) → (shown_tag a).number ≤ step
 shown_past fragment object step sound position member kind (answer.Greatest tag) coded =
     journaled_past fragment object step sound tag coded.value coded.journaled
-shown_past fragment object step sound position member kind answer.Done coded = omega arith
-shown_past fragment object step sound position member kind (answer.Pointer status) coded = omega arith
-shown_past fragment object step sound position member kind (answer.Piece piece) coded = omega arith
+shown_past fragment object step sound position member kind _ coded = omega arith
 
 -- what the replies of a call's phases show is past
 pub phases_shown : (fragment : Code) (object : Object) (step : ℕ) → IsSound fragment object step → (index : ℕ) (call : Call)
@@ -76,7 +72,7 @@ message_shown : (fragment : Code) (object : Object) (step : ℕ) → IsSound fra
     → slice_get object.mail place ≡ Some message
     → (kind : Kind) (made : Reply) → message.body ≡ body.Reply kind made → (shown_tag made.answer).number ≤ step
 message_shown fragment object step sound place message at kind made is =
-    let coded = all_found (λ (message : Message). IfCoded fragment object message.position message.member
+    let coded = all_get (λ (message : Message). IfCoded fragment object message.position message.member
     (Rattle.record.specs.Fragments.body_tag message.body) (Rattle.record.specs.Fragments.body_piece message.body)) object.mail place
     message sound.coded.mail at in
     shown_past fragment object step sound message.position message.member kind made.answer
@@ -95,7 +91,7 @@ taken_shown n phase message now shown one = go message.body refl
     go (body.Reply kind made) is = choose (is_current phase message.call message.phase) (has_taken phase.replies message.member)
       where
         more : AllByRecursion (ShownUpTo n) (with_reply phase message.member made now).replies
-        more = all_pushed (ShownUpTo n) phase.replies (record { member = message.member; reply = made; step = now }) shown
+        more = all_push (ShownUpTo n) phase.replies (record { member = message.member; reply = made; step = now }) shown
             (one kind made is)
 
         choose : (b d : Bool) → AllByRecursion (ShownUpTo n)
@@ -105,9 +101,8 @@ taken_shown n phase message now shown one = go message.body refl
         choose false d = shown
 
 taggable : (n : ℕ) (kind : CallKind) (greatest : Tag) → greatest.number ≤ n → n + 1 < 2 ^ 64 → IsTaggable kind greatest
-taggable n Read greatest up_to few = tt
 taggable n (Write value) greatest up_to few = omega (arith, up_to, few)
-taggable n Move greatest up_to few = tt
+taggable n _ greatest up_to few = tt
 
 -- so a write has a next tag, whatever it has found
 pub next_tag_there : (n : ℕ) (kind : CallKind) (stage : Stage) (replies : List Taken) → n + 1 < 2 ^ 64 → FoundUpTo n stage
@@ -115,22 +110,7 @@ pub next_tag_there : (n : ℕ) (kind : CallKind) (stage : Stage) (replies : List
 next_tag_there n kind (QueryFrom position last greatest shown_at) replies few so_far shown =
     taggable n kind (later_tag greatest (greatest_tag replies))
     (later_up_to n greatest (greatest_tag replies) so_far (greatest_up_to n replies shown)) few
-next_tag_there n kind ReadBegin replies few so_far shown = tt
-next_tag_there n kind (ReadNext position finalized) replies few so_far shown = tt
-next_tag_there n kind (ReadSpread position finalized status) replies few so_far shown = tt
-next_tag_there n kind (FetchAt shown_at last tag) replies few so_far shown = tt
-next_tag_there n kind (PreWriteAt last tag) replies few so_far shown = tt
-next_tag_there n kind (FinalizeAt last tag) replies few so_far shown = tt
-next_tag_there n kind (AgainNext last position tag) replies few so_far shown = tt
-next_tag_there n kind (AgainSpread last position tag status) replies few so_far shown = tt
-next_tag_there n kind (MoveSpread position) replies few so_far shown = tt
-next_tag_there n kind (MoveQuery position) replies few so_far shown = tt
-next_tag_there n kind (MoveFetch position tag) replies few so_far shown = tt
-next_tag_there n kind (MovePreWrite position tag) replies few so_far shown = tt
-next_tag_there n kind (MoveFinalize position tag) replies few so_far shown = tt
-next_tag_there n kind (MoveFinal position tag) replies few so_far shown = tt
-next_tag_there n kind (Ended last tag) replies few so_far shown = tt
-next_tag_there n kind (Moved position tag) replies few so_far shown = tt
+next_tag_there n kind _ replies few so_far shown = tt
 
 -- the replies of the current phase of a call, once it takes a waiting message
 pub current_shown : (fragment : Code) (object : Object) (step : ℕ) → IsSound fragment object step → (index : ℕ) (call : Call)
@@ -139,6 +119,6 @@ pub current_shown : (fragment : Code) (object : Object) (step : ℕ) → IsSound
     → slice_get call.phases spot ≡ Some phase → (now : ℕ)
     → AllByRecursion (ShownUpTo step) (after_take phase message now).replies
 current_shown fragment object step sound index call at place message waits spot phase within now =
-    taken_shown step phase message now (all_found (λ (phase : Phase). AllByRecursion (ShownUpTo step) phase.replies) call.phases spot phase
+    taken_shown step phase message now (all_get (λ (phase : Phase). AllByRecursion (ShownUpTo step) phase.replies) call.phases spot phase
     (phases_shown fragment object step sound index call at) within)
     (message_shown fragment object step sound place message waits)

@@ -9,7 +9,6 @@ use Rattle.encoder.specs.Fragment.{fragment}
 use Rattle.mail.specs.declared.message.Message.{Message}
 use Rattle.phase.specs.Phase.{Phase}
 use Rattle.record.specs.Records.{Call, IsNewId}
-use Rattle.record.specs.declared.stage.Stage.{Stage}
 use Rattle.record.specs.PhaseOrder.{begun_at, due}
 use Rattle.record.specs.Knowledge.{IsTruePhase}
 use Rattle.record.specs.Legal.{due_of, is_move, moves_in, stage_of}
@@ -18,16 +17,31 @@ use Rattle.soundness.specs.Sound.{IsSound}
 use Rattle.record.specs.Steps.{Step}
 use Rattle.record.specs.Wants.{current_phase}
 use Rattle.soundness.proofs.Sound.DuePositionLemmas.{base_there, due_there}
-use Rattle.soundness.proofs.ListLemmas.{get_set}
+use Rattle.soundness.proofs.ListLemmas.{get_set, all_get, all_set}
 use Rattle.soundness.proofs.Sound.ChangedCallLemmas.{moves_set}
 use Rattle.soundness.proofs.Sound.RunSoundLemmas.{step_sound}
 use Rattle.register.specs.Position.{Position}
+use Rattle.register.specs.declared.register.Register.TheInside.{Inside}
 use Rattle.register.specs.Tracked.{Tracked, calls_of, HasPositionsBelow}
 use Rattle.register.specs.State.{Contents, next_id, object_of, state_of, made}
 use Rattle.register.specs.Kept.{IsKept, AreStaged, is_open_move, has_open_move}
 use Rattle.register.proofs.FragmentCodeLemmas.{fragments_are_code}
 use Rattle.register.proofs.FirstReadingLemmas.{begun_below}
-use Rattle.register.proofs.ListLemmas.{found_map, map_set, length_map, length_set, all_found, all_put, any_put}
+use Rattle.std.proofs.lemmas.List.{map-set, length-set}
+use Rattle.register.proofs.ListLemmas.{found_map, length_map, any_put}
+
+-- what a register holds, by its fields
+abbrev pub contents_of : Inside → Contents
+contents_of r = record {
+  delta = r.delta;
+  positions = r.positions.items;
+  base = r.base;
+  mail = r.mail;
+  calls = r.calls.items;
+  is_moving = r.is_moving;
+  stored = r.stored;
+  last = r.last;
+}
 
 -- a step that may be made leaves a sound record
 pub steps_on : (c : Contents) (now : ℕ) (step : Step) → c.last < now → IsKept c → MayStep fragment (state_of c).object step
@@ -67,7 +81,7 @@ pub staged_set : (delta : Option ℕ) (layouts : List Position) (mail later : Li
 staged_set delta layouts mail later calls index t new at same staged stage j u e = go (get_set calls index j t new u at e)
   where
     sources : (n : ℕ) → moves_in (take n (calls_of (set calls index new))) ≡ moves_in (take n (calls_of calls))
-    sources n = ap (λ cs. moves_in (take n cs)) (map_set (λ (t : Tracked). t.call) calls index new)
+    sources n = ap (λ cs. moves_in (take n cs)) (map-set (λ (t : Tracked). t.call) calls index new)
         ∙ moves_set (calls_of calls) index n t.call new.call (call_found calls index t at) same
 
     moved : (j : ℕ) (u : Call) → stage_of (object_of delta layouts mail calls) j u
@@ -111,9 +125,9 @@ call_kept c index now t new mail is_moving kept at id kind stage few moving soun
   sound = sound;
   limits = record {
     positions = kept.limits.positions;
-    calls = subst (λ n. n ≤ MOST_CALLS) (sym (ap length as_set ∙ length_set (calls_of c.calls) index new.call)) kept.limits.calls;
+    calls = subst (λ n. n ≤ MOST_CALLS) (sym (ap length as_set ∙ length-set (calls_of c.calls) index new.call)) kept.limits.calls;
     phases = subst (λ cs. AllByRecursion (λ (call : Call). length call.phases ≤ MOST_PHASES) cs) (sym as_set)
-        (all_put (λ (call : Call). length call.phases ≤ MOST_PHASES) (calls_of c.calls) index new.call kept.limits.phases few);
+        (all_set (λ (call : Call). length call.phases ≤ MOST_PHASES) (calls_of c.calls) index new.call kept.limits.phases few);
     stored = kept.limits.stored;
   };
   based = kept.based;
@@ -125,13 +139,13 @@ call_kept c index now t new mail is_moving kept at id kind stage few moving soun
 }
   where
     as_set : calls_of (set c.calls index new) ≡ set (calls_of c.calls) index new.call
-    as_set = map_set (λ (t : Tracked). t.call) c.calls index new
+    as_set = map-set (λ (t : Tracked). t.call) c.calls index new
 
 -- a call that keeps its kind, and is answered no more than before, is an open move as before
 pub open_moves_set : (calls : List Tracked) (index : ℕ) (t new : Tracked) → slice_get calls index ≡ Some t → new.call.kind ≡ t.call.kind
     → new.call.answered ≡ t.call.answered → has_open_move (calls_of (set calls index new)) ≡ has_open_move (calls_of calls)
 open_moves_set calls index t new at kind answered =
-    ap has_open_move (map_set (λ (t : Tracked). t.call) calls index new)
+    ap has_open_move (map-set (λ (t : Tracked). t.call) calls index new)
     ∙ any_put is_open_move (calls_of calls) index t.call new.call (call_found calls index t at)
     (ap (λ k. is_move k && not (is_some new.call.answered)) kind ∙ ap (λ a. is_move t.call.kind && not (is_some a)) answered)
 
@@ -149,15 +163,12 @@ pub base_within : (c : Contents) → IsKept c → c.base < length c.positions
 base_within c kept =
     let there = base_there (state_of c).object kept.sound.legal kept.sound.shape in
     let count : length (state_of c).object.layouts ≡ length c.positions = length_map (λ (p : Position). p.layout) c.positions in
-    let same = kept.based in
-    omega (arith, there, count, same)
+    omega (arith, there, count, kept.based)
 
 -- the phase that is due, by the stage and the base that are kept
 pub due_now : (c : Contents) → IsKept c → (index : ℕ) (t : Tracked) → slice_get c.calls index ≡ Some t
     → due (begun_at t.stage c.base) ≡ due_of (state_of c).object index t.call
-due_now c kept index t at =
-    ap (λ (s : Stage). due (begun_at s c.base)) (kept.staged index t at)
-    ∙ ap (λ b. due (begun_at (stage_of (state_of c).object index t.call) b)) kept.based
+due_now c kept index t at = cc (kept.staged index t at, kept.based)
 
 -- it is at a position that is there
 pub due_placed : (c : Contents) → IsKept c → (index : ℕ) (t : Tracked) → slice_get c.calls index ≡ Some t
@@ -179,7 +190,7 @@ is_below c kept index t at = record {
   current = λ phase e.
       let found = current_found t.call.phases phase e in
       let truth : IsTruePhase (state_of c).object phase =
-      all_found (IsTruePhase (state_of c).object) t.call.phases found.0 phase
+      all_get (IsTruePhase (state_of c).object) t.call.phases found.0 phase
       ((kept.sound.legal.calls index t.call here).phases) found.1 in
       subst (λ n. phase.position < n) count truth.placed;
   due = begun_below (length c.positions) t.stage c.base (let within = base_within c kept in omega (arith, within))

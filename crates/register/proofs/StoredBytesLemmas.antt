@@ -2,31 +2,30 @@
 use Rattle.std.proofs.Common.{◌≡◌, ℕ, suc, ◌+◌, ◌<◌, ◌≤◌, ◌==◌, Bool, true, false, if◌then◌else◌, List, [], ◌∷◌, length, get_or, drop, sym}
 use Rattle.std.proofs.Common.{ap, ◌∙◌, refl, arith, lit<}
 use Rattle.std.specs.List.{AllByRecursion}
-use Rattle.std.proofs.lemmas.Option.{slice_get_read}
+use Rattle.std.proofs.lemmas.Option.{slice_get_read, get_or_from_slice_get}
 use Rattle.std.proofs.Math.Seq.{drop-cons}
 use Rattle.std.proofs.lemmas.List.Sums.{sum_by-cons}
-use Rattle.layout.specs.Layout.{Layout, IsLawful}
+use Rattle.layout.specs.Layout.{IsLawful}
 use Rattle.bank.specs.Bank.{Bank}
 use Rattle.bank.specs.Bytes.{bank_bytes}
 use Rattle.record.specs.Accounts.{base_bytes_of, position_bytes, stored_bytes}
-use Rattle.record.specs.Records.{layout_at, no_layout}
+use Rattle.record.specs.Records.{no_layout}
 use Rattle.tag.specs.declared.limits.TheConstants.{MOST_BYTES}
 use Rattle.register.specs.Position.{Position, layouts_of, banks_of, banks_bytes, all_bytes}
 use Rattle.register.specs.Kept.{IsKept}
 use Rattle.register.specs.State.{Contents, state_of}
-use Rattle.register.proofs.ListLemmas.{all_found, found_map, found_or, sum_at}
+use Rattle.soundness.proofs.ListLemmas.{all_get}
+use Rattle.register.proofs.ListLemmas.{found_map, sum_at}
 
 counted : (b : Bool) (n : ℕ) → (if b then n else 0) ≤ n
 counted true n = omega arith
 counted false n = omega arith
 
 position_least : (server : ℕ) (members : List ℕ) (banks : List Bank) → position_bytes server members banks ≤ banks_bytes banks
-position_least server [] banks = omega arith
-position_least server (m ∷ members) [] = omega arith
 position_least server (m ∷ members) (b ∷ banks) =
     let rest = position_least server members banks in
-    let here = counted (m == server) (bank_bytes b) in
-    omega (arith, rest, here, sum_by-cons bank_bytes b banks)
+    omega (arith, rest, counted (m == server) (bank_bytes b), sum_by-cons bank_bytes b banks)
+position_least server _ _ = omega arith
 
 pub stored_least : (server : ℕ) (ps : List Position) → stored_bytes server (layouts_of ps) (banks_of ps) ≤ all_bytes (banks_of ps)
 stored_least server [] = omega arith
@@ -57,7 +56,7 @@ stored_most server ps total rest is most = let least = stored_least server ps in
 pub layout_at_lawful : (ps : List Position) (i : ℕ) (p : Position) → i < length ps → p ≡ get_or ps i p
     → AllByRecursion IsLawful (layouts_of ps) → IsLawful p.layout
 layout_at_lawful ps i p within read all =
-    all_found IsLawful (layouts_of ps) i p.layout all
+    all_get IsLawful (layouts_of ps) i p.layout all
     (found_map (λ (p : Position). p.layout) ps i p (slice_get_read ps (length ps) i p refl within read))
 
 -- what a server stores at one position is no more than what all banks store
@@ -74,8 +73,8 @@ pub base_stored : (c : Contents) (server : ℕ) (p : Position) → IsKept c → 
     → position_bytes server p.layout.members p.banks ≡ base_bytes_of (state_of c).object server
 base_stored c server p kept within read =
     let at = slice_get_read c.positions (length c.positions) c.base p refl within read in
-    ap (λ (l : Layout). position_bytes server l.members p.banks)
-    (sym (found_or (layouts_of c.positions) c.base p.layout no_layout (found_map (λ (p : Position). p.layout) c.positions c.base p at)))
-    ∙ ap (position_bytes server (layout_at (state_of c).object c.base).members)
-    (sym (found_or (banks_of c.positions) c.base p.banks [] (found_map (λ (p : Position). p.banks) c.positions c.base p at)))
-    ∙ ap (λ n. position_bytes server (layout_at (state_of c).object n).members (get_or (banks_of c.positions) n [])) kept.based
+    let placed = found_map (λ (p : Position). p.layout) c.positions c.base p at in
+    let banked = found_map (λ (p : Position). p.banks) c.positions c.base p at in
+    let layout = get_or_from_slice_get (layouts_of c.positions) c.base p.layout no_layout placed in
+    let banks = get_or_from_slice_get (banks_of c.positions) c.base p.banks [] banked in
+    cc (layout, banks, kept.based)

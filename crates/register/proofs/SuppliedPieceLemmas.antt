@@ -67,10 +67,7 @@ module _ {c : Contents} {number index position : ℕ} {t : Tracked}
   room = supply_room_cause now (state_of c).object (pred number) t.call
 
   tested_is : supply_cause now (state_of c).object number coded ≡ unless (is_coded_for layout value coded) WrongCode room
-  tested_is =
-      unsent_is to coded now
-      ∙ ap (λ (l : Layout). unless (is_coded_for l (value_or_empty (sent_value t.call.kind t.call.settled)) coded) WrongCode room) placed
-      ∙ ap (λ v. unless (is_coded_for layout v coded) WrongCode room) (or_empty (sent_value t.call.kind t.call.settled) value sent)
+  tested_is = cc (unsent_is to coded now, placed, or_empty (sent_value t.call.kind t.call.settled) value sent)
 
   pub wrong_is : is_coded_for layout value coded ≡ false → supply_cause now (state_of c).object number coded ≡ Some WrongCode
   wrong_is wrong = tested_is ∙ ap (λ b. unless b WrongCode room) wrong
@@ -100,9 +97,7 @@ module _ {c : Contents} {number index : ℕ} {t : Tracked} {coded : Coding} {pos
       ∙ ap (λ (k : ℕ). λ (m : ℕ). piece_at_point coded.value k m) (sym (eqb-true coded.k layout.k (both_left _ _ (both_right _ _ s.right))))
 
   pub room_is : (now : ℕ) → supply_cause now object number coded ≡ supply_room_cause now object (pred number) t.call
-  room_is now =
-      tested_is s.to s.placed s.sent coded now
-      ∙ ap (λ b. unless b WrongCode (supply_room_cause now object (pred number) t.call)) s.right
+  room_is now = cc (tested_is s.to s.placed s.sent coded now, s.right)
 
   pub past_full : (now : ℕ) → MOST_STEPS < now → supply_cause now object number coded ≡ Some Full
   past_full now past =

@@ -81,9 +81,7 @@ own_is_right layout value =
   where
     all_three : (a b c : Bool) → a ≡ true → b ≡ true → c ≡ true → (a && (b && c)) ≡ true
     all_three true true true p q r = refl
-    all_three false b c p q r = absurd (cc)
-    all_three true false c p q r = absurd (cc)
-    all_three true true false p q r = absurd (cc)
+    all_three _ _ _ p q r = absurd (cc)
 
 value_of : (o : Option (List ℕ)) → (None ≡ o → ⊥) → (value : List ℕ) × (Some value ≡ o)
 value_of None some = absurd (some refl)

@@ -1,23 +1,21 @@
 -- The pieces of a call begin the phase that is due, or go out again.
 use Rattle.std.proofs.Common.{◌≡◌, ℕ, pred, ◌⊎◌, Bool, true, false, cond, is_some, List, ◌++◌, length, get_or}
 use Rattle.std.proofs.Common.{Option, Some, None, sym, ap, subst, ◌∙◌, inl, inr, refl}
+use Rattle.std.proofs.lemmas.Option.{same_Some}
 use Rattle.tag.specs.declared.tag.Tag.{Tag}
 use Rattle.bank.specs.declared.kind.Kind.{Kind}
 use Rattle.bank.specs.declared.kind.Kind.TheVariants.{Next, PreWrite}
 use Rattle.mail.specs.Mail.{mail_cause}
 use Rattle.encoder.specs.Coded.{Coding}
 use Rattle.encoder.specs.Fragment.{fragment}
-use Rattle.piece.specs.declared.piece.Piece.{Piece}
 use Rattle.layout.specs.Layout.{Layout}
-use Rattle.phase.specs.Phase.{Phase, members_of}
+use Rattle.phase.specs.Phase.{Phase}
 use Rattle.record.specs.PhaseOrder.{due}
 use Rattle.record.specs.Legal.{due_of}
 use Rattle.record.specs.Preconditions.{WantsPieces, AwaitsPieces}
 use Rattle.record.specs.Records.{Object, layout_at}
 use Rattle.record.specs.Steps.{Step, stepped}
 use Rattle.record.specs.Sending.{sent_pieces}
-use Rattle.record.specs.Steps.{begun_object}
-use Rattle.record.specs.Sending.{requests, missing}
 use Rattle.record.specs.Wants.{current_phase}
 use Rattle.record.specs.declared.stage.Stage.{Stage}
 use Rattle.record.specs.declared.stage.Want.TheVariants as want
@@ -25,9 +23,8 @@ use Rattle.soundness.proofs.Sound.WantPreconditionLemmas.{waiting_of, supply_rea
 use Rattle.register.specs.Causes.{supply_cause, new_phase_cause, is_replied, if_step}
 use Rattle.call.specs.Pieces.{piece_from, HavePieces}
 use Rattle.register.specs.Coding.{pieces_position}
-use Rattle.register.specs.Position.{layouts_of, banks_of}
 use Rattle.register.specs.State.{Contents, made, state_of}
-use Rattle.register.specs.Tracked.{Tracked, calls_of, asked_again}
+use Rattle.register.specs.Tracked.{Tracked, asked_again}
 use Rattle.register.proofs.BeginPhaseLemmas.{IsBeginning}
 use Rattle.register.proofs.ChangedCallLemmas.{with_due, with_due_is}
 use Rattle.register.proofs.FirstReadingLemmas.{begun_due}
@@ -35,9 +32,6 @@ use Rattle.register.proofs.FoundCallLemmas.{IsFound, at, same, place, due_kept}
 use Rattle.register.proofs.AskAgainLemmas.{IsAsking, phase_members, phase_call}
 use Rattle.register.proofs.SentPieceLemmas.{IsSending, sending_of, takes}
 use Rattle.register.proofs.SuppliedPieceLemmas.{IsSupplied, members_are, pieces_are, room_is, step_is}
-
-some_number : (a b : ℕ) → Some a ≡ Some b → a ≡ b
-some_number a b e = cc
 
 -- a call has replies of a quorum where its current phase is there, and has ended
 ended_phase : (o : Option Phase) → is_replied o ≡ true → (phase : Phase) × (o ≡ Some phase) × (is_some phase.end ≡ true)
@@ -84,7 +78,7 @@ module _ {c : Contents} {number index : ℕ} {t : Tracked} {coded : Coding} {pos
     wanted = wants_pieces replied
 
     target_is : target ≡ position
-    target_is = some_number target position
+    target_is = same_Some target position
         (ap (λ next. pieces_position (want.Supply wanted.0 wanted.1) next (current_phase t.call.phases))
         (sym due_is ∙ same_due wanted)
         ∙ ap (λ w. pieces_position w (due_of object (pred number) t.call) (current_phase t.call.phases)) (sym wanted.2.1)
@@ -94,14 +88,9 @@ module _ {c : Contents} {number index : ℕ} {t : Tracked} {coded : Coding} {pos
         ≡ state_of (with_due c index t kind target layout now (piece_from (Some coded)))
     begun_is now =
         let ended = ended_phase (current_phase t.call.phases) replied in
-        ap (λ o. record { object = o; last = now })
-        (step_is s now ended.0 ended.1 true ended.2
-        ∙ ap (λ d. begun_object fragment object index t.call d now)
-        (ap (λ i. due_of object i t.call) (place found) ∙ sym (same_due wanted) ∙ due_is)
-        ∙ with_due_is c index t kind target layout now (sent_pieces fragment object t.call target)
-        (ap (layout_at object) target_is ∙ s.placed) (found.kept.numbered index t.call (at found))
-        ∙ ap (λ (piece : ℕ → Piece). (state_of (with_due c index t kind target layout now piece)).object)
-        (ap (λ p. sent_pieces fragment object t.call p) target_is ∙ pieces_are s))
+        let begins = with_due_is c index t kind target layout now (sent_pieces fragment object t.call target)
+        (ap (layout_at object) target_is ∙ s.placed) (found.kept.numbered index t.call (at found)) in
+        cc (step_is s now ended.0 ended.1 true ended.2, place found, same_due wanted, due_is, begins, target_is, pieces_are s)
 
     pub begins : IsBeginning c number index t (Step.Supply (pred number)) (λ now. supply_cause now object number coded)
         (Some coded) kind target layout
@@ -144,21 +133,8 @@ module _ {c : Contents} {number index : ℕ} {t : Tracked} {coded : Coding} {pos
         })
     again_is now =
         let p = current.phase in
-        ap (λ o. record { object = o; last = now })
-        (step_is s now p current.is false (ap is_replied (sym current.is) ∙ lacks)
-        ∙ ap (λ rs. record {
-          delta = c.delta;
-          layouts = layouts_of c.positions;
-          banks = banks_of c.positions;
-          mail = c.mail ++ missing c.mail (members_of p.replies) rs;
-          calls = calls_of c.calls;
-        })
-        (ap (λ n. requests n p.number p.kind p.position (layout_at object p.position).members 0
-        (sent_pieces fragment object t.call p.position)) (phase_call found current.is)
-        ∙ ap (λ (l : Layout). requests number p.number p.kind p.position l.members 0 (sent_pieces fragment object t.call p.position))
-        phase_layout
-        ∙ ap (λ (piece : ℕ → Piece). requests number p.number p.kind p.position layout.members 0 piece)
-        (ap (λ n. sent_pieces fragment object t.call n) current.same ∙ pieces_are s)))
+        let step = step_is s now p current.is false (ap is_replied (sym current.is) ∙ lacks) in
+        cc (step, phase_call found current.is, phase_layout, current.same, pieces_are s)
 
     pub asks : IsAsking c number index t (Step.Supply (pred number)) (λ now. supply_cause now object number coded) (Some coded)
     asks = record {

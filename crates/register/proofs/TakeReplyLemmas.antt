@@ -10,7 +10,7 @@ use Rattle.mail.specs.declared.message.Message.{Message}
 use Rattle.mail.specs.declared.message.Body.{Body}
 use Rattle.mail.specs.declared.message.Body.TheVariants as body
 use Rattle.phase.specs.declared.phase.Took.{Took}
-use Rattle.std.proofs.lemmas.Option.{slice_get_read}
+use Rattle.std.proofs.lemmas.Option.{slice_get_read, slice_get_within}
 use Rattle.register.proofs.FoundCallLemmas.{later}
 use Rattle.phase.specs.Phase.{Phase, after_take}
 use Rattle.record.specs.Records.{Call, Object}
@@ -18,7 +18,7 @@ use Rattle.record.specs.PhaseOrder.{begun_at}
 use Rattle.record.specs.Legal.{stage_of, first_stage, source_of}
 use Rattle.soundness.specs.Sound.{IsSound, IsPosted}
 use Rattle.record.specs.Records.{index_by_id}
-use Rattle.record.specs.Steps.{Step, on_message, taken_by, taken_calls, taking_call, taking_phases}
+use Rattle.record.specs.Steps.{Step, taken_calls, taking_call, taking_phases}
 use Rattle.record.specs.Wants.{current_phase}
 use Rattle.transfer.specs.Limits.{IsBelowLimit, HasNextTag}
 use Rattle.register.specs.Tracked.{Tracked, calls_of, taken_tracked, stage_taken, took_call, took_current}
@@ -26,7 +26,9 @@ use Rattle.register.specs.State.{Contents, State, object_of, state_of, made}
 use Rattle.register.specs.Kept.{IsKept}
 use Rattle.register.specs.View.{took_message, took_at}
 use Rattle.soundness.proofs.Sound.CallIdLemmas.{found_by_id}
-use Rattle.register.proofs.ListLemmas.{same_some, found_within, found_of_map, map_set, all_found}
+use Rattle.std.proofs.lemmas.List.{map-set}
+use Rattle.soundness.proofs.ListLemmas.{all_get}
+use Rattle.register.proofs.ListLemmas.{same_some, found_of_map}
 use Rattle.register.proofs.StepInvariantLemmas.{steps_on, call_found, call_kept, open_moves_set, is_below, few_positions, current_found}
 use Rattle.register.proofs.FirstReadingLemmas.{begun_near}
 use Rattle.register.proofs.ShownTagLemmas.{stage_shown, current_shown, next_tag_there}
@@ -47,7 +49,7 @@ named c kept place message waits = record {
 }
   where
     posted : IsPosted (state_of c).object message
-    posted = all_found (IsPosted (state_of c).object) c.mail place message kept.sound.mail waits
+    posted = all_get (IsPosted (state_of c).object) c.mail place message kept.sound.mail waits
 
     is : message.call ≡ suc posted.index
     is = posted.same_call ∙ kept.numbered posted.index posted.call posted.at
@@ -69,7 +71,7 @@ pub record IsTaking (c : Contents) (place : ℕ) (m : Message) (t : Tracked) : T
 
 pub call_there : {c : Contents} (place : ℕ) {m : Message} → IsKept c → slice_get c.mail place ≡ Some m → m.call - 1 < length c.calls
 call_there {c = c} place {m = m} kept waits =
-    let n = named c kept place m waits in found_within c.calls (m.call - 1) n.t n.at
+    let n = named c kept place m waits in slice_get_within c.calls (m.call - 1) n.t n.at
 
 pub taking : {c : Contents} (place : ℕ) {m : Message} {t : Tracked} → IsKept c → slice_get c.mail place ≡ Some m
     → t ≡ get_or c.calls (m.call - 1) t
@@ -118,7 +120,7 @@ module _ {c : Contents} {place : ℕ} {m : Message} {t : Tracked} (taken : IsTak
   pred_is = let e = number_is in ap pred e
 
   as_set : calls_of (set c.calls (m.call - 1) (taken_tracked m now t)) ≡ set (calls_of c.calls) (m.call - 1) (taking_call m now t.call)
-  as_set = map_set (λ (t : Tracked). t.call) c.calls (m.call - 1) (taken_tracked m now t)
+  as_set = map-set (λ (t : Tracked). t.call) c.calls (m.call - 1) (taken_tracked m now t)
 
   id_is : m.call ≡ t.call.id
   id_is = number_is ∙ sym (kept.numbered (m.call - 1) t.call here)
@@ -128,22 +130,18 @@ module _ {c : Contents} {place : ℕ} {m : Message} {t : Tracked} (taken : IsTak
 
   calls_is : calls_of (set c.calls (m.call - 1) (taken_tracked m now t))
       ≡ taken_calls (calls_of c.calls) m now (slice_get (calls_of c.calls) (index_by_id (calls_of c.calls) m.call))
-  calls_is = as_set ∙ ap (λ i. set (calls_of c.calls) i (taking_call m now t.call)) (sym found_is)
-      ∙ sym (ap (taken_calls (calls_of c.calls) m now) (ap (slice_get (calls_of c.calls)) found_is ∙ here))
+  calls_is = cc (as_set, found_is, here)
 
   module _ {kind : Kind} {reply : Reply} (is : m.body ≡ body.Reply kind reply) where
     taking_is : object_of c.delta c.positions (remove c.mail place) (set c.calls (m.call - 1) (taken_tracked m now t))
         ≡ (made (Step.Take place) now (state_of c)).object
-    taking_is =
-        ap (with_calls (state_of c).object (remove c.mail place)) calls_is
-        ∙ sym (ap (λ b. taken_by (state_of c).object place m b now) is)
-        ∙ sym (ap (λ o. on_message (state_of c).object o (λ message. taken_by (state_of c).object place message message.body now)) waits)
+    taking_is = cc (calls_is, is, waits)
 
     taking_keeps : c.last < now → IsKept (record c
         { mail = remove c.mail place; calls = set c.calls (m.call - 1) (taken_tracked m now t); last = now })
     taking_keeps after = call_kept c (m.call - 1) now t (taken_tracked m now t) (remove c.mail place) c.is_moving kept at refl refl stage
         (subst (λ n. n ≤ MOST_PHASES) (sym (length_taking t.call.phases m now))
-        (all_found (λ (call : Call). length call.phases ≤ MOST_PHASES) (state_of c).object.calls
+        (all_get (λ (call : Call). length call.phases ≤ MOST_PHASES) (state_of c).object.calls
         (m.call - 1) t.call kept.limits.phases here))
         (kept.moving ∙ sym (open_moves_set c.calls (m.call - 1) t (taken_tracked m now t) at refl refl))
         (subst (λ o. IsSound fragment o now) (sym taking_is) (steps_on c now (Step.Take place) after kept (m, (waits, (kind, reply, is)))))
@@ -170,10 +168,7 @@ module _ {c : Contents} {place : ℕ} {m : Message} {t : Tracked} (taken : IsTak
 
       pub take_step : state_of (record c { mail = mail; calls = set c.calls (m.call - 1) new; last = now })
           ≡ made (Step.Take place) now (state_of c)
-      take_step =
-          ap (λ ms. state_of (record c { mail = ms; calls = set c.calls (m.call - 1) new; last = now })) mail_is
-          ∙ ap (λ (t : Tracked). state_of (record c { mail = remove c.mail place; calls = set c.calls (m.call - 1) t; last = now })) new_is
-          ∙ ap (λ o. record { object = o; last = now }) taking_is
+      take_step = cc (mail_is, new_is, taking_is)
 
   pub took_is : {took : Took} → took ≡ took_current m (current_phase t.call.phases) → took ≡ took_at (state_of c).object place
   took_is given =

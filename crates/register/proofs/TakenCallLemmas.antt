@@ -1,6 +1,7 @@
 -- What a take makes of a call.
-use Rattle.std.proofs.Common.{◌≡◌, ℕ, suc, ◌==◌, ◌&&◌, Bool, true, false, cond, List, [], ◌∷◌, ◌++◌, length, Option, Some}
+use Rattle.std.proofs.Common.{◌≡◌, ℕ, suc, ◌==◌, Bool, true, false, cond, List, [], ◌∷◌, ◌++◌, length, Option, Some}
 use Rattle.std.proofs.Common.{None, is_some, sym, ap, subst, ◌∙◌, refl, arith}
+use Rattle.record.proofs.BegunStageLemmas.{begun_twice}
 use Rattle.std.proofs.lemmas.Bool.{eqb-true}
 use Rattle.std.proofs.lemmas.Bool.Decides.{nat_tests}
 use Rattle.mail.specs.declared.message.Message.{Message}
@@ -20,7 +21,8 @@ use Rattle.call.specs.Call.{OpenCall, IsCall, reached}
 use Rattle.call.specs.Limits.{CanReach}
 use Rattle.call.specs.Steps.{taken_call}
 use Rattle.register.specs.Tracked.{Tracked, IsTracked, stage_taken, taken_tracked, tracked_of}
-use Rattle.register.proofs.FirstReadingLemmas.{begun_again, take_position}
+use Rattle.register.proofs.FirstReadingLemmas.{take_position}
+use Rattle.register.proofs.RecordedPieceLemmas.{both_left}
 
 ended_body : (p : Phase) (m : Message) (now : ℕ) (b : Body) → is_some p.end ≡ true
     → (after_body p m.call m.phase m.member b now ≡ p) × (took_body p m.call m.phase m.member b ≡ took.Stale)
@@ -41,21 +43,18 @@ ended_stale p m ended = (ended_body p m 0 m.body ended).1
 
 -- the last phase is the current one
 pub current_push : (ps : List Phase) (p : Phase) → current_phase (ps ++ p ∷ []) ≡ Some p
-current_push [] p = refl
-current_push (x ∷ []) p = refl
 current_push (x ∷ y ∷ ys) p = current_push (y ∷ ys) p
+current_push _ p = refl
 
 -- and takes the message
 pub taking_push : (ps : List Phase) (p : Phase) (m : Message) (now : ℕ)
     → taking_phases (ps ++ p ∷ []) m now ≡ ps ++ after_take p m now ∷ []
-taking_push [] p m now = refl
-taking_push (x ∷ []) p m now = refl
 taking_push (x ∷ y ∷ ys) p m now = ap (λ zs. x ∷ zs) (taking_push (y ∷ ys) p m now)
+taking_push _ p m now = refl
 
 pub length_taking : (ps : List Phase) (m : Message) (now : ℕ) → length (taking_phases ps m now) ≡ length ps
-length_taking [] m now = refl
-length_taking (p ∷ []) m now = refl
 length_taking (p ∷ q ∷ ps) m now = ap suc (length_taking (q ∷ ps) m now)
+length_taking _ m now = refl
 
 -- the stage that is kept goes with the phases
 pub stage_taking : (kind : CallKind) (s : Stage) (ps : List Phase) (m : Message) (now : ℕ)
@@ -73,12 +72,8 @@ stage_taking kind s (p ∷ []) m now = step p.end refl
         → cond (is_some o) (passed kind m.call begun o p.replies (lacks_pieces p))
         (stage_past kind m.call (passed kind m.call begun o p.replies (lacks_pieces p)) new)
         ≡ stage_past kind m.call s new
-    step None e =
-        ap (λ t. passed kind m.call t new.end new.replies (lacks_pieces new))
-        (begun_again s p.position new.position ∙ ap (begun_at s) (sym (take_position p m now)))
-    step (Some end) e =
-        ap (λ o. passed kind m.call begun o p.replies (lacks_pieces p)) (sym e)
-        ∙ ap (λ (x : Phase). stage_past kind m.call s x) (sym (ended_same p m now (ap is_some e)))
+    step None e = cc (begun_twice s p.position new.position, take_position p m now)
+    step (Some end) e = cc (ended_same p m now (ap is_some e))
 stage_taking kind s (p ∷ q ∷ ps) m now = stage_taking kind (stage_past kind m.call s p) (q ∷ ps) m now
 
 -- a call whose phases and stage stay as they are
@@ -102,10 +97,6 @@ stage_open kind s p m now open_yet = ap (λ b. cond b s (stage_past kind m.call 
 same_call : (p : Phase) (m : Message) (now : ℕ) → is_some p.end ≡ false → is_some (after_take p m now).end ≡ true → m.call ≡ p.call
 same_call p m now open_yet ended = of m.body ended
   where
-    first : (a b : Bool) → (a && b) ≡ true → a ≡ true
-    first true b is = refl
-    first false b is = absurd (cc)
-
     of : (b : Body) → is_some (after_body p m.call m.phase m.member b now).end ≡ true → m.call ≡ p.call
     of (body.Request q) e = absurd (let clash : false ≡ true = sym open_yet ∙ e in cc)
     of (body.Reply k r) e = go (is_current p m.call m.phase) refl e
@@ -113,7 +104,7 @@ same_call p m now open_yet ended = of m.body ended
         go : (mine : Bool) → is_current p m.call m.phase ≡ mine
             → is_some (cond mine (cond (has_taken p.replies m.member) p (with_reply p m.member r now)) p).end ≡ true → m.call ≡ p.call
         go false is e = absurd (let clash : false ≡ true = sym open_yet ∙ e in cc)
-        go true is e = eqb-true m.call p.call (first (m.call == p.call) _ is)
+        go true is e = eqb-true m.call p.call (both_left (m.call == p.call) _ is)
 
 -- where no phase ends, it does not matter which call passes it
 passed_by : (kind : CallKind) (a b : ℕ) (s : Stage) (end : Option ℕ) (replies : List Taken) (lacks : Bool) → (is_some end ≡ true → a ≡ b)
@@ -152,22 +143,14 @@ module _ {ps : List Phase} {call : OpenCall} {stage : Stage} (tracked : IsTracke
   taken_stage : stage_taken call.kind stage (current_phase before.call.phases) m now ≡ reached (taken_call m now call)
   taken_stage =
       let new = after_take call.phase m now in
-      ap (λ o. stage_taken call.kind stage o m now) (current_push ps call.phase) ∙ stage_open call.kind stage call.phase m now open_yet
-      ∙ ap (λ n. passed call.kind m.call (begun_at stage n) new.end new.replies (lacks_pieces new)) (take_position call.phase m now)
-      ∙ ap (λ s. passed call.kind m.call s new.end new.replies (lacks_pieces new)) begun_there
-      ∙ passed_by call.kind m.call call.id call.stage new.end new.replies (lacks_pieces new)
-      (λ ended. same_call call.phase m now open_yet ended ∙ lawful.named)
+      let passes = passed_by call.kind m.call call.id call.stage new.end new.replies (lacks_pieces new)
+      (λ ended. same_call call.phase m now open_yet ended ∙ lawful.named) in
+      let stays = stage_open call.kind stage call.phase m now open_yet in
+      cc (current_push ps call.phase, stays, take_position call.phase m now, begun_there, passes)
 
   pub taken_is : {new : OpenCall} {s : Stage} → new ≡ taken_call m now call → s ≡ reached new
       → tracked_of called answered ps new s ≡ taken_tracked m now before
-  taken_is {new = new} {s = s} is reaches =
-      ap (λ (c : OpenCall). tracked_of called answered ps c s) is
-      ∙ ap (tracked_of called answered ps (taken_call m now call)) (reaches ∙ ap reached is ∙ sym taken_stage)
-      ∙ ap (λ phases. record {
-        call = record before.call { phases = phases };
-        stage = stage_taken call.kind stage (current_phase before.call.phases) m now;
-      })
-      (sym (taking_push ps call.phase m now))
+  taken_is {new = new} {s = s} is reaches = cc (taken_stage, taking_push ps call.phase m now)
 
 -- a call whose phase is complete takes nothing
 pub ended_is : (called : ℕ) (answered : Option ℕ) (ps : List Phase) (call : OpenCall) (stage : Stage) (m : Message) (now : ℕ)

@@ -8,7 +8,9 @@ use Rattle.soundness.specs.Sound.{IsPosted}
 use Rattle.register.specs.Position.{Position, banks_of}
 use Rattle.register.specs.State.{Contents, state_of}
 use Rattle.register.specs.Kept.{IsKept}
-use Rattle.register.proofs.ListLemmas.{found, found_or, found_map, length_map, all_found}
+use Rattle.std.proofs.lemmas.Option.{get_or_from_slice_get}
+use Rattle.soundness.proofs.ListLemmas.{all_get}
+use Rattle.register.proofs.ListLemmas.{found, found_map, length_map}
 use Rattle.register.proofs.PieceLengthLemmas.{posted_within}
 
 -- the bank to which a waiting message goes, or from which it comes
@@ -26,7 +28,7 @@ there c kept place message waits = record {
   at = p.1;
   bank = b.0;
   kept = b.1;
-  is = ap (λ bs. get_or bs message.member no_bank) banks_at ∙ found_or p.0.banks message.member b.0 no_bank b.1;
+  is = ap (λ bs. get_or bs message.member no_bank) banks_at ∙ get_or_from_slice_get p.0.banks message.member b.0 no_bank b.1;
   placed = placed;
 }
   where
@@ -34,7 +36,7 @@ there c kept place message waits = record {
     object = (state_of c).object
 
     posted : IsPosted (state_of c).object message
-    posted = all_found (IsPosted (state_of c).object) c.mail place message kept.sound.mail waits
+    posted = all_get (IsPosted (state_of c).object) c.mail place message kept.sound.mail waits
 
     placed : message.position < length (state_of c).object.layouts
     placed = posted_within (state_of c).object c.last kept.sound message posted
@@ -43,7 +45,7 @@ there c kept place message waits = record {
     p = found c.positions message.position (subst (λ n. message.position < n) (length_map (λ (p : Position). p.layout) c.positions) placed)
 
     banks_at : get_or (state_of c).object.banks message.position [] ≡ p.0.banks
-    banks_at = found_or (banks_of c.positions) message.position p.0.banks []
+    banks_at = get_or_from_slice_get (banks_of c.positions) message.position p.0.banks []
         (found_map (λ (p : Position). p.banks) c.positions message.position p.0 p.1)
 
     within : message.member < length p.0.banks

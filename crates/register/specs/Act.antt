@@ -73,7 +73,7 @@ IsCausedBy false cause answer = IsExactlyByCause cause answer
 abbrev pub IsActCause : {T : Type 0} → Act → Option Refusal → Result T Refusal → Type 0
 IsActCause act cause answer = IsCausedBy (takes_memory act) cause answer
 
--- what an act returns where it is not refused, for the object at this place
+-- what an act returns if it is not refused, for the object at this place
 abbrev pub answered_by : Act → (place now : ℕ) → Object → Option Answered
 answered_by act.CallRead place now object = Some (answered.Call (suc (length object.calls)))
 answered_by (act.CallWrite value) place now object = Some (answered.Call (suc (length object.calls)))

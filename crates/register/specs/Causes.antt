@@ -27,11 +27,11 @@ use Rattle.register.specs.Kept.{has_open_move}
 use Rattle.register.specs.State.{next_id}
 use Rattle.register.specs.Coding.{is_pre_write, pieces_due, is_coded_for, is_decoded_from}
 
--- this refusal unless the condition holds, and else the later cause
+-- this refusal unless the condition holds, and otherwise the later cause
 abbrev pub unless : Bool → Refusal → Option Refusal → Option Refusal
 unless holds refusal later = if holds then later else Some refusal
 
--- Full unless the number of the step is within the limit of steps, and else the later cause
+-- Full unless the number of the step is within the limit of steps, and otherwise the later cause
 abbrev pub if_step : (now : ℕ) → Option Refusal → Option Refusal
 if_step now later = unless (nat_le now MOST_STEPS) Full later
 
@@ -40,12 +40,12 @@ abbrev pub call_at : Object → (number : ℕ) → Option Call
 call_at object zero = None
 call_at object (suc index) = slice_get object.calls index
 
--- NoCall if there is no call, and else the later cause
+-- NoCall if there is no call, and otherwise the later cause
 abbrev pub if_call : Option Call → (Call → Option Refusal) → Option Refusal
 if_call None cause = Some NoCall
 if_call (Some call) cause = cause call
 
--- NoMessage if there is no message, and else the later cause
+-- NoMessage if there is no message, and otherwise the later cause
 abbrev pub if_message : Option Message → (Message → Option Refusal) → Option Refusal
 if_message None cause = Some NoMessage
 if_message (Some message) cause = cause message
@@ -117,7 +117,7 @@ abbrev pub is_again : Want → Bool
 is_again want.Again = true
 is_again _ = false
 
--- the later cause if the call wants to settle a value, Collected if its fetch lacks pieces, and else NotNow
+-- the later cause if the call wants to settle a value, Collected if its fetch lacks pieces, and otherwise NotNow
 abbrev pub if_settle : Want → Option Refusal → Option Refusal
 if_settle (want.Settle k len) later = later
 if_settle want.Again later = Some Collected

@@ -71,7 +71,7 @@ abbrev pub piece_by : List Taken → (member : ℕ) → Option Piece
 piece_by [] member = None
 piece_by (t ∷ replies) member = if t.member == member then answer_piece t.reply.answer else piece_by replies member
 
--- the piece as a list of one, or the empty list where there is none
+-- the piece as a list of one, or the empty list if there is none
 abbrev pub piece_list : Option Piece → List Piece
 piece_list None = []
 piece_list (Some piece) = piece ∷ []

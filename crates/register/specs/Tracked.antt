@@ -53,7 +53,7 @@ tracked_want object t =
     if is_some t.call.answered then want.Done else want_after object (due t.stage) t.call.settled
     (current_phase t.call.phases)
 
--- the call of this number with one more phase; where a first reading is to begin, it begins at the phase's position
+-- the call of this number with one more phase; if a first reading is to begin, it begins at the phase's position
 abbrev pub with_begun : Tracked → (number : ℕ) → Kind → (position : ℕ) → Layout → (now : ℕ) → Tracked
 with_begun t number kind position layout now = record {
   call = record t.call {

@@ -1,5 +1,5 @@
 -- The contracts that docs/trusted.md lists do not depend on this file; other contracts and proofs do.
--- What can be read of an object without a step.
+-- What can be read from an object without a step.
 use Rattle.std.specs.Prelude.{ℕ, pred, List, [], length, Option, Some, None, option_map, get_or, slice_get}
 use Rattle.tag.specs.declared.tag.Tag.{Tag}
 use Rattle.piece.specs.declared.piece.Piece.{Piece}

@@ -20,7 +20,7 @@ fn are_same(a: &[u8], b: &[u8]) -> bool
     a.len() == b.len() && same(a, b)
 }
 
-/// Whether `coded` is this value, encoded for this layout.
+/// Returns whether `coded` is this value, encoded for this layout.
 pub(crate) fn is_coded_for(layout: &Layout, value: &Bytes, coded: &Coded) -> bool
     ensures { result ≡ is_coded_for layout.now value.now coded.now }
 {
@@ -50,7 +50,7 @@ fn is_recorded(replies: &[Taken], piece: &Piece) -> bool
     false
 }
 
-/// Whether the value was decoded from k pieces, each carried by one of the recorded replies.
+/// Returns whether the value was decoded from k pieces, each carried by one of the recorded replies.
 pub(crate) fn is_decoded_from(k: u8, replies: &[Taken], decoded: &Decoded) -> bool
     ensures { result ≡ is_decoded_from k replies.now decoded.now }
 {
@@ -69,7 +69,7 @@ fn are_recorded(replies: &[Taken], pieces: &[Piece]) -> bool
     true
 }
 
-/// The piece that the member's reply carries, if there is one.
+/// Returns the piece that the member's reply carries, if there is one.
 pub(crate) fn piece_by(replies: &[Taken], member: u8) -> Option<&Piece>
     ensures { option_copied result ≡ piece_by replies.now member }
 {

@@ -37,8 +37,8 @@ impl Position {
     ghost use Rattle.record.specs.Accounts.{position_bytes};
     ghost use Rattle.record.specs.Steps.{opened_banks};
 
-    /// A position whose banks are opened at step `now`, and keep `delta` finalized versions beside the newest, or all
-    /// without `delta`. `NoMemory` is the only refusal.
+    /// Makes a position whose banks are opened at step `now`, and keep `delta` finalized versions besides the newest,
+    /// or all without `delta`. `NoMemory` is the only refusal.
     pub(crate) fn new(
         alloc: Global,
         layout: Layout,
@@ -59,21 +59,21 @@ impl Position {
         Ok(Position { layout, banks })
     }
 
-    /// The layout.
+    /// Returns the layout.
     pub(crate) fn layout(&self) -> &Layout
         ensures { result.now ≡ self.now.layout }
     {
         &self.layout
     }
 
-    /// The bank of a member.
+    /// Returns the bank of a member.
     pub(crate) fn bank(&self, member: u8) -> Option<&Bank>
         ensures { option_copied result ≡ slice_get self.now.banks member }
     {
         self.banks.get(usize::from(member))
     }
 
-    /// How many bytes of pieces the bank of a member stores.
+    /// Returns how many bytes of pieces the bank of a member stores.
     pub(crate) fn bytes(&self, member: u8) -> u64
         requires there { member < length self.now.banks }
         requires room { (b : Table) → slice_get self.now.banks member ≡ Some b → bank_bytes b < 2 ^ 64 }
@@ -114,7 +114,7 @@ impl Position {
         retire_all(&mut self.banks, now)
     }
 
-    /// How many bytes of pieces this server stores at the position: 0 where it is no member.
+    /// Returns how many bytes of pieces this server stores at the position: 0 if it is no member.
     pub(crate) fn stored(&self, server: u8) -> u64
         requires lawful { IsLawful self.now.layout }
         requires room { position_bytes server self.now.layout.members self.now.banks < 2 ^ 64 }

@@ -1,4 +1,4 @@
-//! What is handed out of a call.
+//! What is handed out about a call.
 use bank::Kind;
 use bytes::Bytes;
 use record::{Operation, Want};

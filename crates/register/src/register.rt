@@ -21,8 +21,8 @@ mod views;
 /// One object, with the number of its last step.
 ///
 /// Each method that changes the object is one step. It takes the number `now` of that step, which must be greater than
-/// the number of the last step; numbers need not be consecutive. A method that is refused changes nothing. Where
-/// several refusals apply, it returns the first of them in the order NoCall, NoMessage, NotNow, MovePending, TooLong,
+/// the number of the last step; numbers need not be consecutive. A method that is refused changes nothing. If several
+/// refusals apply, it returns the first of them in the order NoCall, NoMessage, NotNow, MovePending, TooLong,
 /// Collected, WrongCode, Full, NoMemory. `NoMemory` means that an allocation was refused; a method whose comment says
 /// that it allocates no memory never returns it.
 #[derive(Debug, Drop)]
@@ -79,9 +79,9 @@ impl Model for Register {
 impl Register {
     ghost use Rattle.record.specs.Steps.{opened_object};
 
-    /// An object with one position, of this layout, and no calls. Step `now` opens the n banks of the position.
+    /// Makes an object with one position, of this layout, and no calls. Step `now` opens the n banks of the position.
     ///
-    /// `delta` is how many finalized versions the banks of all positions keep beside the newest; without it they keep
+    /// `delta` is how many finalized versions the banks of all positions keep besides the newest; without it they keep
     /// all pieces. `NoMemory` is the only refusal.
     pub fn new(
         alloc: Global,
@@ -107,7 +107,7 @@ impl Register {
         })
     }
 
-    /// The number of the object's last step.
+    /// Returns the number of the object's last step.
     pub fn last(&self) -> Stamp
         ensures { result ≡ self.now.last }
     {

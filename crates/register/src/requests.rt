@@ -15,7 +15,8 @@ use phase::{Ask, Phase};
 use std::alloc::Global;
 use tag::{CallId, MOST_MESSAGES, Refusal};
 
-/// The requests of a phase that are resent: those to members that have no recorded reply and no waiting message of it.
+/// Returns the requests of a phase that are resent: those to members that have no recorded reply and no waiting message
+/// of it.
 pub(crate) fn missing(
     alloc: Global,
     ask: Ask,
@@ -39,7 +40,7 @@ pub(crate) fn missing(
     Ok(messages)
 }
 
-/// How many requests of a phase are resent.
+/// Returns how many requests of a phase are resent.
 pub(crate) fn missing_count(ask: Ask, phase: &Phase, mail: &Mail) -> usize
     ensures { (servers : List ℕ) (piece : ℕ → Piece) → length servers ≡ phase.now.members
         → result ≡ length (missing mail.now (members_of phase.now.replies)
@@ -54,7 +55,7 @@ pub(crate) fn missing_count(ask: Ask, phase: &Phase, mail: &Mail) -> usize
     count
 }
 
-/// Whether `count` more messages may wait.
+/// Returns whether `count` more messages may wait.
 pub(crate) fn has_room(mail: &Mail, count: usize) -> bool
     ensures { result ≡ nat_le (length mail.now + count) MOST_MESSAGES }
 {

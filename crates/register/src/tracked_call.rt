@@ -59,8 +59,8 @@ impl Model for TrackedCall {
 }
 
 impl TrackedCall {
-    /// A call that begins at a stage, together with its first phase, as `ask` says, at a position with this layout. The
-    /// requests are posted. Where it is refused, the mail does not change.
+    /// Makes a call that begins at a stage, together with its first phase, as `ask` says, at a position with this
+    /// layout. The requests are posted. If it is refused, the mail does not change.
     pub(crate) fn begin(
         alloc: Global,
         ask: Ask,
@@ -103,7 +103,7 @@ impl TrackedCall {
     }
 
     /// The call begins its next phase, at a position with this layout. The requests are posted, and the phase is added;
-    /// a first reading begins at the position. Where it is refused, nothing changes.
+    /// a first reading begins at the position. If it is refused, nothing changes.
     pub(crate) fn begin_next(
         &mut self,
         kind: Kind,

@@ -29,7 +29,7 @@ LeadsReading reading (phase ∷ phases) to =
 abbrev pub AreComplete : List Phase → Type 0
 AreComplete phases = AllByRecursion (λ (phase : Phase). IsSome phase.end) phases
 
--- a law: phases are a reading in the record's sense exactly where they lead a `Reading` to its end
+-- a law: phases are a reading in the record's sense exactly if they lead a `Reading` to its end
 abbrev pub ReadingsLeadToTheEnd : Type 0
 ReadingsLeadToTheEnd =
     (position finalized last to : ℕ) (phases : List Phase)

@@ -37,7 +37,7 @@ finalized_of (Next position finalized) = finalized
 finalized_of (Spread position finalized status) = finalized
 finalized_of (Ended last finalized) = finalized
 
--- the status that the reading spreads next, or unset where it spreads none
+-- the status that the reading spreads next, or unset if it spreads none
 abbrev pub spread_status : Reading → Status
 spread_status (Next position finalized) = Unset
 spread_status (Spread position finalized status) = status
@@ -49,7 +49,7 @@ last_of (Next position finalized) = None
 last_of (Spread position finalized status) = None
 last_of (Ended last finalized) = Some last
 
--- the phase that is next, with its position, or none where the reading has ended
+-- the phase that is next, with its position, or none if the reading has ended
 abbrev pub next_of : Reading → Option (Kind × ℕ)
 next_of (Next position finalized) = Some (kind.Next, position)
 next_of (Spread position finalized status) = Some (kind.Spread status, position)

@@ -10,7 +10,7 @@ pub use replies::{greatest_status, greatest_tag};
 mod reading;
 mod replies;
 
-/// A law: phases are a reading of the sequence, as `record` defines it, from a position up to a last one exactly where
+/// A law: phases are a reading of the sequence, as `record` defines it, from a position up to a last one exactly if
 /// they lead a `Reading` from there to its end. Each is then the phase that was next, and the statuses that were found
 /// end the reading at that last position, with that last finalized one.
 pub fn readings_lead_to_the_end()

@@ -32,7 +32,7 @@ pub enum Reading {
 }
 
 impl Reading {
-    /// A reading that begins at a position, from 0.
+    /// Returns a reading that begins at a position, from 0.
     pub fn start(position: u32) -> Reading
         ensures first { first_of result ≡ ReadNext position position }
         ensures begun { first_of result ≡ begun_at ReadBegin position }
@@ -44,7 +44,7 @@ impl Reading {
         }
     }
 
-    /// The reading after a quorum replied to Next, where `status` is the greatest status that the replies show.
+    /// Returns the reading after a quorum replied to Next, where `status` is the greatest status that the replies show.
     pub fn found(self, status: Status) -> Reading
         requires { IsTrue (is_next self) }
         ensures value { result ≡ found_by self status }
@@ -72,7 +72,7 @@ impl Reading {
         }
     }
 
-    /// The reading after the status that it found is spread to a quorum.
+    /// Returns the reading after the status that it found is spread to a quorum.
     pub fn spread(self) -> Reading
         requires due { IsTrue (is_spread self) }
         requires room { position_of self + 1 < 2 ^ 32 }
@@ -100,7 +100,7 @@ impl Reading {
         }
     }
 
-    /// The phase that is next, with its position. None where the reading has ended.
+    /// Returns the phase that is next, with its position, or none if the reading has ended.
     pub fn next_phase(self) -> Option<(Kind, u32)>
         ensures value { result ≡ next_of self }
         ensures first { IsSome result → result ≡ due (first_of self) }
@@ -117,8 +117,8 @@ impl Reading {
         }
     }
 
-    /// The last position known to be finalized: the greatest whose predecessor showed Final, or else the position where
-    /// the reading began.
+    /// Returns the last position known to be finalized: the greatest whose predecessor showed Final, or else the
+    /// position where the reading began.
     pub fn last_final(self) -> u32
         ensures { result ≡ finalized_of self }
     {
@@ -129,7 +129,7 @@ impl Reading {
         }
     }
 
-    /// The last position. None while the reading has not ended.
+    /// Returns the last position, or none while the reading has not ended.
     pub fn last(self) -> Option<u32>
         ensures { result ≡ last_of self }
     {

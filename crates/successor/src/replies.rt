@@ -5,7 +5,7 @@ use bank::{Answer, Status};
 use phase::Taken;
 use tag::Tag;
 
-/// The greatest status of a pointer that the replies show, or unset where they show none.
+/// Returns the greatest status of a pointer that the replies show, or unset if they show none.
 pub fn greatest_status(replies: &[Taken]) -> Status
     ensures { result ≡ greatest_status replies.now }
 {
@@ -16,7 +16,7 @@ pub fn greatest_status(replies: &[Taken]) -> Status
     greatest
 }
 
-/// The greatest tag that the replies show, or the opening tag where they show none.
+/// Returns the greatest tag that the replies show, or the opening tag if they show none.
 pub fn greatest_tag(replies: &[Taken]) -> Tag
     ensures { result ≡ greatest_tag replies.now }
 {

@@ -29,7 +29,7 @@ queried_tag [] = opening_tag
 queried_tag (spread ∷ []) = opening_tag
 queried_tag (spread ∷ query ∷ later) = greatest_tag query.replies
 
--- of a move's phases behind the first, those from the last query on
+-- of a move's phases after the first, those from the last query on
 abbrev pub last_attempt : List Phase → List Phase
 last_attempt (query ∷ fetch ∷ later) = if lacks_pieces fetch then last_attempt later else query ∷ fetch ∷ later
 last_attempt phases = phases

@@ -13,8 +13,8 @@ use record::{CallKind, Stage};
 use successor::Reading;
 use tag::{CallId, Tag};
 
-/// The stage at which a call begins. A move leads from the position `from`. A read or a write begins at the position
-/// that `begun_at` is given.
+/// Returns the stage at which a call begins. A move leads from the position `from`. A read or a write begins at the
+/// position that `begun_at` is given.
 pub fn first_stage(kind: &CallKind, from: u32) -> Stage
     ensures { result ≡ first_stage kind.now from }
 {
@@ -24,8 +24,8 @@ pub fn first_stage(kind: &CallKind, from: u32) -> Stage
     }
 }
 
-/// The stage once its phase begins at a position. If a first reading is to begin, it begins at this position, which is
-/// to be the object's base. Any other stage stays.
+/// Returns the stage once its phase begins at a position. If a first reading is to begin, it begins at this position,
+/// which is to be the object's base. Any other stage stays.
 pub fn begun_at(stage: Stage, position: u32) -> Stage
     ensures { result ≡ begun_at stage position }
 {
@@ -35,8 +35,8 @@ pub fn begun_at(stage: Stage, position: u32) -> Stage
     }
 }
 
-/// The phase that is due, with its position. None where the call may be answered. For a first reading that has not
-/// begun the position is 0, and means nothing: the reading begins at the position that `begun_at` is given.
+/// Returns the phase that is due, with its position, or none if the call may be answered. For a first reading that has
+/// not begun the position is 0, and means nothing: the reading begins at the position that `begun_at` is given.
 pub fn due(stage: Stage) -> Option<(Kind, u32)>
     requires { IsBelowLimit stage }
     ensures { result ≡ due stage }
@@ -69,7 +69,8 @@ pub fn due(stage: Stage) -> Option<(Kind, u32)>
     }
 }
 
-/// The stage to which a phase leads the call of this number. A phase that is not complete only begins what was due.
+/// Returns the stage to which a phase leads the call of this number. A phase that is not complete only begins what was
+/// due.
 pub fn passed(kind: &CallKind, number: CallId, stage: Stage, phase: &Phase) -> Stage
     requires room { IsBelowLimit (begun_at stage phase.now.position) }
     requires tags { HasNextTag kind.now (begun_at stage phase.now.position) phase.now.replies }
@@ -84,7 +85,7 @@ pub fn passed(kind: &CallKind, number: CallId, stage: Stage, phase: &Phase) -> S
     }
 }
 
-/// The tag of a call at this stage. None before its queries are complete.
+/// Returns the tag of a call at this stage, or none before its queries are complete.
 pub fn stage_tag(stage: Stage) -> Option<Tag>
     ensures { result ≡ stage_tag stage }
 {

@@ -10,9 +10,9 @@ use bank::Kind;
 use phase::Phase;
 use record::{CallKind, Stage};
 
-/// The phase that is next, with its position, in a move from the position `from` to the one after it. `done` are the
-/// phases that the move has made so far. None where all six are made. A phase that is not complete leads nowhere, and a
-/// fetch that lacks pieces leads back to the query.
+/// Returns the phase that is next, with its position, in a move from the position `from` to the one after it. `done`
+/// are the phases that the move has made so far. Returns none if all six are made. A phase that is not complete leads
+/// nowhere, and a fetch that lacks pieces leads back to the query.
 pub fn next_phase(from: u32, done: &[Phase]) -> Option<(Kind, u32)>
     requires { from + 2 < 2 ^ 32 }
     ensures stage { (number : ℕ) → result ≡ due (stage_after Move number (MoveSpread from) done.now) }

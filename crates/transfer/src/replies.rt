@@ -16,8 +16,8 @@ use record::{CallKind, Stage};
 use successor::{Reading, greatest_status, greatest_tag};
 use tag::{CallId, Tag};
 
-/// The stage to which the replies of a complete phase lead the call of this number. A fetch that lacks pieces leads a
-/// read back to its first reading, and a move back to its query.
+/// Returns the stage to which the replies of a complete phase lead the call of this number. A fetch that lacks pieces
+/// leads a read back to its first reading, and a move back to its query.
 pub(crate) fn after(
     kind: &CallKind,
     number: CallId,
@@ -170,7 +170,7 @@ fn after_again(replies: &[Taken], last: u32, position: u32, tag: Tag) -> Stage
     again(last, tag, reading.found(greatest_status(replies)))
 }
 
-/// The stage of a call in its first reading. The queries that follow begin at the last position known to be finalized.
+/// Returns the stage of a call in its first reading. The queries after it begin at the last known final position.
 pub(crate) fn first(reading: Reading) -> Stage
     ensures { result ≡ first_of reading }
 {

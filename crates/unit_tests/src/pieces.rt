@@ -5,7 +5,7 @@ use piece::Piece;
 use std::alloc::Global;
 use std::process::Abort;
 
-/// The fragment of `hello` at point 1 for two blocks, 68656c and 6c6f00: their sum.
+/// Returns the fragment of `hello` at point 1 for two blocks, 68656c and 6c6f00: their sum.
 pub(crate) fn piece(rt: &impl Abort, alloc: Global) -> Piece {
     Piece {
         point: 1,
@@ -14,7 +14,7 @@ pub(crate) fn piece(rt: &impl Abort, alloc: Global) -> Piece {
     }
 }
 
-/// The same piece, as an answer holds it.
+/// Returns the same piece, as an answer holds it.
 pub(crate) fn held(rt: &impl Abort, alloc: Global) -> HeldPiece {
     HeldPiece::new(alloc, piece(rt, alloc)).expect(rt, "a piece")
 }

@@ -2,7 +2,7 @@
 use std::fmt::Debug;
 use std::process::Abort;
 
-/// Both values are the same; `what` names them where they differ.
+/// Both values are the same; `what` names them if they differ.
 pub(crate) fn assert_same<T: Copy + Debug + PartialEq>(
     rt: &impl Abort,
     what: &str,

@@ -18,7 +18,7 @@ use tag::Tag;
 use transfer::{due, passed};
 
 impl Call {
-    /// The stage to which the current phase leads: while it lacks a quorum, the stage at which it began.
+    /// Returns the stage to which the current phase leads: while it lacks a quorum, the stage at which it began.
     pub fn reached(&self) -> Stage
         requires limits { CanReach self.now }
         ensures { result ≡ reached self.now }
@@ -26,9 +26,9 @@ impl Call {
         passed(&self.kind, self.id, self.stage, &self.phase)
     }
 
-    /// Whether the position of the current phase, that of the phase that is due next, and the tag of a write have
-    /// successors that fit the machine's numbers. A caller that can't know this from limits of its own asks it before
-    /// `reached`, `begin_next` and `next`.
+    /// Returns whether the position of the current phase, that of the phase that is due next, and the tag of a write
+    /// have successors that fit the machine's numbers. A caller that cannot know this from limits of its own asks it
+    /// before `reached`, `begin_next` and `next`.
     pub fn is_within_limits(&self) -> bool
         ensures value { result ≡ is_within_limits self.now }
         ensures within { result ≡ true → IsWithinLimits self.now }
@@ -44,7 +44,7 @@ impl Call {
         is_below_limit(self.stage) && has_next_tag(&self.kind, self.stage, self.phase.replies())
     }
 
-    /// What the call does next.
+    /// Returns what the call does next.
     pub fn next(&self) -> Next
         requires limits { IsWithinLimits self.now }
         ensures { result ≡ next_of self.now }

@@ -13,14 +13,14 @@ use record::{CallKind, Operation, Stage};
 use tag::{CallId, Refusal};
 
 impl Call {
-    /// The id of the call, which no other call of its object has.
+    /// Returns the id of the call, which no other call of its object has.
     pub fn id(&self) -> CallId
         ensures { result ≡ self.now.id }
     {
         self.id
     }
 
-    /// The kind of the call, without its value.
+    /// Returns the kind of the call, without its value.
     pub fn operation(&self) -> Operation
         ensures { result ≡ operation_of self.now.kind }
     {
@@ -31,7 +31,7 @@ impl Call {
         }
     }
 
-    /// The current phase.
+    /// Returns the current phase.
     pub fn phase(&self) -> &Phase
         ensures value { result.now ≡ self.now.phase }
         ensures lawful { IsCall self.now }
@@ -39,7 +39,7 @@ impl Call {
         &self.phase
     }
 
-    /// What the current phase asks, as `requests` and `request_to` need it.
+    /// Returns what the current phase asks, as `requests` and `request_to` need it.
     pub fn ask(&self) -> Ask
         ensures { result ≡ record {
           call = self.now.id;
@@ -56,21 +56,21 @@ impl Call {
         }
     }
 
-    /// The stage at which the current phase began.
+    /// Returns the stage at which the current phase began.
     pub fn stage(&self) -> Stage
         ensures { result ≡ self.now.stage }
     {
         self.stage
     }
 
-    /// Whether the call has settled a value.
+    /// Returns whether the call has settled a value.
     pub fn is_settled(&self) -> bool
         ensures { result ≡ is_some self.now.settled }
     {
         self.settled.is_some()
     }
 
-    /// The value that the call writes, or has settled so far.
+    /// Returns the value that the call writes, or has settled so far.
     pub fn value(&self) -> Option<&Bytes>
         ensures { option_copied result ≡ sent_value self.now.kind self.now.settled }
     {
@@ -80,7 +80,8 @@ impl Call {
         }
     }
 
-    /// A copy of the value that the call writes, or that a read returns once it is answered. The copy shares its bytes.
+    /// Returns a copy of the value that the call writes, or that a read returns once it is answered. The copy shares
+    /// its bytes.
     ///
     /// `NoMemory` is the only refusal.
     pub fn returned(&self, is_answered: bool) -> Result<Option<Bytes>, Refusal>

@@ -31,8 +31,8 @@ impl Register {
     /// Begins a read: its first phase sends a request Next to each of the n members of the base. Returns the call's
     /// number, counted from 1.
     ///
-    /// `Full` where `now` is above `MOST_STEPS`, the object has `MOST_CALLS` calls, or the n requests would make more
-    /// than `MOST_MESSAGES` waiting messages.
+    /// Is refused with `Full` if `now` is above `MOST_STEPS`, the object has `MOST_CALLS` calls, or the n requests
+    /// would make more than `MOST_MESSAGES` waiting messages.
     pub fn call_read(&mut self, now: Stamp) -> Result<CallId, Refusal>
         requires after { self.old.last < now }
         ensures step { OnOk result (self.new ≡ made (Step.CallRead (next_id self.old.object)) now self.old) }
@@ -46,7 +46,7 @@ impl Register {
     /// Begins a write of a value: its first phase sends a request Next to each of the n members of the base. Returns
     /// the call's number, counted from 1.
     ///
-    /// `TooLong` where the value is longer than `LONGEST_VALUE` bytes, and `Full` as for `call_read`.
+    /// Is refused with `TooLong` if the value is longer than `LONGEST_VALUE` bytes, and with `Full` as for `call_read`.
     pub fn call_write(&mut self, value: Bytes, now: Stamp) -> Result<CallId, Refusal>
         requires after { self.old.last < now }
         ensures step { OnOk result (self.new ≡ made (Step.CallWrite (next_id self.old.object) value) now self.old) }
@@ -99,9 +99,9 @@ impl Register {
     /// layout. The first phase spreads Pending: it sends a request to each member of the position that was the last one
     /// so far. Returns the call's number, counted from 1.
     ///
-    /// `MovePending` where an earlier move is not answered. `Full` where `now` is above `MOST_STEPS`, the object has
-    /// `MOST_POSITIONS` positions or `MOST_CALLS` calls, or the requests would make more than `MOST_MESSAGES` waiting
-    /// messages.
+    /// Is refused with `MovePending` if an earlier move is not answered. It is refused with `Full` if `now` is above
+    /// `MOST_STEPS`, the object has `MOST_POSITIONS` positions or `MOST_CALLS` calls, or the requests would make more
+    /// than `MOST_MESSAGES` waiting messages.
     pub fn call_move(&mut self, layout: Layout, now: Stamp) -> Result<CallId, Refusal>
         requires after { self.old.last < now }
         ensures step { OnOk result (self.new ≡ made (Step.CallMove (next_id self.old.object) layout) now self.old) }
@@ -143,8 +143,8 @@ impl Register {
     /// Answers the call of this number. The receipt gets `object` as the object's place, and `now` as the step of the
     /// answer.
     ///
-    /// `NoCall` where there is no call of this number, `NotNow` unless the call wants to be answered, and `Full` where
-    /// `now` is above `MOST_STEPS`.
+    /// Is refused with `NoCall` if there is no call of this number, with `NotNow` unless the call wants to be answered,
+    /// and with `Full` if `now` is above `MOST_STEPS`.
     pub fn answer(&mut self, call: CallId, object: u32, now: Stamp) -> Result<Receipt, Refusal>
         requires after { self.old.last < now }
         ensures step { OnOk result (self.new ≡ made (Step.AnswerCall (pred call)) now self.old) }

@@ -29,11 +29,11 @@ use tag::{CallId, MOST_STEPS, Refusal, Stamp};
 use transfer::due;
 
 impl Register {
-    /// The value whose pieces the call of this number is to send, with the k and the n of the layout that gets them.
-    /// The value is a copy that shares its bytes.
+    /// Returns the value whose pieces the call of this number is to send, with the k and the n of the layout that gets
+    /// them. The value is a copy that shares its bytes.
     ///
-    /// `NoCall` where there is no call of this number. `NotNow` unless the phase that is due sends pieces, or the
-    /// current phase sends them and has no quorum of replies yet.
+    /// Is refused with `NoCall` if there is no call of this number. It is refused with `NotNow` unless the phase that
+    /// is due sends pieces, or the current phase sends them and has no quorum of replies yet.
     pub fn value_to_code(&self, call: CallId) -> Result<(Bytes, u8, u8), Refusal>
         ensures value { IfOk result (λ r. coding_at self.now.object call ≡ Some r) }
         ensures cause { IsByCause (value_cause self.now.object call) result }
@@ -50,12 +50,13 @@ impl Register {
         Ok((value.clone()?, layout.k(), layout.n()))
     }
 
-    /// Whether the call of this number may be supplied at step `now` with its own value, so that the value need not be
-    /// encoded in vain. It changes nothing and allocates no memory.
+    /// Returns whether the call of this number may be supplied at step `now` with its own value, so that the value need
+    /// not be encoded in vain. It changes nothing and allocates no memory.
     ///
-    /// `NoCall` and `NotNow` as for `value_to_code`. `Full` where `now` is above `MOST_STEPS`, the call has
-    /// `MOST_PHASES` phases and would begin one more, or the requests would make more than `MOST_MESSAGES` waiting
-    /// messages. `supply` has the same cause of refusal for every encoded value that it does not refuse as `WrongCode`.
+    /// Is refused with `NoCall` and `NotNow` as for `value_to_code`. It is refused with `Full` if `now` is above
+    /// `MOST_STEPS`, the call has `MOST_PHASES` phases and would begin one more, or the requests would make more than
+    /// `MOST_MESSAGES` waiting messages. `supply` has the same cause of refusal for every encoded value that it does
+    /// not refuse as `WrongCode`.
     pub fn may_supply(&self, call: CallId, now: Stamp) -> Result<(), Refusal>
         requires after { self.now.last < now }
         ensures cause { IsExactlyByCause (supplying_cause now self.now.object call) result }
@@ -78,12 +79,12 @@ impl Register {
         }
     }
 
-    /// Hands in the encoded value of the call of this number. The phase that is due begins, and sends the n pieces.
-    /// Where that phase has begun already, its pieces are sent again to each member that has no recorded reply and no
-    /// waiting message of the phase.
+    /// Hands in the encoded value of the call of this number. The phase that is due begins, and sends the n pieces. If
+    /// that phase has begun already, its pieces are sent again to each member that has no recorded reply and no waiting
+    /// message of the phase.
     ///
-    /// `NoCall` and `NotNow` as for `value_to_code`, `WrongCode` unless `coded` has the value, the k and the n that
-    /// `value_to_code` gives, and `Full` as for `may_supply`.
+    /// Is refused with `NoCall` and `NotNow` as for `value_to_code`, with `WrongCode` unless `coded` has the value, the
+    /// k and the n that `value_to_code` gives, and with `Full` as for `may_supply`.
     pub fn supply(&mut self, call: CallId, coded: Coded, now: Stamp) -> Result<(), Refusal>
         requires after { self.old.last < now }
         ensures step { OnOk result (self.new ≡ made (Step.Supply (pred call)) now self.old) }
@@ -129,11 +130,11 @@ impl Register {
         }
     }
 
-    /// The pieces that the call of this number is to decode. Of the pieces that its current phase took, these are the k
-    /// with the least points, in the order of their points.
+    /// Returns the pieces that the call of this number is to decode. Of the pieces that its current phase took, these
+    /// are the k with the least points, in the order of their points.
     ///
-    /// `NoCall` where there is no call of this number, `NotNow` unless the call wants to settle a value, and
-    /// `Collected` where its fetch lacks pieces, so that it wants to be restarted.
+    /// Is refused with `NoCall` if there is no call of this number, with `NotNow` unless the call wants to settle a
+    /// value, and with `Collected` if its fetch lacks pieces, so that it wants to be restarted.
     pub fn pieces(&self, call: CallId) -> Result<Vec<Piece>, Refusal>
         ensures pieces { IfOk result (λ ps. ps.items ≡ fetched_pieces self.now.object call) }
         ensures cause { IsByCause (pieces_cause self.now.object call) result }
@@ -161,9 +162,9 @@ impl Register {
 
     /// The call of this number settles the value that was decoded. It allocates no memory.
     ///
-    /// `NoCall` where there is no call of this number, `NotNow` unless the call wants to settle a value, `Collected`
-    /// where its fetch lacks pieces, `WrongCode` unless the value was decoded from k pieces that its current phase
-    /// took, and `Full` where `now` is above `MOST_STEPS`.
+    /// Is refused with `NoCall` if there is no call of this number, with `NotNow` unless the call wants to settle a
+    /// value, with `Collected` if its fetch lacks pieces, with `WrongCode` unless the value was decoded from k pieces
+    /// that its current phase took, and with `Full` if `now` is above `MOST_STEPS`.
     pub fn settle(&mut self, call: CallId, decoded: Decoded, now: Stamp) -> Result<(), Refusal>
         requires after { self.old.last < now }
         ensures step { OnOk result (self.new ≡ made (Step.Settle (pred call) decoded.value) now self.old) }

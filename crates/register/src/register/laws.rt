@@ -1,4 +1,4 @@
-//! What holds of every object, whatever steps made it.
+//! What holds for every object, whatever steps made it.
 
 ghost use Rattle.std.specs.Prelude.{◌≡◌, ℕ, None};
 ghost use Rattle.encoder.specs.Fragment.{fragment};

@@ -15,9 +15,9 @@ use tag::{MOST_BYTES, MOST_STEPS, Refusal, Stamp};
 impl Register {
     /// The member to which the request at a place is sent serves the request. Its reply takes the place of the request.
     ///
-    /// `NoMessage` where there is no message at this place, `NotNow` where it is a reply, and `Full` where `now` is
-    /// above `MOST_STEPS`, or the bytes of the request's piece and all that the object stores are together more than
-    /// `MOST_BYTES`.
+    /// Is refused with `NoMessage` if there is no message at this place, with `NotNow` if it is a reply, and with
+    /// `Full` if `now` is above `MOST_STEPS`, or the bytes of the request's piece and all that the object stores are
+    /// together more than `MOST_BYTES`.
     pub fn serve(&mut self, place: usize, now: Stamp) -> Result<(), Refusal>
         requires after { self.old.last < now }
         ensures step { OnOk result (self.new ≡ made (Step.Serve place) now self.old) }
@@ -50,8 +50,8 @@ impl Register {
     /// The call that the reply at a place names takes the reply. Returns what the call did with it. The message leaves
     /// the mail, and later ones move down by one place. It allocates no memory.
     ///
-    /// `NoMessage` where there is no message at this place, `NotNow` where it is a request, and `Full` where `now` is
-    /// above `MOST_STEPS`.
+    /// Is refused with `NoMessage` if there is no message at this place, with `NotNow` if it is a request, and with
+    /// `Full` if `now` is above `MOST_STEPS`.
     pub fn take(&mut self, place: usize, now: Stamp) -> Result<Took, Refusal>
         requires after { self.old.last < now }
         ensures step { OnOk result (self.new ≡ made (Step.Take place) now self.old) }
@@ -77,7 +77,8 @@ impl Register {
 
     /// The message at a place is lost. Later ones move down by one place. It allocates no memory.
     ///
-    /// `NoMessage` where there is no message at this place, and `Full` where `now` is above `MOST_STEPS`.
+    /// Is refused with `NoMessage` if there is no message at this place, and with `Full` if `now` is above
+    /// `MOST_STEPS`.
     pub fn lose(&mut self, place: usize, now: Stamp) -> Result<(), Refusal>
         requires after { self.old.last < now }
         ensures step { OnOk result (self.new ≡ made (Step.Lose place) now self.old) }
@@ -97,8 +98,8 @@ impl Register {
 
     /// A copy of the message at a place is put at the end of the mail.
     ///
-    /// `NoMessage` where there is no message at this place, and `Full` where `now` is above `MOST_STEPS` or
-    /// `MOST_MESSAGES` messages wait.
+    /// Is refused with `NoMessage` if there is no message at this place, and with `Full` if `now` is above `MOST_STEPS`
+    /// or `MOST_MESSAGES` messages wait.
     pub fn repeat(&mut self, place: usize, now: Stamp) -> Result<(), Refusal>
         requires after { self.old.last < now }
         ensures step { OnOk result (self.new ≡ made (Step.Repeat place) now self.old) }

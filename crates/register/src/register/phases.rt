@@ -24,9 +24,9 @@ use tag::{CallId, MOST_STEPS, Refusal, Stamp};
 use transfer::{begun_at, due};
 
 impl Register {
-    /// What the call of this number wants next: `Done` where it is answered. It allocates no memory.
+    /// Returns what the call of this number wants next: `Done` if it is answered. It allocates no memory.
     ///
-    /// `NoCall` where there is no call of this number.
+    /// Is refused with `NoCall` if there is no call of this number.
     pub fn want(&self, call: CallId) -> Result<Want, Refusal>
         ensures want { IfOk result (λ w. want_at self.now.object call ≡ Some w) }
         ensures cause { IsExactlyByCause (number_cause self.now.object call) result }
@@ -35,12 +35,12 @@ impl Register {
         Ok(want_of(&self.positions, &self.calls[index]))
     }
 
-    /// The call of this number begins the phase that is due, where that phase sends no pieces: a request goes to each
-    /// of the n members of its position.
+    /// The call of this number begins the phase that is due, if that phase sends no pieces: a request goes to each of
+    /// the n members of its position.
     ///
-    /// `NoCall` where there is no call of this number, `NotNow` unless the call wants to advance, and `Full` where
-    /// `now` is above `MOST_STEPS`, the call has `MOST_PHASES` phases, or the requests would make more than
-    /// `MOST_MESSAGES` waiting messages.
+    /// Is refused with `NoCall` if there is no call of this number, with `NotNow` unless the call wants to advance, and
+    /// with `Full` if `now` is above `MOST_STEPS`, the call has `MOST_PHASES` phases, or the requests would make more
+    /// than `MOST_MESSAGES` waiting messages.
     pub fn advance(&mut self, call: CallId, now: Stamp) -> Result<(), Refusal>
         requires after { self.old.last < now }
         ensures step { OnOk result (self.new ≡ made (Step.Advance (pred call)) now self.old) }
@@ -53,8 +53,8 @@ impl Register {
     /// Restarts the call of this number, whose fetch lacks pieces. A read restarts with a first reading, which begins
     /// at the object's base, and a move restarts with its query. The numbers of the call's phases continue.
     ///
-    /// `NoCall` where there is no call of this number, `NotNow` unless the call wants to be restarted, and `Full` as
-    /// for `advance`.
+    /// Is refused with `NoCall` if there is no call of this number, with `NotNow` unless the call wants to be
+    /// restarted, and with `Full` as for `advance`.
     pub fn again(&mut self, call: CallId, now: Stamp) -> Result<(), Refusal>
         requires after { self.old.last < now }
         ensures step { OnOk result (self.new ≡ made (Step.Again (pred call)) now self.old) }
@@ -94,11 +94,11 @@ impl Register {
     }
 
     /// Resends the requests of the current phase of the call of this number: one to each member that has no recorded
-    /// reply and no waiting message of the phase. It is a step even where there is no such member.
+    /// reply and no waiting message of the phase. It is a step even if there is no such member.
     ///
-    /// `NoCall` where there is no call of this number, `NotNow` unless its current phase lacks a quorum and sends no
-    /// pieces (see `supply`), and `Full` where `now` is above `MOST_STEPS` or the requests would make more than
-    /// `MOST_MESSAGES` waiting messages.
+    /// Is refused with `NoCall` if there is no call of this number, with `NotNow` unless its current phase lacks a
+    /// quorum and sends no pieces (see `supply`), and with `Full` if `now` is above `MOST_STEPS` or the requests would
+    /// make more than `MOST_MESSAGES` waiting messages.
     pub fn post(&mut self, call: CallId, now: Stamp) -> Result<(), Refusal>
         requires after { self.old.last < now }
         ensures step { OnOk result (self.new ≡ made (Step.Post (pred call)) now self.old) }

@@ -12,7 +12,8 @@ use crate::register::Register;
 use tag::{MOST_STEPS, Refusal, Stamp};
 
 impl Register {
-    /// How many bytes of pieces this server stores at the base: 0 where it is no member there. It allocates no memory.
+    /// Returns how many bytes of pieces this server stores at the base: 0 if it is no member there. It allocates no
+    /// memory.
     pub fn stored_at_base(&self, server: u8) -> u64
         ensures value { result ≡ base_bytes_of self.now.object server }
         ensures within { result ≤ MOST_BYTES }
@@ -20,10 +21,10 @@ impl Register {
         self.positions[self.base as usize].stored(server)
     }
 
-    /// Whether a position may be retired at step `now`. It changes nothing and allocates no memory.
+    /// Returns whether a position may be retired at step `now`. It changes nothing and allocates no memory.
     ///
-    /// `NotNow` unless the position is the base and the move out of it was answered, and `Full` where `now` is above
-    /// `MOST_STEPS`.
+    /// Is refused with `NotNow` unless the position is the base and the move out of it was answered, and with `Full` if
+    /// `now` is above `MOST_STEPS`.
     pub fn may_retire(&self, position: u64, now: Stamp) -> Result<(), Refusal>
         requires after { self.now.last < now }
         ensures cause { IsExactlyByCause (retire_cause now self.now.object position) result }

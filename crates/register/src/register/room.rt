@@ -10,10 +10,10 @@ use crate::requests::has_room;
 use tag::{MOST_CALLS, MOST_POSITIONS, MOST_STEPS, Refusal, Stamp};
 
 impl Register {
-    /// Whether a read may begin at step `now`, or a write of at most `LONGEST_VALUE` bytes. It changes nothing and
-    /// allocates no memory.
+    /// Returns whether a read may begin at step `now`, or a write of at most `LONGEST_VALUE` bytes. It changes nothing
+    /// and allocates no memory.
     ///
-    /// `Full` as for `call_read`.
+    /// Is refused with `Full` as for `call_read`.
     pub fn may_call(&self, now: Stamp) -> Result<(), Refusal>
         requires after { self.now.last < now }
         ensures cause { IsExactlyByCause (read_cause now self.now.object) result }
@@ -31,9 +31,9 @@ impl Register {
         Ok(())
     }
 
-    /// Whether a move may begin at step `now`, whatever its layout. It changes nothing and allocates no memory.
+    /// Returns whether a move may begin at step `now`, whatever its layout. It changes nothing and allocates no memory.
     ///
-    /// `MovePending` and `Full` as for `call_move`.
+    /// Is refused with `MovePending` and `Full` as for `call_move`.
     pub fn may_move(&self, now: Stamp) -> Result<(), Refusal>
         requires after { self.now.last < now }
         ensures cause { (layout : Arrangement) → IsExactlyByCause (move_cause layout now self.now.object) result }

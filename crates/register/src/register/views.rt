@@ -1,4 +1,4 @@
-//! What is read of an object without a step. Positions, members and servers count from 0, and calls from 1.
+//! What is read from an object without a step. Positions, members and servers count from 0, and calls from 1.
 
 ghost use Rattle.std.specs.Prelude.{◌≡◌, ◌≤◌, option_copied, length, option_map, slice_get, IfOk, IfErr, Some};
 ghost use Rattle.tag.specs.declared.limits.TheConstants.{MOST_BYTES};
@@ -26,14 +26,14 @@ use tag::{CallId, Refusal, Tag};
 use transfer::stage_tag;
 
 impl Register {
-    /// Whether the object has a move that is not answered.
+    /// Returns whether the object has a move that is not answered.
     pub fn is_moving(&self) -> bool
         ensures { result ≡ has_open_move self.now.object.calls }
     {
         self.is_moving
     }
 
-    /// One entry for each call, in the order of their numbers. `NoMemory` is the only refusal.
+    /// Returns one entry for each call, in the order of their numbers. `NoMemory` is the only refusal.
     pub fn entries(&self) -> Result<Vec<Entry>, Refusal>
         ensures entries { IfOk result (λ es. es.items ≡ entries self.now.object) }
         ensures refused { IfErr result (λ e. e ≡ NoMemory) }
@@ -45,9 +45,9 @@ impl Register {
         Ok(entries)
     }
 
-    /// The entry of the call of this number.
+    /// Returns the entry of the call of this number.
     ///
-    /// `NoCall` where there is no call of this number.
+    /// Is refused with `NoCall` if there is no call of this number.
     pub fn entry(&self, call: CallId) -> Result<Entry, Refusal>
         ensures entry { IfOk result (λ e. option_map (entry_of call) (call_at self.now.object call) ≡ Some e) }
         ensures cause { IsByCause (number_cause self.now.object call) result }
@@ -56,7 +56,7 @@ impl Register {
         self.calls[index].entry()
     }
 
-    /// How many bytes of pieces this server stores, over all positions of which it is a member.
+    /// Returns how many bytes of pieces this server stores, over all positions of which it is a member.
     pub fn stored(&self, server: u8) -> u64
         ensures value { result ≡ stored self.now.object server }
         ensures within { result ≤ MOST_BYTES }
@@ -68,7 +68,7 @@ impl Register {
         total
     }
 
-    /// How many bytes of pieces all banks store.
+    /// Returns how many bytes of pieces all banks store.
     pub fn stored_in_all(&self) -> u64
         ensures value { result ≡ all_bytes self.now.object.banks }
         ensures within { result ≤ MOST_BYTES }
@@ -76,7 +76,7 @@ impl Register {
         self.stored
     }
 
-    /// How many bytes of pieces wait in messages.
+    /// Returns how many bytes of pieces wait in messages.
     pub fn mailed(&self) -> u64
         ensures value { result ≡ mailed self.now.object }
         ensures within { result ≤ MOST_BYTES }
@@ -84,9 +84,9 @@ impl Register {
         self.mail.bytes()
     }
 
-    /// How far the call of this number has come. It allocates no memory.
+    /// Returns how far the call of this number has come. It allocates no memory.
     ///
-    /// `NoCall` where there is no call of this number.
+    /// Is refused with `NoCall` if there is no call of this number.
     pub fn call_view(&self, call: CallId) -> Result<CallView, Refusal>
         ensures view { IfOk result (λ v. view_at self.now.object call ≡ Some v) }
         ensures cause { IsExactlyByCause (number_cause self.now.object call) result }
@@ -108,7 +108,7 @@ impl Register {
         })
     }
 
-    /// How many phases the call of this number has: 0 where there is no such call.
+    /// Returns how many phases the call of this number has: 0 if there is no such call.
     pub fn phase_count(&self, call: CallId) -> usize
         ensures { result ≡ length (phases_at self.now.object call) }
     {
@@ -118,7 +118,7 @@ impl Register {
         }
     }
 
-    /// The phase at an index, from 0, of the call of this number. None where there is no such call or phase.
+    /// Returns the phase at an index, from 0, of the call of this number, or none if there is no such call or phase.
     pub fn phase_view(&self, call: CallId, index: usize) -> Option<&Phase>
         ensures { option_copied result ≡ slice_get (phases_at self.now.object call) index }
     {
@@ -128,14 +128,14 @@ impl Register {
         }
     }
 
-    /// The waiting messages, by place.
+    /// Returns the waiting messages, by place.
     pub fn mail_view(&self) -> &Mail
         ensures { result.now ≡ self.now.object.mail }
     {
         &self.mail
     }
 
-    /// The bank of a member of a position. None where there is no such position or member.
+    /// Returns the bank of a member of a position, or none if there is no such position or member.
     pub fn bank_view(&self, position: u32, member: u8) -> Option<&Bank>
         ensures { option_copied result ≡ bank_there self.now.object position member }
     {
@@ -145,14 +145,14 @@ impl Register {
         }
     }
 
-    /// The base: the first position that is not retired. A first reading that begins now begins there.
+    /// Returns the base: the first position that is not retired. A first reading that begins now begins there.
     pub fn base(&self) -> u32
         ensures { result ≡ base_of self.now.object }
     {
         self.base
     }
 
-    /// The layout of a position. None where there is no such position.
+    /// Returns the layout of a position, or none if there is no such position.
     pub fn layout_view(&self, position: u32) -> Option<&Layout>
         ensures { option_copied result ≡ slice_get self.now.object.layouts position }
     {
@@ -160,7 +160,7 @@ impl Register {
         Some(place.layout())
     }
 
-    /// The tag of the call of this number. None where there is no such call, or its queries are not complete.
+    /// Returns the tag of the call of this number, or none if there is no such call, or its queries are not complete.
     pub fn tag_view(&self, call: CallId) -> Option<Tag>
         ensures { result ≡ tag_at self.now.object call }
     {
@@ -170,7 +170,7 @@ impl Register {
         }
     }
 
-    /// The server that is this member of a position. None where there is no such position or member.
+    /// Returns the server that is this member of a position, or none if there is no such position or member.
     pub fn server(&self, position: u32, member: u8) -> Option<u8>
         ensures { result ≡ slice_get (layout_at self.now.object position).members member }
     {
@@ -183,8 +183,8 @@ impl Register {
         }
     }
 
-    /// The value that the call of this number writes, or has settled. None where there is no such call, or a read or a
-    /// move has settled none yet.
+    /// Returns the value that the call of this number writes, or has settled, or none if there is no such call, or a
+    /// read or a move has settled none yet.
     pub fn value_view(&self, call: CallId) -> Option<&Bytes>
         ensures { option_copied result ≡ value_at self.now.object call }
     {

@@ -20,7 +20,7 @@ use phase::Ask;
 use tag::{CallId, MOST_PHASES, Refusal};
 
 impl TrackedCall {
-    /// Whether a phase with this many members may begin, by the limits on phases and messages.
+    /// Returns whether a phase with this many members may begin, by the limits on phases and messages.
     pub(crate) fn can_begin(&self, members: u8, mail: &Mail) -> bool
         ensures { result ≡ (nat_lt (length self.now.call.phases) MOST_PHASES
             && nat_le (length mail.now + members) MOST_MESSAGES) }
@@ -28,7 +28,8 @@ impl TrackedCall {
         self.count() < MOST_PHASES && has_room(mail, usize::from(members))
     }
 
-    /// Whether the current phase of the call, whose number is given, may resend its requests, by the limit on messages.
+    /// Returns whether the current phase of the call, whose number is given, may resend its requests, by the limit on
+    /// messages.
     pub(crate) fn can_ask_again(&self, number: CallId, mail: &Mail) -> bool
         ensures { (p : Asking) (servers : List ℕ) (piece : ℕ → Piece) → current_phase self.now.call.phases ≡ Some p
             → length servers ≡ p.members

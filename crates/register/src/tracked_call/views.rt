@@ -13,42 +13,42 @@ use record::{Entry, Operation, Stage};
 use tag::{Refusal, Stamp};
 
 impl TrackedCall {
-    /// The kind of the call, without its value.
+    /// Returns the kind of the call, without its value.
     pub(crate) fn operation(&self) -> Operation
         ensures { result ≡ operation_of self.now.call.kind }
     {
         self.call.operation()
     }
 
-    /// The number of the step that began the call.
+    /// Returns the number of the step that began the call.
     pub(crate) fn called(&self) -> Stamp
         ensures { result ≡ self.now.call.called }
     {
         self.called
     }
 
-    /// Whether the call is answered.
+    /// Returns whether the call is answered.
     pub(crate) fn is_answered(&self) -> bool
         ensures { result ≡ is_some self.now.call.answered }
     {
         self.answered.is_some()
     }
 
-    /// Whether the call has settled a value.
+    /// Returns whether the call has settled a value.
     pub(crate) fn is_settled(&self) -> bool
         ensures { result ≡ is_some self.now.call.settled }
     {
         self.call.is_settled()
     }
 
-    /// How many phases the call has.
+    /// Returns how many phases the call has.
     pub(crate) fn count(&self) -> usize
         ensures { result ≡ length self.now.call.phases }
     {
         self.finished.len() + 1
     }
 
-    /// The phase at an index, from 0, if there is one.
+    /// Returns the phase at an index, from 0, if there is one.
     pub(crate) fn phase_at(&self, index: usize) -> Option<&Phase>
         ensures { option_copied result ≡ slice_get self.now.call.phases index }
     {
@@ -58,14 +58,15 @@ impl TrackedCall {
         self.finished.get(index)
     }
 
-    /// The value that the call writes, or has settled so far.
+    /// Returns the value that the call writes, or has settled so far.
     pub(crate) fn value(&self) -> Option<&Bytes>
         ensures { option_copied result ≡ sent_value self.now.call.kind self.now.call.settled }
     {
         self.call.value()
     }
 
-    /// A copy of the value that the call writes, or that a read returns once it is answered. The copy shares its bytes.
+    /// Returns a copy of the value that the call writes, or that a read returns once it is answered. The copy shares
+    /// its bytes.
     pub(crate) fn returned(&self, is_answered: bool) -> Result<Option<Bytes>, Refusal>
         ensures value { (answered : Option ℕ) → is_answered ≡ is_some answered
             → IfOk result (λ v. v ≡ entry_value self.now.call.kind answered self.now.call.settled) }
@@ -75,7 +76,7 @@ impl TrackedCall {
         self.call.returned(is_answered)
     }
 
-    /// The entry of the call in the object's history.
+    /// Returns the entry of the call in the object's history.
     pub(crate) fn entry(&self) -> Result<Entry, Refusal>
         ensures entry { IfOk result (λ e. e ≡ entry_of self.now.call.id self.now.call) }
         ensures refused { IfErr result (λ e. e ≡ NoMemory) }
@@ -90,14 +91,14 @@ impl TrackedCall {
         })
     }
 
-    /// The current phase: the one that began last.
+    /// Returns the current phase: the one that began last.
     pub(crate) fn current(&self) -> Option<&Phase>
         ensures { option_copied result ≡ current_phase self.now.call.phases }
     {
         Some(self.call.phase())
     }
 
-    /// The stage to which the phases lead.
+    /// Returns the stage to which the phases lead.
     pub(crate) fn stage(&self) -> Stage
         ensures { result ≡ self.now.stage }
     {

@@ -45,18 +45,14 @@ overflow_add-freed c =
     let few = c.requires.room in
     let same = ap bank_bytes c.index-banks-member.is in
     let freed = c.retire-freed.ensures.freed (omega (arith, most, more, few, same)) ∙ sym same in
-    let so_far = c.loop-member.invariant.freed in
-    omega (arith, so_far, freed, most, more, few)
+    omega (arith, c.loop-member.invariant.freed, freed, most, more, few)
 
-pub returns-clause-banks : goal.returns-clause-banks
-returns-clause-banks c =
+pub returns : goal.returns
+returns c =
     let old = c.args.banks.now in
     let end : c.loop-member.member ≡ length old = omega (arith, c.loop-member-test.false, c.loop-member.auto.member-end) in
-    c.loop-member.invariant.dropped ∙ ap (dropped_so_far (λ bank. retired_bank bank c.args.now) old) end
-    ∙ all_dropped (λ bank. retired_bank bank c.args.now) old
-
-pub returns-clause-freed : goal.returns-clause-freed
-returns-clause-freed c =
-    let old = c.args.banks.now in
-    let end : c.loop-member.member ≡ length old = omega (arith, c.loop-member-test.false, c.loop-member.auto.member-end) in
-    c.loop-member.invariant.freed ∙ ap (λ n. banks_bytes (take n old)) end ∙ all_freed old
+    record {
+      banks = c.loop-member.invariant.dropped ∙ ap (dropped_so_far (λ bank. retired_bank bank c.args.now) old) end
+          ∙ all_dropped (λ bank. retired_bank bank c.args.now) old;
+      freed = c.loop-member.invariant.freed ∙ ap (λ n. banks_bytes (take n old)) end ∙ all_freed old;
+    }

@@ -25,43 +25,31 @@ if_replied (Err e) reply read held same is = is
 abbrev with_banks : Layout → List Bank → Position
 with_banks layout banks = record { layout = layout; banks = banks }
 
-pub returns-clause-layout : goal.returns-clause-layout
-returns-clause-layout c = ap (λ (p : Position). p.layout) c.self.view_is
-
-pub returns-clause-bank : goal.returns-clause-bank
-returns-clause-bank c =
+pub returns : goal.returns
+returns c =
     let items = c.self.inside.banks.items in
     let old = c.args.self.now.banks in
     let same : items ≡ old = ap (λ (p : Position). p.banks) c.self.view_is in
-    on_ok_weaker c.serve.result
-    (λ served bank held.
-    let read = read_is items old c.from.result c.args.member c.index_mut.result.now bank same c.from.ensures
-    c.index_mut.ensures.value held in
-    let put = served_bank bank c.args.request.now c.args.now in
-    ap (set items c.from.result) (served ∙ ap (λ b. served_bank b c.args.request.now c.args.now) read)
-    ∙ ap (λ banks. set banks c.from.result put) same ∙ ap (λ k. set old k put) c.from.ensures)
-    c.serve.ensures.bank
-
-pub returns-clause-reply : goal.returns-clause-reply
-returns-clause-reply c =
-    let items = c.self.inside.banks.items in
-    let old = c.args.self.now.banks in
-    let same : items ≡ old = ap (λ (p : Position). p.banks) c.self.view_is in
-    if_replied c.serve.result (λ bank. reply_to bank c.args.request.now c.args.now) c.index_mut.result.now
-    (λ bank. slice_get old c.args.member ≡ Some bank)
-    (λ bank held. read_is items old c.from.result c.args.member c.index_mut.result.now bank same c.from.ensures
-    c.index_mut.ensures.value held)
-    c.serve.ensures.reply
-
-pub returns-clause-refused : goal.returns-clause-refused
-returns-clause-refused c = c.serve.ensures.refused
-
-pub returns-clause-unchanged : goal.returns-clause-unchanged
-returns-clause-unchanged c =
-    let items = c.self.inside.banks.items in
     let i = c.from.result in
-    on_err_weaker c.serve.result
-    (λ kept. ap (with_banks c.self.inside.layout)
-    (ap (set items i) (kept ∙ c.index_mut.ensures.value) ∙ set-get_or items i c.index_mut.result.now)
-    ∙ c.self.view_is)
-    c.serve.ensures.unchanged
+    record {
+      layout = ap (λ (p : Position). p.layout) c.self.view_is;
+      bank = on_ok_weaker c.serve.result
+          (λ served bank held.
+          let read = read_is items old c.from.result c.args.member c.index_mut.result.now bank same c.from.ensures
+          c.index_mut.ensures.value held in
+          let put = served_bank bank c.args.request.now c.args.now in
+          ap (set items c.from.result) (served ∙ ap (λ b. served_bank b c.args.request.now c.args.now) read)
+          ∙ ap (λ banks. set banks c.from.result put) same ∙ ap (λ k. set old k put) c.from.ensures)
+          c.serve.ensures.bank;
+      reply = if_replied c.serve.result (λ bank. reply_to bank c.args.request.now c.args.now) c.index_mut.result.now
+          (λ bank. slice_get old c.args.member ≡ Some bank)
+          (λ bank held. read_is items old c.from.result c.args.member c.index_mut.result.now bank same c.from.ensures
+          c.index_mut.ensures.value held)
+          c.serve.ensures.reply;
+      refused = c.serve.ensures.refused;
+      unchanged = on_err_weaker c.serve.result
+          (λ kept. ap (with_banks c.self.inside.layout)
+          (ap (set items i) (kept ∙ c.index_mut.ensures.value) ∙ set-get_or items i c.index_mut.result.now)
+          ∙ c.self.view_is)
+          c.serve.ensures.unchanged;
+    }

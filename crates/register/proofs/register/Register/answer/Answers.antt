@@ -5,13 +5,10 @@ use Rattle.register.proofs.FoundCallLemmas.{is_found, wanting, below_those, few_
 use Rattle.register.proofs.RoomLemmas.{handed_on}
 use Rattle.register.proofs.register.Register.answer.Goals as goal
 
-pub want_of-requires-clause-below : goal.want_of-requires-clause-below
-want_of-requires-clause-below c =
+pub want_of-requires : goal.want_of-requires
+want_of-requires c =
     let f = is_found c.self.invariant c.in_ok-index.ensures.place c.deref.ensures.value c.index.ensures in
-    below_those f c.deref-2.ensures.value
-
-pub want_of-requires-clause-count : goal.want_of-requires-clause-count
-want_of-requires-clause-count c = few_those c.self.invariant c.deref-2.ensures.value
+    record { below = below_those f c.deref-2.ensures.value; count = few_those c.self.invariant c.deref-2.ensures.value }
 
 pub returns-in_default : goal.returns-in_default
 returns-in_default c =
@@ -38,11 +35,20 @@ returns-in_err-value-clause-cause c =
     (rw (← c.self.view_is) (answer_cause_none w c.args.now c.if-now-gt-MOST_STEPS.false))
     c.from_residual-in_err-value.ensures.1 c.in_err-value.ensures.refused
 
-pub returns-clause-cause : goal.returns-clause-cause
-returns-clause-cause c =
+pub returns : goal.returns
+returns c =
     let f = is_found c.self.invariant c.in_ok-index.ensures.place c.deref.ensures.value c.index.ensures in
     let w = wanting f c.want_of.ensures c.deref-2.ensures.value c.in-Answer.is in
-    rw (← c.self.view_is) (answer_cause_none w c.args.now c.if-now-gt-MOST_STEPS.false)
+    record {
+      cause = rw (← c.self.view_is) (answer_cause_none w c.args.now c.if-now-gt-MOST_STEPS.false);
+      step = rw (← c.self.view_is) (answer_step w c.args.now c.index_mut.ensures.value c.answer.ensures
+          c.is_still_moving-self-inside.result);
+      receipt = rw (← c.self.view_is)
+          (receipt_is f c.args.object c.args.now (operation_again f c.index-3.ensures c.operation-operation.ensures)
+          (called_again f c.index-4.ensures c.called-called.ensures)
+          (value_again f c.args.now c.index-2.ensures (c.in_ok-value.ensures.value (Some c.args.now) refl)));
+      unchanged = tt;
+    }
 
 pub invariant_of-self : goal.invariant_of-self
 invariant_of-self c =
@@ -51,17 +57,3 @@ invariant_of-self c =
     let e = c.is_still_moving-self-inside.ensures in
     answer_kept w c.args.now c.index_mut.ensures.value c.answer.ensures
     (operation_again f c.index-3.ensures c.operation-operation.ensures) e.ended e.same c.self.view_is c.requires.after
-
-pub returns-clause-step : goal.returns-clause-step
-returns-clause-step c =
-    let f = is_found c.self.invariant c.in_ok-index.ensures.place c.deref.ensures.value c.index.ensures in
-    let w = wanting f c.want_of.ensures c.deref-2.ensures.value c.in-Answer.is in
-    rw (← c.self.view_is) (answer_step w c.args.now c.index_mut.ensures.value c.answer.ensures c.is_still_moving-self-inside.result)
-
-pub returns-clause-receipt : goal.returns-clause-receipt
-returns-clause-receipt c =
-    let f = is_found c.self.invariant c.in_ok-index.ensures.place c.deref.ensures.value c.index.ensures in
-    rw (← c.self.view_is)
-    (receipt_is f c.args.object c.args.now (operation_again f c.index-3.ensures c.operation-operation.ensures)
-    (called_again f c.index-4.ensures c.called-called.ensures)
-    (value_again f c.args.now c.index-2.ensures (c.in_ok-value.ensures.value (Some c.args.now) refl)))

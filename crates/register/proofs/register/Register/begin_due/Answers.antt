@@ -5,13 +5,10 @@ use Rattle.register.proofs.FoundCallLemmas.{is_found, again, wanting, below_thos
 use Rattle.register.proofs.RoomLemmas.{by_cause, same_cause}
 use Rattle.register.proofs.register.Register.begin_due.Goals as goal
 
-pub want_of-requires-clause-below : goal.want_of-requires-clause-below
-want_of-requires-clause-below c =
+pub want_of-requires : goal.want_of-requires
+want_of-requires c =
     let f = is_found c.self.invariant c.in_ok-index.ensures.place c.deref.ensures.value c.index.ensures in
-    below_those f c.deref-2.ensures.value
-
-pub want_of-requires-clause-count : goal.want_of-requires-clause-count
-want_of-requires-clause-count c = few_those c.self.invariant c.deref-2.ensures.value
+    record { below = below_those f c.deref-2.ensures.value; count = few_those c.self.invariant c.deref-2.ensures.value }
 
 pub returns-then-not-wants_due-clause-cause : goal.returns-then-not-wants_due-clause-cause
 returns-then-not-wants_due-clause-cause c =
@@ -42,25 +39,19 @@ pub index-requires-3 : goal.index-requires-3
 index-requires-3 c =
     let f = is_found c.self.invariant c.in_ok-index.ensures.place c.deref.ensures.value c.index.ensures in
     let d = due_read f c.index-2.ensures c.stage.ensures c.begun_at.ensures c.due.ensures c.in-Some.is in
-    let there = due_there f d in
-    omega (arith, there, c.deref-2.ensures.len, ap length c.deref-2.ensures.value)
+    omega (arith, due_there f d, c.deref-2.ensures.len, ap length c.deref-2.ensures.value)
 
-pub begin_next-requires-clause-pieces : goal.begin_next-requires-clause-pieces
-begin_next-requires-clause-pieces c =
+pub begin_next-requires : goal.begin_next-requires
+begin_next-requires c =
     let f = is_found c.self.invariant c.in_ok-index.ensures.place c.deref.ensures.value c.index.ensures in
     let w = wanting f c.want_of.ensures c.deref-2.ensures.value refl in
     let is = sym c.wants_due.ensures ∙ c.if-not-wants_due.false in
     let d = due_read f c.index-2.ensures c.stage.ensures c.begun_at.ensures c.due.ensures c.in-Some.is in
-    needs_none c.args.anew w is d _
-
-pub begin_next-requires-clause-room : goal.begin_next-requires-clause-room
-begin_next-requires-clause-room c =
-    let f = is_found c.self.invariant c.in_ok-index.ensures.place c.deref.ensures.value c.index.ensures in
-    let w = wanting f c.want_of.ensures c.deref-2.ensures.value refl in
-    let d = due_read f c.index-2.ensures c.stage.ensures c.begun_at.ensures c.due.ensures c.in-Some.is in
-    let is = sym c.wants_due.ensures ∙ c.if-not-wants_due.false in
     let b = beginning c.args.anew w is d c.index-3.ensures c.layout.ensures c.index_mut.ensures.value in
-    begin_room b c.args.now c.self.view_is c.requires.after
+    record {
+      pieces = needs_none c.args.anew w is d _;
+      room = begin_room b c.args.now c.self.view_is c.requires.after;
+    }
 
 pub invariant_of-self-2 : goal.invariant_of-self-2
 invariant_of-self-2 c =
@@ -72,23 +63,18 @@ invariant_of-self-2 c =
     begin_kept b c.args.now c.in_ok-begin_next.ensures.mail c.in_ok-begin_next.ensures.call c.self.view_is c.requires.after
     c.in_ok-begin_next.ensures.cause
 
-pub returns-clause-step : goal.returns-clause-step
-returns-clause-step c =
+pub returns : goal.returns
+returns c =
     let f = is_found c.self.invariant c.in_ok-index.ensures.place c.deref.ensures.value c.index.ensures in
     let w = wanting f c.want_of.ensures c.deref-2.ensures.value refl in
     let d = due_read f c.index-2.ensures c.stage.ensures c.begun_at.ensures c.due.ensures c.in-Some.is in
     let is = sym c.wants_due.ensures ∙ c.if-not-wants_due.false in
     let b = beginning c.args.anew w is d c.index-3.ensures c.layout.ensures c.index_mut.ensures.value in
-    rw (← c.self.view_is) (begin_step b c.args.now c.in_ok-begin_next.ensures.mail c.in_ok-begin_next.ensures.call)
-
-pub returns-clause-cause : goal.returns-clause-cause
-returns-clause-cause c =
-    let f = is_found c.self.invariant c.in_ok-index.ensures.place c.deref.ensures.value c.index.ensures in
-    let w = wanting f c.want_of.ensures c.deref-2.ensures.value refl in
-    let d = due_read f c.index-2.ensures c.stage.ensures c.begun_at.ensures c.due.ensures c.in-Some.is in
-    let is = sym c.wants_due.ensures ∙ c.if-not-wants_due.false in
-    let b = beginning c.args.anew w is d c.index-3.ensures c.layout.ensures c.index_mut.ensures.value in
-    rw (← c.self.view_is) (begin_cause b c.args.now c.if-now-gt-MOST_STEPS.false ∙ c.in_ok-begin_next.ensures.cause)
+    record {
+      step = rw (← c.self.view_is) (begin_step b c.args.now c.in_ok-begin_next.ensures.mail c.in_ok-begin_next.ensures.call);
+      cause = rw (← c.self.view_is) (begin_cause b c.args.now c.if-now-gt-MOST_STEPS.false ∙ c.in_ok-begin_next.ensures.cause);
+      unchanged = tt;
+    }
 
 pub returns-in_err-begin_next-clause-cause : goal.returns-in_err-begin_next-clause-cause
 returns-in_err-begin_next-clause-cause c =

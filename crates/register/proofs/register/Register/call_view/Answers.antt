@@ -13,35 +13,29 @@ unreachable-requires c =
 pub overflow_cast-result : goal.overflow_cast-result
 overflow_cast-result c =
     let f = is_found c.self.invariant c.in_ok-index.ensures.place c.deref.ensures.value c.index-tracked.ensures in
-    let few = replies_few f (sym c.in-Some.ensures) in
-    omega (arith, few, ap length c.replies.ensures)
+    omega (arith, replies_few f (sym c.in-Some.ensures), ap length c.replies.ensures)
 
-pub want_of-requires-clause-count : goal.want_of-requires-clause-count
-want_of-requires-clause-count c = few_those c.self.invariant c.deref-2.ensures.value
-
-pub want_of-requires-clause-below : goal.want_of-requires-clause-below
-want_of-requires-clause-below c =
+pub want_of-requires : goal.want_of-requires
+want_of-requires c =
     let f = is_found c.self.invariant c.in_ok-index.ensures.place c.deref.ensures.value c.index-tracked.ensures in
-    below_those f c.deref-2.ensures.value
+    record { count = few_those c.self.invariant c.deref-2.ensures.value; below = below_those f c.deref-2.ensures.value }
 
-pub returns-clause-view : goal.returns-clause-view
-returns-clause-view c =
+pub returns : goal.returns
+returns c =
     let f = is_found c.self.invariant c.in_ok-index.ensures.place c.deref.ensures.value c.index-tracked.ensures in
     let w = wanting f c.want_of.ensures c.deref-2.ensures.value refl in
-    rw (← c.self.view_is)
-    (view_is f (sym c.in-Some.ensures) w
-    ∙ (λ j. Some (record {
-      kind = sym c.operation.ensures j;
-      number = sym c.number.ensures j;
-      phase = sym c.kind.ensures j;
-      position = sym c.position.ensures j;
-      replies = length (sym c.replies.ensures j);
-      quorum = sym c.quorum.ensures j;
-      tag = sym (c.viewed_tag.ensures ∙ (λ i. fetched_or (c.kind-2.ensures i) (stage_tag (c.stage.ensures i)))) j;
-      want = c.want_of.result;
-    })))
-
-pub returns-clause-cause : goal.returns-clause-cause
-returns-clause-cause c =
-    let f = is_found c.self.invariant c.in_ok-index.ensures.place c.deref.ensures.value c.index-tracked.ensures in
-    rw (← c.self.view_is) (caused f _)
+    record {
+      view = rw (← c.self.view_is)
+          (view_is f (sym c.in-Some.ensures) w
+          ∙ (λ j. Some (record {
+            kind = sym c.operation.ensures j;
+            number = sym c.number.ensures j;
+            phase = sym c.kind.ensures j;
+            position = sym c.position.ensures j;
+            replies = length (sym c.replies.ensures j);
+            quorum = sym c.quorum.ensures j;
+            tag = sym (c.viewed_tag.ensures ∙ (λ i. fetched_or (c.kind-2.ensures i) (stage_tag (c.stage.ensures i)))) j;
+            want = c.want_of.result;
+          })));
+      cause = rw (← c.self.view_is) (caused f _);
+    }

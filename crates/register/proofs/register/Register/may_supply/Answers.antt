@@ -7,20 +7,16 @@ use Rattle.register.proofs.SuppliedPieceLemmas.{none_of}
 use Rattle.register.proofs.SupplyPermissionLemmas.{or_wrong, permitted_is, past_permitted, permits_begin, permits_asking}
 use Rattle.register.proofs.register.Register.may_supply.Goals as goal
 
-pub pieces_position-requires-clause-count : goal.pieces_position-requires-clause-count
-pieces_position-requires-clause-count c = few_those c.self.invariant c.deref-2.ensures.value
-
-pub pieces_position-requires-clause-below : goal.pieces_position-requires-clause-below
-pieces_position-requires-clause-below c =
+pub pieces_position-requires : goal.pieces_position-requires
+pieces_position-requires c =
     let f = is_found c.self.invariant c.in_ok-index.ensures.place c.deref.ensures.value c.index-tracked.ensures in
-    below_those f c.deref-2.ensures.value
+    record { count = few_those c.self.invariant c.deref-2.ensures.value; below = below_those f c.deref-2.ensures.value }
 
 pub index-requires : goal.index-requires
 index-requires c =
     let f = is_found c.self.invariant c.in_ok-index.ensures.place c.deref.ensures.value c.index-tracked.ensures in
     let s = sending f c.pieces_position.ensures c.deref-2.ensures.value c.in-Some.is in
-    let there = position_there s in
-    omega (arith, there, c.deref-2.ensures.len, ap length c.deref-2.ensures.value)
+    omega (arith, position_there s, c.deref-2.ensures.len, ap length c.deref-2.ensures.value)
 
 pub returns-in_default : goal.returns-in_default
 returns-in_default c =

@@ -9,13 +9,10 @@ use Rattle.register.proofs.SentPieceLemmas.{for_memory}
 use Rattle.register.proofs.register.Register.pieces.Goals as goal
 use Rattle.register.proofs.register.Register.pieces.Goals.{then-len-from+in_ok-clone+in_ok-push, else-len-from}
 
-pub want_of-requires-clause-count : goal.want_of-requires-clause-count
-want_of-requires-clause-count c = few_those c.self.invariant c.deref-2.ensures.value
-
-pub want_of-requires-clause-below : goal.want_of-requires-clause-below
-want_of-requires-clause-below c =
+pub want_of-requires : goal.want_of-requires
+want_of-requires c =
     let f = is_found c.self.invariant c.in_ok-index.ensures.place c.deref.ensures.value c.index.ensures in
-    below_those f c.deref-2.ensures.value
+    record { count = few_those c.self.invariant c.deref-2.ensures.value; below = below_those f c.deref-2.ensures.value }
 
 pub returns-in_default : goal.returns-in_default
 returns-in_default c =
@@ -91,18 +88,16 @@ loop-member-preserved c =
           )
     ])
 
-pub returns-clause-pieces : goal.returns-clause-pieces
-returns-clause-pieces c =
+pub returns : goal.returns
+returns c =
     let f = is_found c.self.invariant c.in_ok-index.ensures.place c.deref.ensures.value c.index.ensures in
     let w = wanting f c.want_of.ensures c.deref-2.ensures.value c.in-Settle.is in
     let members = c.in-Some.phase.now.members in
     let end : c.loop-member.member ≡ members =
     omega (arith, c.loop-member-test.false, c.loop-member.auto.member-end, c.members-member-end.ensures) in
-    rw (← c.self.view_is)
-    (c.loop-member.invariant.0 ∙ ap (λ n. take c.in-Settle.k (pieces_below c.in-Some.phase.now.replies n)) end
-    ∙ sym (pieces_are w (current_again f c.index-2.ensures c.in-Some.ensures)))
-
-pub returns-clause-cause : goal.returns-clause-cause
-returns-clause-cause c =
-    let f = is_found c.self.invariant c.in_ok-index.ensures.place c.deref.ensures.value c.index.ensures in
-    rw (← c.self.view_is) (pieces_cause_is (wanting f c.want_of.ensures c.deref-2.ensures.value c.in-Settle.is))
+    record {
+      pieces = rw (← c.self.view_is)
+          (c.loop-member.invariant.0 ∙ ap (λ n. take c.in-Settle.k (pieces_below c.in-Some.phase.now.replies n)) end
+          ∙ sym (pieces_are w (current_again f c.index-2.ensures c.in-Some.ensures)));
+      cause = rw (← c.self.view_is) (pieces_cause_is (wanting f c.want_of.ensures c.deref-2.ensures.value c.in-Settle.is));
+    }

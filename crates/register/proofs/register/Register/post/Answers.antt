@@ -7,13 +7,10 @@ use Rattle.register.proofs.PostLemmas.{post_refused, post_pieces, post_past, pos
 use Rattle.register.proofs.RoomLemmas.{same_cause}
 use Rattle.register.proofs.register.Register.post.Goals as goal
 
-pub want_of-requires-clause-below : goal.want_of-requires-clause-below
-want_of-requires-clause-below c =
+pub want_of-requires : goal.want_of-requires
+want_of-requires c =
     let f = is_found c.self.invariant c.in_ok-index.ensures.place c.deref.ensures.value c.index.ensures in
-    below_those f c.deref-2.ensures.value
-
-pub want_of-requires-clause-count : goal.want_of-requires-clause-count
-want_of-requires-clause-count c = few_those c.self.invariant c.deref-2.ensures.value
+    record { below = below_those f c.deref-2.ensures.value; count = few_those c.self.invariant c.deref-2.ensures.value }
 
 pub returns-in_default : goal.returns-in_default
 returns-in_default c =
@@ -56,22 +53,18 @@ invariant_of-self-2 c =
     let a = posting w p c.is_plain.ensures c.if-not-is_plain.false c.index-3.ensures in
     again_kept a c.args.now c.in_ok-ask_again.ensures.mail c.self.view_is c.requires.after
 
-pub returns-clause-step : goal.returns-clause-step
-returns-clause-step c =
+pub returns : goal.returns
+returns c =
     let f = is_found c.self.invariant c.in_ok-index.ensures.place c.deref.ensures.value c.index.ensures in
     let w = wanting f c.want_of.ensures c.deref-2.ensures.value c.in-Replies.is in
     let p = current_again f c.index-2.ensures c.current.ensures in
     let a = posting w p c.is_plain.ensures c.if-not-is_plain.false c.index-3.ensures in
-    rw (← c.self.view_is) (again_step a c.args.now c.in_ok-ask_again.ensures.mail)
-
-pub returns-clause-cause : goal.returns-clause-cause
-returns-clause-cause c =
-    let f = is_found c.self.invariant c.in_ok-index.ensures.place c.deref.ensures.value c.index.ensures in
-    let w = wanting f c.want_of.ensures c.deref-2.ensures.value c.in-Replies.is in
-    let p = current_again f c.index-2.ensures c.current.ensures in
-    let a = posting w p c.is_plain.ensures c.if-not-is_plain.false c.index-3.ensures in
-    rw (← c.self.view_is)
-    (again_by a c.args.now c.if-now-gt-MOST_STEPS.false (λ cause. cause ≡ None) c.in_ok-ask_again.ensures.cause)
+    record {
+      step = rw (← c.self.view_is) (again_step a c.args.now c.in_ok-ask_again.ensures.mail);
+      cause = rw (← c.self.view_is)
+          (again_by a c.args.now c.if-now-gt-MOST_STEPS.false (λ cause. cause ≡ None) c.in_ok-ask_again.ensures.cause);
+      unchanged = tt;
+    }
 
 pub returns-in_err-ask_again-clause-cause : goal.returns-in_err-ask_again-clause-cause
 returns-in_err-ask_again-clause-cause c =

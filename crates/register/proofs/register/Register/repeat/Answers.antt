@@ -4,12 +4,14 @@ use Rattle.tag.specs.declared.limits.TheConstants.{MOST_STEPS}
 use Rattle.tag.specs.declared.refusal.Refusal.{Refusal}
 use Rattle.mail.specs.Mail.{repeated, mail_cause}
 use Rattle.record.specs.Records.{Object}
-use Rattle.register.specs.State.{Contents, State, made, object_of}
+use Rattle.register.specs.State.{State, made, object_of}
 use Rattle.register.specs.Kept.{IsKept}
 use Rattle.record.specs.Steps.{Step}
 use Rattle.register.specs.Causes.{if_message, repeat_cause}
+use Rattle.register.proofs.FoundCallLemmas.{later}
 use Rattle.register.proofs.LoseAndRepeatLemmas.{repeating_is, repeating_keeps, repeat_cause_is}
 use Rattle.register.proofs.RoomLemmas.{same_cause, step_within}
+use Rattle.register.proofs.StepInvariantLemmas.{contents_of}
 use Rattle.register.proofs.register.Register.repeat.Goals as goal
 
 abbrev at_step : Object → ℕ → State
@@ -17,35 +19,15 @@ at_step object now = record { object = object; last = now }
 
 pub invariant_of-self-2 : goal.invariant_of-self-2
 invariant_of-self-2 c =
-    let r = c.self.inside in
-    let o : Contents = record {
-      delta = r.delta;
-      positions = r.positions.items;
-      mail = r.mail;
-      calls = r.calls.items;
-      base = r.base;
-      is_moving = r.is_moving;
-      stored = r.stored;
-      last = r.last;
-    } in
-    let after : o.last < c.args.now = subst (λ (s : State). s.last < c.args.now) (sym c.self.view_is) c.requires.after in
+    let o = contents_of c.self.inside in
+    let after = later o c.self.view_is c.requires.after in
     let within : c.args.place < length o.mail = omega (arith, c.len.ensures.value, c.if-len-place.false) in
     subst (λ ms. IsKept (record o { mail = ms; last = c.args.now })) (sym c.in_ok-repeat.ensures.posted)
     (repeating_keeps o c.args.place c.args.now after c.self.invariant within)
 
 pub returns-clause-step : goal.returns-clause-step
 returns-clause-step c =
-    let r = c.self.inside in
-    let o : Contents = record {
-      delta = r.delta;
-      positions = r.positions.items;
-      mail = r.mail;
-      calls = r.calls.items;
-      base = r.base;
-      is_moving = r.is_moving;
-      stored = r.stored;
-      last = r.last;
-    } in
+    let o = contents_of c.self.inside in
     let within : c.args.place < length o.mail = omega (arith, c.len.ensures.value, c.if-len-place.false) in
     ap (λ ms. at_step (object_of o.delta o.positions ms o.calls) c.args.now) c.in_ok-repeat.ensures.posted
     ∙ ap (λ x. at_step x c.args.now) (repeating_is o c.args.place within)

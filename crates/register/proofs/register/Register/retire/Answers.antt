@@ -11,15 +11,11 @@ index_mut-requires c = let within = base_within _ c.self.invariant in omega (ari
 pub retire-freed-requires : goal.retire-freed-requires
 retire-freed-requires c =
     let part = base_part c.self.invariant c.index_mut.ensures.value in
-    let few = c.self.invariant.limits.stored in
-    let total = c.self.invariant.stored in
-    omega (arith, part, few, total)
+    omega (arith, part, c.self.invariant.limits.stored, c.self.invariant.stored)
 
 pub overflow_sub-self : goal.overflow_sub-self
 overflow_sub-self c =
-    let part = base_part c.self.invariant c.index_mut.ensures.value in
-    let freed = c.retire-freed.ensures.freed in
-    omega (arith, part, freed)
+    omega (arith, base_part c.self.invariant c.index_mut.ensures.value, c.retire-freed.ensures.freed)
 
 pub overflow_add-self : goal.overflow_add-self
 overflow_add-self c =

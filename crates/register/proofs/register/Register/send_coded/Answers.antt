@@ -18,13 +18,10 @@ returns-in_err-index-clause-cause c =
     same_cause _ c.from_residual.result _ c.from_residual.ensures.1
     (inl (rw (← c.self.view_is) (if_no_such c.self.invariant c.deref.ensures.value c.in_err-index.ensures.refused _)))
 
-pub pieces_position-requires-clause-count : goal.pieces_position-requires-clause-count
-pieces_position-requires-clause-count c = few_those c.self.invariant c.deref-2.ensures.value
-
-pub pieces_position-requires-clause-below : goal.pieces_position-requires-clause-below
-pieces_position-requires-clause-below c =
+pub pieces_position-requires : goal.pieces_position-requires
+pieces_position-requires c =
     let f = is_found c.self.invariant c.in_ok-index.ensures.place c.deref.ensures.value c.index-tracked.ensures in
-    below_those f c.deref-2.ensures.value
+    record { count = few_those c.self.invariant c.deref-2.ensures.value; below = below_those f c.deref-2.ensures.value }
 
 pub returns-in_default-clause-cause : goal.returns-in_default-clause-cause
 returns-in_default-clause-cause c =
@@ -42,8 +39,7 @@ pub index-requires : goal.index-requires
 index-requires c =
     let f = is_found c.self.invariant c.in_ok-index.ensures.place c.deref.ensures.value c.index-tracked.ensures in
     let s = sending f c.pieces_position.ensures c.deref-2.ensures.value c.in-Some.is in
-    let there = position_there s in
-    omega (arith, there, c.deref-2.ensures.len, ap length c.deref-2.ensures.value)
+    omega (arith, position_there s, c.deref-2.ensures.len, ap length c.deref-2.ensures.value)
 
 pub returns-then-not-is_coded_for-clause-cause : goal.returns-then-not-is_coded_for-clause-cause
 returns-then-not-is_coded_for-clause-cause c =

@@ -7,15 +7,10 @@ use Rattle.register.proofs.register.Register.serve.Goals as goal
 pub index_mut-position-requires : goal.index_mut-position-requires
 index_mut-position-requires c = let within = position_there c.args.place c.self.invariant c.at-message.ensures in omega (arith, within)
 
-pub bytes-before-requires-clause-there : goal.bytes-before-requires-clause-there
-bytes-before-requires-clause-there c =
+pub bytes-before-requires : goal.bytes-before-requires
+bytes-before-requires c =
     let s = serving c.args.place c.self.invariant c.at-message.ensures c.in-Request.is c.index_mut-position.ensures.value in
-    member_there s
-
-pub bytes-before-requires-clause-room : goal.bytes-before-requires-clause-room
-bytes-before-requires-clause-room c other is =
-    let s = serving c.args.place c.self.invariant c.at-message.ensures c.in-Request.is c.index_mut-position.ensures.value in
-    bytes_few s other is
+    record { there = member_there s; room = λ other is. bytes_few s other is }
 
 pub serve-requires : goal.serve-requires
 serve-requires c =
@@ -25,21 +20,13 @@ serve-requires c =
 pub overflow_sub-self : goal.overflow_sub-self
 overflow_sub-self c =
     let s = serving c.args.place c.self.invariant c.at-message.ensures c.in-Request.is c.index_mut-position.ensures.value in
-    let part = part_stored s in
-    let before = c.bytes-before.ensures s.bank s.held in
-    omega (arith, before, part)
+    omega (arith, c.bytes-before.ensures s.bank s.held, part_stored s)
 
-pub bytes-requires-2-clause-there : goal.bytes-requires-2-clause-there
-bytes-requires-2-clause-there c =
+pub bytes-requires-2 : goal.bytes-requires-2
+bytes-requires-2 c =
     let s = serving c.args.place c.self.invariant c.at-message.ensures c.in-Request.is c.index_mut-position.ensures.value in
     let d = served s c.in_ok-reply.ensures.layout c.in_ok-reply.ensures.bank c.bytes.ensures.value c.if-bytes-self.false in
-    new_there d
-
-pub bytes-requires-2-clause-room : goal.bytes-requires-2-clause-room
-bytes-requires-2-clause-room c other is =
-    let s = serving c.args.place c.self.invariant c.at-message.ensures c.in-Request.is c.index_mut-position.ensures.value in
-    let d = served s c.in_ok-reply.ensures.layout c.in_ok-reply.ensures.bank c.bytes.ensures.value c.if-bytes-self.false in
-    new_few d other is
+    record { there = new_there d; room = λ other is. new_few d other is }
 
 pub overflow_add-self : goal.overflow_add-self
 overflow_add-self c =

@@ -6,13 +6,10 @@ use Rattle.register.proofs.SettleLemmas.{settle_refused, settle_wrong, settle_no
 use Rattle.register.proofs.SettleLemmas.{may_settle}
 use Rattle.register.proofs.register.Register.settle.Goals as goal
 
-pub want_of-requires-clause-count : goal.want_of-requires-clause-count
-want_of-requires-clause-count c = few_those c.self.invariant c.deref-2.ensures.value
-
-pub want_of-requires-clause-below : goal.want_of-requires-clause-below
-want_of-requires-clause-below c =
+pub want_of-requires : goal.want_of-requires
+want_of-requires c =
     let f = is_found c.self.invariant c.in_ok-index.ensures.place c.deref.ensures.value c.index.ensures in
-    below_those f c.deref-2.ensures.value
+    record { count = few_those c.self.invariant c.deref-2.ensures.value; below = below_those f c.deref-2.ensures.value }
 
 pub returns-in_default : goal.returns-in_default
 returns-in_default c =
@@ -50,13 +47,19 @@ returns-then-now-gt-MOST_STEPS-clause-cause c =
     rw (← c.self.view_is)
     (settle_past w (current_again f c.index-2.ensures c.in-Some.ensures) c.args.decoded c.args.now right c.if-now-gt-MOST_STEPS.true)
 
-pub returns-clause-cause : goal.returns-clause-cause
-returns-clause-cause c =
+pub returns : goal.returns
+returns c =
     let f = is_found c.self.invariant c.in_ok-index.ensures.place c.deref.ensures.value c.index.ensures in
     let w = wanting f c.want_of.ensures c.deref-2.ensures.value c.in-Settle.is in
     let right = sym (told c.in-Settle.k c.args.decoded c.is_decoded_from.ensures c.replies.ensures) ∙ c.if-not-is_decoded_from.false in
-    rw (← c.self.view_is)
-    (settle_none w (current_again f c.index-2.ensures c.in-Some.ensures) c.args.decoded c.args.now right c.if-now-gt-MOST_STEPS.false)
+    let new = settled_as f c.index_mut.ensures.value c.settle.ensures c.into_value.ensures in
+    record {
+      cause = rw (← c.self.view_is)
+          (settle_none w (current_again f c.index-2.ensures c.in-Some.ensures) c.args.decoded c.args.now right
+          c.if-now-gt-MOST_STEPS.false);
+      step = rw (← c.self.view_is) (settle_is f c.args.decoded.value c.args.now new);
+      unchanged = tt;
+    }
 
 pub invariant_of-self : goal.invariant_of-self
 invariant_of-self c =
@@ -67,9 +70,3 @@ invariant_of-self c =
     let new = settled_as f c.index_mut.ensures.value c.settle.ensures c.into_value.ensures in
     settle_kept f c.args.decoded.value c.args.now new c.self.view_is c.requires.after
     (may_settle w current c.args.decoded (subst IsDecoded c.decoded.view_is c.decoded.invariant) right)
-
-pub returns-clause-step : goal.returns-clause-step
-returns-clause-step c =
-    let f = is_found c.self.invariant c.in_ok-index.ensures.place c.deref.ensures.value c.index.ensures in
-    let new = settled_as f c.index_mut.ensures.value c.settle.ensures c.into_value.ensures in
-    rw (← c.self.view_is) (settle_is f c.args.decoded.value c.args.now new)

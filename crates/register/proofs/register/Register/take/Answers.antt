@@ -5,15 +5,13 @@ use Rattle.register.proofs.register.Register.take.Goals as goal
 pub index_mut-requires : goal.index_mut-requires
 index_mut-requires c = let within = call_there c.args.place c.self.invariant c.take_out-message.ensures.message in omega (arith, within)
 
-pub take-took-requires-clause-near : goal.take-took-requires-clause-near
-take-took-requires-clause-near c =
+pub take-took-requires : goal.take-took-requires
+take-took-requires c =
     let t = taking c.args.place c.self.invariant c.take_out-message.ensures.message c.index_mut.ensures.value in
-    below_limit t c.args.now
-
-pub take-took-requires-clause-tags : goal.take-took-requires-clause-tags
-take-took-requires-clause-tags c =
-    let t = taking c.args.place c.self.invariant c.take_out-message.ensures.message c.index_mut.ensures.value in
-    next_tag t c.args.now c.self.view_is c.requires.after (omega (arith, c.ranges.now.fits))
+    record {
+      near = below_limit t c.args.now;
+      tags = next_tag t c.args.now c.self.view_is c.requires.after (omega (arith, c.ranges.now.fits));
+    }
 
 pub invariant_of-self : goal.invariant_of-self
 invariant_of-self c =

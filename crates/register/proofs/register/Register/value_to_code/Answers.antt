@@ -1,24 +1,19 @@
-use Rattle.std.proofs.Common.{Some, None, sym, ap, ◌∙◌, inl, arith, rules, length, refl}
-use Rattle.tag.specs.declared.refusal.Refusal.TheVariants.{NotNow}
-use Rattle.register.specs.Causes.{unless}
-use Rattle.register.proofs.FoundCallLemmas.{is_found, below_those, few_those, not_some}
+use Rattle.std.proofs.Common.{Some, sym, ap, ◌∙◌, inl, arith, rules, length}
+use Rattle.register.proofs.FoundCallLemmas.{is_found, below_those, few_those}
 use Rattle.register.proofs.SentPieceLemmas.{sending, value_cause_is, position_there, sent_value_there, coding_is, layout_there, for_memory}
+use Rattle.register.proofs.SuppliedPieceLemmas.{none_of}
 use Rattle.register.proofs.register.Register.value_to_code.Goals as goal
 
-pub pieces_position-requires-clause-count : goal.pieces_position-requires-clause-count
-pieces_position-requires-clause-count c = few_those c.self.invariant c.deref-2.ensures.value
-
-pub pieces_position-requires-clause-below : goal.pieces_position-requires-clause-below
-pieces_position-requires-clause-below c =
+pub pieces_position-requires : goal.pieces_position-requires
+pieces_position-requires c =
     let f = is_found c.self.invariant c.in_ok-index.ensures.place c.deref.ensures.value c.index-tracked.ensures in
-    below_those f c.deref-2.ensures.value
+    record { count = few_those c.self.invariant c.deref-2.ensures.value; below = below_those f c.deref-2.ensures.value }
 
 pub returns-in_default-clause-cause : goal.returns-in_default-clause-cause
 returns-in_default-clause-cause c =
     let f = is_found c.self.invariant c.in_ok-index.ensures.place c.deref.ensures.value c.index-tracked.ensures in
-    let s = sending f c.pieces_position.ensures c.deref-2.ensures.value refl in
-    inl (rw (← c.self.view_is)
-    (value_cause_is s ∙ ap (λ b. unless b NotNow None) (not_some c.pieces_position.result c.in_default.not-Some)))
+    let s = sending f c.pieces_position.ensures c.deref-2.ensures.value (none_of c.pieces_position.result c.in_default.not-Some) in
+    inl (rw (← c.self.view_is) (value_cause_is s))
 
 pub unreachable-requires : goal.unreachable-requires
 unreachable-requires c =
@@ -30,8 +25,7 @@ pub index-requires : goal.index-requires
 index-requires c =
     let f = is_found c.self.invariant c.in_ok-index.ensures.place c.deref.ensures.value c.index-tracked.ensures in
     let s = sending f c.pieces_position.ensures c.deref-2.ensures.value c.in-Some.is in
-    let there = position_there s in
-    omega (arith, there, c.deref-2.ensures.len, ap length c.deref-2.ensures.value)
+    omega (arith, position_there s, c.deref-2.ensures.len, ap length c.deref-2.ensures.value)
 
 pub returns-in_err-clone-clause-cause : goal.returns-in_err-clone-clause-cause
 returns-in_err-clone-clause-cause c =
@@ -39,17 +33,14 @@ returns-in_err-clone-clause-cause c =
     let s = sending f c.pieces_position.ensures c.deref-2.ensures.value c.in-Some.is in
     for_memory _ c.from_residual-in_err-clone.result (rw (← c.self.view_is) (value_cause_is s)) (search rules)
 
-pub returns-clause-value : goal.returns-clause-value
-returns-clause-value c =
+pub returns : goal.returns
+returns c =
     let f = is_found c.self.invariant c.in_ok-index.ensures.place c.deref.ensures.value c.index-tracked.ensures in
     let s = sending f c.pieces_position.ensures c.deref-2.ensures.value c.in-Some.is in
     let placed = layout_there s c.index.ensures c.layout-layout.ensures in
-    rw (← c.self.view_is)
-    (coding_is s (ap Some c.in_ok-clone.ensures.cases ∙ c.in-Some-value.ensures) placed
-    ∙ (λ j. Some (c.in_ok-clone.field-0, sym c.k.ensures.value j, sym c.n.ensures.value j)))
-
-pub returns-clause-cause : goal.returns-clause-cause
-returns-clause-cause c =
-    let f = is_found c.self.invariant c.in_ok-index.ensures.place c.deref.ensures.value c.index-tracked.ensures in
-    let s = sending f c.pieces_position.ensures c.deref-2.ensures.value c.in-Some.is in
-    rw (← c.self.view_is) (value_cause_is s)
+    record {
+      value = rw (← c.self.view_is)
+          (coding_is s (ap Some c.in_ok-clone.ensures.cases ∙ c.in-Some-value.ensures) placed
+          ∙ (λ j. Some (c.in_ok-clone.field-0, sym c.k.ensures.value j, sym c.n.ensures.value j)));
+      cause = rw (← c.self.view_is) (value_cause_is s);
+    }

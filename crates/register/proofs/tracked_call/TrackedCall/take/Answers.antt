@@ -9,21 +9,17 @@ use Rattle.register.specs.Tracked.{Tracked, taken_tracked, took_current}
 use Rattle.register.proofs.TakenCallLemmas.{current_push, ended_is, ended_stale, reach_taken, taken_is}
 use Rattle.register.proofs.tracked_call.TrackedCall.take.Goals as goal
 
-pub returns-then-complete-clause-call : goal.returns-then-complete-clause-call
-returns-then-complete-clause-call c =
+pub returns-then-complete : goal.returns-then-complete
+returns-then-complete c =
     let k = c.self.inside in
     let ended : is_some k.call.phase.end ≡ true =
     ap (λ (p : Phase). is_some p.end) (sym c.phase.ensures.value) ∙ sym c.complete.ensures.value ∙ c.if-complete.true in
-    sym c.self.view_is ∙ ended_is k.called k.answered k.finished.items k.call k.stage c.args.message c.args.now ended
-    ∙ ap (taken_tracked c.args.message c.args.now) c.self.view_is
-
-pub returns-then-complete-clause-took : goal.returns-then-complete-clause-took
-returns-then-complete-clause-took c =
-    let k = c.self.inside in
-    let ended : is_some k.call.phase.end ≡ true =
-    ap (λ (p : Phase). is_some p.end) (sym c.phase.ensures.value) ∙ sym c.complete.ensures.value ∙ c.if-complete.true in
-    sym (ap (took_current c.args.message) (ap (λ (t : Tracked). current_phase t.call.phases) (sym c.self.view_is)
-    ∙ current_push k.finished.items k.call.phase) ∙ ended_stale k.call.phase c.args.message ended)
+    record {
+      call = sym c.self.view_is ∙ ended_is k.called k.answered k.finished.items k.call k.stage c.args.message c.args.now ended
+          ∙ ap (taken_tracked c.args.message c.args.now) c.self.view_is;
+      took = sym (ap (took_current c.args.message) (ap (λ (t : Tracked). current_phase t.call.phases) (sym c.self.view_is)
+          ∙ current_push k.finished.items k.call.phase) ∙ ended_stale k.call.phase c.args.message ended);
+    }
 
 pub reached-self-inside-requires : goal.reached-self-inside-requires
 reached-self-inside-requires c =
@@ -42,16 +38,15 @@ reached-self-inside-requires c =
           (reach_taken c.self.invariant c.phase.ensures.lawful open_yet k.called k.answered c.args.message c.args.now near tags);
     }
 
-pub returns-clause-call : goal.returns-clause-call
-returns-clause-call c =
+pub returns : goal.returns
+returns c =
     let k = c.self.inside in
     let open_yet : is_some k.call.phase.end ≡ false =
     ap (λ (p : Phase). is_some p.end) (sym c.phase.ensures.value) ∙ sym c.complete.ensures.value ∙ c.if-complete.false in
-    taken_is c.self.invariant c.phase.ensures.lawful open_yet k.called k.answered c.args.message c.args.now
-    c.take-took.ensures.call c.reached-self-inside.ensures ∙ ap (taken_tracked c.args.message c.args.now) c.self.view_is
-
-pub returns-clause-took : goal.returns-clause-took
-returns-clause-took c =
-    let k = c.self.inside in
-    c.take-took.ensures.took ∙ sym (ap (took_current c.args.message) (ap (λ (t : Tracked). current_phase t.call.phases) (sym c.self.view_is)
-    ∙ current_push k.finished.items k.call.phase))
+    record {
+      call = taken_is c.self.invariant c.phase.ensures.lawful open_yet k.called k.answered c.args.message c.args.now
+          c.take-took.ensures.call c.reached-self-inside.ensures ∙ ap (taken_tracked c.args.message c.args.now) c.self.view_is;
+      took = c.take-took.ensures.took
+          ∙ sym (ap (took_current c.args.message) (ap (λ (t : Tracked). current_phase t.call.phases) (sym c.self.view_is)
+          ∙ current_push k.finished.items k.call.phase));
+    }
