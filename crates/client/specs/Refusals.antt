@@ -40,7 +40,7 @@ module _ (name : List ℕ) (call : ℕ) where
       (wanted cluster name call ≡ Some want.Replies)
       × (if_named cluster name (λ object. Some (choices cluster call object)) ≡ Some [])
 
-  -- why a round of the call is refused in this state, where nothing is handed in
+  -- why a round of the call is refused in this state, if nothing is handed in
   abbrev pub IsHeldUp : Cluster → Refusal → Type 0
   IsHeldUp cluster GaveUp = IsNotAnswered cluster name call
   IsHeldUp cluster Stuck = IsWaitingWithoutMessages cluster
@@ -68,29 +68,29 @@ module _ (first : Cluster) (name : List ℕ) (call : ℕ) where
       IsHeldUp name call cluster r
       ⊎ ((h : HandedIn) × (IsCodedFor h × (hand_cause cluster name call h ≡ Some r)))
 
--- what is handed in was coded for the pending call; where none is pending, it may be anything
+-- what is handed in was coded for the pending call; if none is pending, it may be anything
 abbrev pub IsPendingHand : (first : Cluster) → Option Pending → HandedIn → Type 0
 IsPendingHand first None h = Unit {0}
 IsPendingHand first (Some p) h = IsCodedFor first p.name p.kept.call h
 
--- what is handed in was coded for the pending move; where none is pending, it may be anything
+-- what is handed in was coded for the pending move; if none is pending, it may be anything
 abbrev pub IsMovingHand : (first : Cluster) → Option Moving → HandedIn → Type 0
 IsMovingHand first None h = Unit {0}
 IsMovingHand first (Some m) h = IsCodedFor first m.name m.call h
 
 module _ (first : Cluster) (cluster : Cluster) where
-  -- why a round of a pending call is refused in this state; NoCall where none is pending
+  -- why a round of a pending call is refused in this state; NoCall if none is pending
   abbrev pub IsPendingRefused : Option Pending → Refusal → Type 0
   IsPendingRefused None r = r ≡ NoCall
   IsPendingRefused (Some p) r = IsRefusedIn first p.name p.kept.call cluster r
 
-  -- why a round of a seat's call is refused in this state; Stranger exactly where the seat is ahead of this state
+  -- why a round of a seat's call is refused in this state; Stranger exactly if the seat is ahead of this state
   abbrev pub IsSeatRefused : SeatState → Refusal → Type 0
   IsSeatRefused s r =
       ((r ≡ Stranger) × (cluster.counter < s.floor))
       ⊎ ((s.floor ≤ cluster.counter) × IsPendingRefused s.pending r)
 
-  -- why a round of a pending move is refused in this state; NoCall where none is pending, or the move is no call there
+  -- why a round of a pending move is refused in this state; NoCall if none is pending, or the move is no call there
   abbrev pub IsMovingRefused : Option Moving → Refusal → Type 0
   IsMovingRefused None r = r ≡ NoCall
   IsMovingRefused (Some m) r =

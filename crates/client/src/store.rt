@@ -39,12 +39,13 @@ pub struct Store<L: StoreName> {
 pub type Opened<L> = (Store<L>, Vec<Seat<L>>, Admin<L>);
 
 impl<L: StoreName> Store<L> {
-    /// A store over a cluster without calls, with `seats` seats, numbered from 0. For each value that is encoded,
+    /// Makes a store over a cluster without calls, with `seats` seats, numbered from 0. For each value that is encoded,
     /// `workers` threads make the pieces; with 0 workers the thread of the seat makes them. The store's book is made
     /// from `blank`, which must have one part for each seat and one for the store. The cluster must be the one that the
     /// store's name has as its member `first`.
     ///
-    /// `NotNow` where the cluster has a call, and `Full` above `MOST_SEATS` seats or `MOST_WORKERS` workers.
+    /// Is refused with `NotNow` if the cluster has a call, and with `Full` above `MOST_SEATS` seats or `MOST_WORKERS`
+    /// workers.
     pub fn open(
         alloc: Global,
         blank: Blank,
@@ -76,10 +77,11 @@ impl<L: StoreName> Store<L> {
     }
 
     /// Handles one message of an object, the one that `chooser` chooses among those that can be handled: a request to a
-    /// server that is up is served, and a reply is taken. Returns false, and makes no step, where no message can be
+    /// server that is up is served, and a reply is taken. Returns false, and makes no step, if no message can be
     /// handled.
     ///
-    /// `NoObject` where no object has this name, and `Full` where the limit of steps or of stored bytes is met.
+    /// Is refused with `NoObject` if no object has this name, and with `Full` if the limit of steps or of stored bytes
+    /// is met.
     pub fn stir<R: Wait, C: Chooser>(
         &self,
         rt: &R,
@@ -94,10 +96,10 @@ impl<L: StoreName> Store<L> {
 
     /// Loses or repeats one waiting message of an object. `chooser` first chooses the message among all that wait, and
     /// then what happens to it: with an even number the message is lost, with an odd one it is repeated. Returns false,
-    /// and makes no step, where no message waits.
+    /// and makes no step, if no message waits.
     ///
-    /// `NoObject` where no object has this name, and `Full` where the limit of steps or of the object's waiting
-    /// messages is met.
+    /// Is refused with `NoObject` if no object has this name, and with `Full` if the limit of steps or of the object's
+    /// waiting messages is met.
     pub fn disturb<R: Wait, C: Chooser>(
         &self,
         rt: &R,
@@ -113,8 +115,8 @@ impl<L: StoreName> Store<L> {
     /// Closes the store with all its seats, once all clients have ended. Returns the cluster and the number of
     /// receipts.
     ///
-    /// `Stranger` where the seats are not those of the store, or their records do not fit its history. `NoMemory` may
-    /// come before that is known. Both give the cluster and the seats back.
+    /// Fails with `Stranger` if the seats are not those of the store, or their records do not fit its history.
+    /// `NoMemory` may come before that is known. Both give the cluster and the seats back.
     pub fn close(self, seats: Vec<Seat<L>>) -> Result<Closed, NotClosed<L>>
         ensures course { MatchResult result (λ closed. IsReachable L.first closed.cluster)
             (λ e. IsReachable L.first e.cluster) }

@@ -13,7 +13,8 @@ use Rattle.layout.specs.Layout.{Layout}
 use Rattle.record.specs.Steps.{opened_banks, opened_object}
 use Rattle.register.specs.Position.{banks_bytes, all_bytes}
 use Rattle.register.specs.State.{State}
-use Rattle.register.proofs.ListLemmas.{all_pushed, all_weaker, length_push}
+use Rattle.soundness.proofs.ListLemmas.{all_push}
+use Rattle.register.proofs.ListLemmas.{all_weaker, length_push}
 use Rattle.register.proofs.OpenedObjectLemmas.{opened_banks_bytes}
 use Rattle.std.proofs.lemmas.List.Sums.{sum_by-cons}
 use Rattle.cluster.specs.Accounts.{object_sum}
@@ -49,7 +50,7 @@ module _ (cluster : Cluster) (bytes count : ℕ) (layout : Layout) (kept : IsKep
     (few : suc cluster.counter ≤ MOST_STEPS) where
   pub layout_kept : IsKeptCluster (with_layout cluster layout) bytes count
   layout_kept = record {
-    layouts = all_pushed (HasMembersBelow (length cluster.servers)) cluster.layouts layout kept.layouts
+    layouts = all_push (HasMembersBelow (length cluster.servers)) cluster.layouts layout kept.layouts
         (below_all (length cluster.servers) layout.members below);
     objects = placed_later (length cluster.servers) cluster.counter cluster.objects kept.objects;
     apart = kept.apart;
@@ -77,7 +78,7 @@ other_name a b other =
 apart_from : (n : List ℕ) (objects : List Named) (object : Named) → bytes_eq object.name n ≡ false →
     AllByRecursion (λ other. bytes_eq n other.name ≡ false) objects →
     AllByRecursion (λ other. bytes_eq n other.name ≡ false) (objects ++ object ∷ [])
-apart_from n objects object other all = all_pushed (λ o. bytes_eq n o.name ≡ false) objects object all (other_name object.name n other)
+apart_from n objects object other all = all_push (λ o. bytes_eq n o.name ≡ false) objects object all (other_name object.name n other)
 
 apart_pushed : (objects : List Named) (object : Named) → named objects object.name ≡ None → AreNamedApart objects →
     AreNamedApart (objects ++ object ∷ [])
@@ -108,16 +109,14 @@ module _ (cluster : Cluster) (bytes count : ℕ) (name : List ℕ) (layout : Lay
   pub object_kept : IsKeptCluster (with_object cluster name layout delta) bytes count
   object_kept = record {
     layouts = kept.layouts;
-    objects = all_pushed (IsPlaced (length cluster.servers) (suc cluster.counter)) cluster.objects object
+    objects = all_push (IsPlaced (length cluster.servers) (suc cluster.counter)) cluster.objects object
         (placed_later (length cluster.servers) cluster.counter cluster.objects kept.objects)
         (record { layouts = (below, tt); banked = (opened_length layout.members 0 delta (suc cluster.counter), tt); past = omega arith });
     apart = apart_pushed cluster.objects object fresh kept.apart;
     few_objects = let more = length_push cluster.objects object in omega (arith, more, few_objects);
     few_steps = few;
     stored = let all = sum_pushed (λ o. all_bytes o.state.object.banks) cluster.objects object in
-        let none = opened_nothing layout.members delta (suc cluster.counter) in
-        let before = kept.stored in
-        omega (arith, all, none, before);
+        omega (arith, all, opened_nothing layout.members delta (suc cluster.counter), kept.stored);
     within = kept.within;
     called = let all = sum_pushed (λ o. length o.state.object.calls) cluster.objects object in
         let before = kept.called in

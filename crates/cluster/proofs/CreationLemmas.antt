@@ -14,7 +14,8 @@ use Rattle.layout.specs.Layout.{Layout}
 use Rattle.record.specs.Steps.{opened_object}
 use Rattle.register.specs.Causes.{unless, if_step}
 use Rattle.register.specs.State.{State}
-use Rattle.register.proofs.ListLemmas.{all_found, length_map}
+use Rattle.soundness.proofs.ListLemmas.{all_get}
+use Rattle.register.proofs.ListLemmas.{length_map}
 use Rattle.register.proofs.RoomLemmas.{is_le, not_le, is_lt, not_lt, step_within, step_past}
 use Rattle.cluster.specs.Causes.{if_layout, layout_cause, create_cause}
 use Rattle.cluster.specs.Cluster.{Named, Cluster, named}
@@ -46,9 +47,7 @@ module _ {servers : List Bool} {layouts : List Layout} {objects : List Named} {c
     (same : record { servers = servers; layouts = layouts; objects = objects; counter = counter } ≡ now) (layout : Layout) where
   layout_by : (b : Bool) → are_servers (length servers) layout ≡ b
       → layout_cause now layout ≡ unless b BadLayout (if_step (suc counter) (unless (nat_lt (length layouts) MOST_LAYOUTS) Full None))
-  layout_by b is =
-      ap (λ (k : Cluster). layout_cause k layout) (sym same)
-      ∙ ap (λ b. unless b BadLayout (if_step (suc counter) (unless (nat_lt (length layouts) MOST_LAYOUTS) Full None))) is
+  layout_by b is = cc (same)
 
   pub no_servers : are_servers (length servers) layout ≡ false → layout_cause now layout ≡ Some BadLayout
   no_servers is = layout_by false is
@@ -91,9 +90,7 @@ module _ {servers : List Bool} {layouts : List Layout} {objects : List Named} {c
     (name : List ℕ) (id : ℕ) where
   create_by : (b : Bool) → is_some (named objects name) ≡ b
       → create_cause now name id ≡ unless (not b) ObjectExists (by_layout counter objects name (slice_get layouts id))
-  create_by b is =
-      ap (λ (k : Cluster). create_cause k name id) (sym same)
-      ∙ ap (λ b. unless (not b) ObjectExists (by_layout counter objects name (slice_get layouts id))) is
+  create_by b is = cc (same)
 
   pub name_taken : is_some (named objects name) ≡ true → create_cause now name id ≡ Some ObjectExists
   name_taken is = create_by true is
@@ -148,10 +145,7 @@ module _ {entries : List Entry} {counter : ℕ} {later : List Entry} {name : Lis
 
   object_is : object_of (added.key, added.value)
       ≡ record { name = name; state = record { object = opened_object layout delta (suc counter); last = suc counter } }
-  object_is =
-      ap (λ n. record { name = n; state = added.value }) added.called
-      ∙ ap (λ (s : State). record { name = name; state = s })
-      (added.opened ∙ ap (λ n. record { object = opened_object layout delta n; last = n }) (add-one counter))
+  object_is = cc (added.called, added.opened, add-one counter)
 
   objects_are : objects_of later ≡ objects_of entries
       ++ record { name = name; state = record { object = opened_object layout delta (suc counter); last = suc counter } } ∷ []
@@ -162,16 +156,12 @@ module _ {entries : List Entry} {counter : ℕ} {later : List Entry} {name : Lis
 
   cluster_is : (servers : List Bool) (layouts : List Layout)
       → cluster_of servers layouts later (counter + 1) ≡ with_object (cluster_of servers layouts entries counter) name layout delta
-  cluster_is servers layouts =
-      ap (λ n. cluster_of servers layouts later n) (add-one counter)
-      ∙ ap (λ (os : List Named). record { servers = servers; layouts = layouts; objects = os; counter = suc counter }) objects_are
+  cluster_is servers layouts = cc (add-one counter, objects_are)
 
   pub created_is : {servers : List Bool} {layouts : List Layout} {now : Cluster} (id : ℕ) →
       cluster_of servers layouts entries counter ≡ now → IsLayout layouts id layout →
       cluster_of servers layouts later (counter + 1) ≡ created now name id delta
-  created_is {servers} {layouts} {now} id same found =
-      cluster_is servers layouts ∙ ap (λ (k : Cluster). with_object k name layout delta) same
-      ∙ ap (λ (l : Layout). with_object now name l delta) (sym (layout_found same found))
+  created_is {servers} {layouts} {now} id same found = cc (cluster_is servers layouts, layout_found same found)
 
   pub created_counted : {servers : List Bool} {layouts : List Layout} {bytes count waiting : ℕ} {loads : List ℕ} (id : ℕ) →
       IsLayout layouts id layout → counter < MOST_STEPS → length (objects_of entries) < MOST_OBJECTS →
@@ -181,7 +171,7 @@ module _ {entries : List Entry} {counter : ℕ} {later : List Entry} {name : Lis
       subst (λ (k : Cluster). IsCounted k bytes count waiting loads) (sym (cluster_is servers layouts))
       (record {
         kept = object_kept (cluster_of servers layouts entries counter) bytes count name layout delta counted.kept
-            (all_found (HasMembersBelow (length servers)) layouts id layout counted.kept.layouts found.here) no_object
+            (all_get (HasMembersBelow (length servers)) layouts id layout counted.kept.layouts found.here) no_object
             (omega (arith, few)) few_objects;
         summed = object_summed (cluster_of servers layouts entries counter) waiting loads name layout delta counted.summed;
       })

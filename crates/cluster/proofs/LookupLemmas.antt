@@ -92,14 +92,8 @@ changed_first : (entries : List Entry) (name : List ℕ) (place : ℕ) (old : St
     IsFirst name entries place → slice_get (values_of entries) place ≡ Some old →
     objects_of (set_value_at entries place (change old)) ≡ with_changed (objects_of entries) name change
 changed_first [] name place old change first value = absurd first
-changed_first (e ∷ es) name zero old change first value =
-    ap (λ (s : State). object_of (e.0, change s) ∷ objects_of es) (sym (same_some e.1 old value))
-    ∙ sym
-    (ap (λ b. if b then object_of (e.0, change e.1) ∷ objects_of es else object_of e ∷ with_changed (objects_of es) name change) first)
-changed_first (e ∷ es) name (suc place) old change first value =
-    ap (λ os. object_of e ∷ os) (changed_first es name place old change first.1 value)
-    ∙ sym (ap (λ b. if b then object_of (e.0, change e.1) ∷ objects_of es else object_of e ∷ with_changed (objects_of es) name change)
-    first.0)
+changed_first (e ∷ es) name zero old change first value = cc (same_some e.1 old value)
+changed_first (e ∷ es) name (suc place) old change first value = cc (changed_first es name place old change first.1 value, first.0)
 
 pub changed_at : {entries : List Entry} {name : List ℕ} {place : ℕ} {old : State} → IsAt entries name place old →
     (change : State → State) → objects_of (set_value_at entries place (change old)) ≡ with_changed (objects_of entries) name change

@@ -1,13 +1,12 @@
 -- Why a move of an object to a layout of the cluster is refused.
 use Rattle.std.proofs.Common.{◌≡◌, ℕ, suc, ◌+◌, ◌≤◌, ◌<◌, Bool, true, false, not}
 use Rattle.std.proofs.Common.{List, length, get_or, slice_get, Some, refl, sym, ap, ◌∙◌, add-one}
-use Rattle.std.proofs.lemmas.Option.{slice_get_past, slice_get_read}
+use Rattle.std.proofs.lemmas.Option.{slice_get_past, slice_get_read, get_or_from_slice_get}
 use Rattle.tag.specs.declared.refusal.Refusal.TheVariants.{BadLayout, MovePending}
 use Rattle.layout.specs.Layout.{Layout}
 use Rattle.record.specs.Records.{Object, no_layout}
 use Rattle.register.specs.Kept.{has_open_move}
 use Rattle.register.specs.Causes.{unless, move_cause}
-use Rattle.register.proofs.ListLemmas.{found_or}
 use Rattle.cluster.specs.Causes.{if_layout, moving_cause}
 use Rattle.cluster.specs.Cluster.{Named, Cluster, layout_numbered}
 
@@ -29,29 +28,22 @@ pub layout_found :
     record { servers = servers; layouts = layouts; objects = objects; counter = counter } ≡ now → IsLayout layouts id layout →
     layout_numbered now id ≡ layout
 layout_found {layouts = layouts} {id = id} {layout = layout} same found =
-    ap (λ (k : Cluster). layout_numbered k id) (sym same) ∙ found_or layouts id layout no_layout found.here
+    ap (λ (k : Cluster). layout_numbered k id) (sym same) ∙ get_or_from_slice_get layouts id layout no_layout found.here
 
 module _ {servers : List Bool} {layouts : List Layout} {objects : List Named} {counter : ℕ} {now : Cluster}
     (same : record { servers = servers; layouts = layouts; objects = objects; counter = counter } ≡ now) (id : ℕ)
     (object : Object) where
   moving_by : (b : Bool) → has_open_move object.calls ≡ b → moving_cause now id object
       ≡ unless (not b) MovePending (if_layout (slice_get layouts id) (λ layout. move_cause layout (suc counter) object))
-  moving_by b is =
-      ap (λ (k : Cluster). moving_cause k id object) (sym same)
-      ∙ ap (λ b. unless (not b) MovePending (if_layout (slice_get layouts id) (λ layout. move_cause layout (suc counter) object))) is
+  moving_by b is = cc (same)
 
   pub move_pending : has_open_move object.calls ≡ true → moving_cause now id object ≡ Some MovePending
   move_pending is = moving_by true is
 
   pub move_nowhere : {xs : List Layout} → has_open_move object.calls ≡ false → xs ≡ layouts → length xs ≤ id →
       moving_cause now id object ≡ Some BadLayout
-  move_nowhere {xs} none all past =
-      moving_by false none
-      ∙ ap (λ o. if_layout o (λ layout. move_cause layout (suc counter) object))
-      (ap (λ ls. slice_get ls id) (sym all) ∙ slice_get_past xs id past)
+  move_nowhere {xs} none all past = cc (moving_by false none, slice_get_past xs id past)
 
   pub move_to : (layout : Layout) → IsLayout layouts id layout → has_open_move object.calls ≡ false
       → moving_cause now id object ≡ move_cause layout (counter + 1) object
-  move_to layout found none =
-      moving_by false none ∙ ap (λ o. if_layout o (λ layout. move_cause layout (suc counter) object)) found.here
-      ∙ ap (λ n. move_cause layout n object) (sym (add-one counter))
+  move_to layout found none = cc (moving_by false none, found.here, add-one counter)

@@ -1,6 +1,6 @@
 -- The object of a name at its index, as a look-up finds it, and as its methods read it.
 use Rattle.std.proofs.Common.{◌≡◌, ℕ, zero, suc, ◌+◌, ◌<◌, Bool, true, false, not, cond, if◌then◌else◌, List, [], ◌∷◌, length, slice_get}
-use Rattle.std.proofs.Common.{Option, Some, None, String, Global, bytes_eq, nat_lt, position, refl, sym, ap, subst, ◌∙◌, arith}
+use Rattle.std.proofs.Common.{Option, Some, String, Global, bytes_eq, position, refl, sym, ap, subst, ◌∙◌, arith}
 use Rattle.std.specs.List.{position_or_len}
 use Rattle.std.specs.Prelude.{option_map}
 use Rattle.std.specs.String.{string_bytes}
@@ -10,7 +10,8 @@ use Rattle.std.proofs.lemmas.Option.{slice_get-map}
 use Rattle.std.proofs.lemmas.Slice.Eq.{bytes_eq-Decides}
 use Rattle.layout.specs.Layout.{Layout}
 use Rattle.register.specs.State.{State}
-use Rattle.register.proofs.ListLemmas.{all_found, length_map, same_some}
+use Rattle.soundness.proofs.ListLemmas.{all_get}
+use Rattle.register.proofs.ListLemmas.{length_map, same_some}
 use Rattle.cluster.specs.Cluster.{Cluster, Named, named, place_of}
 use Rattle.cluster.specs.Kept.{AreNamedApart, IsKeptCluster}
 use Rattle.cluster.specs.Places.{IsObjectAt}
@@ -31,9 +32,7 @@ place_is name (e ∷ es) = pick (is_name name e.0) (place_is name es)
 
 found_place : (keys : List (String Global)) (name : List ℕ) (place : ℕ) → position_or_len (is_name name) keys ≡ place
     → place < length keys → Some place ≡ position (is_name name) keys
-found_place keys name place is within = sym
-    (ap (λ l. cond (nat_lt l (length keys)) (Some l) None) is
-    ∙ ap (λ b. cond b (Some place) None) (lt-ltb place (length keys) within))
+found_place keys name place is within = cc (lt-ltb place (length keys) within)
 
 -- there is an object of a name that has an index
 named_within : (name : List ℕ) (objects : List Named) → place_of objects name < length objects
@@ -63,7 +62,7 @@ named_apart name (x ∷ xs) (suc place) o apart at is =
     let rest = named_apart name xs place o apart.1 at is in
     let within = rest.1 in
     let other : bytes_eq x.name o.name ≡ false =
-    all_found (λ (n : Named). bytes_eq x.name n.name ≡ false) xs place o apart.0 at in
+    all_get (λ (n : Named). bytes_eq x.name n.name ≡ false) xs place o apart.0 at in
     (ap (λ b. if b then 0 else suc (place_of xs name)) (differs (bytes_eq name x.name) refl other) ∙ ap suc rest.0, omega (arith, within))
   where
     differs : (b : Bool) → bytes_eq name x.name ≡ b → bytes_eq x.name o.name ≡ false → bytes_eq name x.name ≡ false

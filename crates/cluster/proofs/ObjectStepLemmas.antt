@@ -47,11 +47,7 @@ module _ {servers : List Bool} {layouts : List Layout} {counter : ℕ} {entries 
   pub step_at : {new : State} → IsAt entries name place old → (step : Step) →
       new ≡ made step (counter + 1) old → cluster_of servers layouts (set_value_at entries place new) (counter + 1)
       ≡ with_step (cluster_of servers layouts entries counter) name step
-  step_at at step is =
-      ap (λ s. cluster_of servers layouts (set_value_at entries place s) (counter + 1)) is
-      ∙ ap (λ n. cluster_of servers layouts (set_value_at entries place (made step n old)) n) (add-one counter)
-      ∙ ap (λ os. record { servers = servers; layouts = layouts; objects = os; counter = suc counter })
-      (changed_at at (made step (suc counter)))
+  step_at at step is = cc (add-one counter, changed_at at (made step (suc counter)))
 
   pub stepped_at : {new : State} {now : Cluster} → cluster_of servers layouts entries counter ≡ now →
       IsAt entries name place old → (step : Step) → new ≡ made step (counter + 1) old →
@@ -61,9 +57,7 @@ module _ {servers : List Bool} {layouts : List Layout} {counter : ℕ} {entries 
   -- where the step is refused the cluster is as it was
   pub unchanged_at : {new : State} → IsAt entries name place old → new ≡ old
       → cluster_of servers layouts (set_value_at entries place new) counter ≡ cluster_of servers layouts entries counter
-  unchanged_at at is =
-      ap (λ s. cluster_of servers layouts (set_value_at entries place s) counter) is
-      ∙ ap (λ es. cluster_of servers layouts es counter) (same_at at)
+  unchanged_at at is = cc (same_at at)
 
   -- the object's last step is before the next one
   pub last_before : {bytes count : ℕ} → IsKeptCluster (cluster_of servers layouts entries counter) bytes count →

@@ -16,9 +16,12 @@ use Rattle.register.specs.Kept.{has_open_move}
 use Rattle.register.specs.Retiring.{retire_cause}
 use Rattle.register.specs.State.{State, next_id}
 use Rattle.register.specs.declared.act.Act.{Act}
-use Rattle.register.proofs.ListLemmas.{all_found, found_or, same_some}
+use Rattle.soundness.proofs.ListLemmas.{all_get}
+use Rattle.std.proofs.lemmas.Option.{get_or_from_slice_get}
+use Rattle.register.proofs.ListLemmas.{same_some}
 use Rattle.register.proofs.NewMoveLemmas.{none_open}
-use Rattle.register.proofs.PreconditionLemmas.{not_true, passed, some_message}
+use Rattle.register.proofs.PreconditionLemmas.{some_message}
+use Rattle.register.proofs.RoomLemmas.{not_true, passed}
 use Rattle.cluster.specs.Causes.{if_layout, if_object, moving_cause, next, object_cause, message_cause, serving_cause}
 use Rattle.cluster.specs.Cluster.{Cluster, Named, next_call_id, layout_numbered, named, next_id_in}
 use Rattle.cluster.specs.Preconditions.{MayMake}
@@ -85,8 +88,8 @@ module _ (cluster : Cluster) (name : List ℕ) where
       let open_none = passed (not (has_open_move object.calls)) _ _ none in
       let there = some_layout (slice_get cluster.layouts id) _ open_none.1 in (
         is_new,
-        subst IsLawful (sym (found_or cluster.layouts id there.0 no_layout there.1))
-            (all_found IsLawful cluster.layouts id there.0 lawful there.1),
+        subst IsLawful (sym (get_or_from_slice_get cluster.layouts id there.0 no_layout there.1))
+            (all_get IsLawful cluster.layouts id there.0 lawful there.1),
         none_open object (not_true (has_open_move object.calls) open_none.0),
       )
 

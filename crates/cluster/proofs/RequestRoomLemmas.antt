@@ -100,9 +100,7 @@ handled_is cluster object place m b waits is =
 
 pub place_past : (object : Object) (place : ℕ) (mail : List Message) → mail ≡ object.mail → length mail ≤ place →
     place_cause place object ≡ Some NoMessage
-place_past object place mail same past =
-    ap (λ (ms : List Message). if_message (slice_get ms place) (λ message. None)) (sym same)
-    ∙ ap (λ (found : Option Message). if_message found (λ message. None)) (slice_get_past mail place past)
+place_past object place mail same past = cc (slice_get_past mail place past)
 
 pub place_there : (object : Object) (place : ℕ) (m : Message) → slice_get object.mail place ≡ Some m →
     place_cause place object ≡ None

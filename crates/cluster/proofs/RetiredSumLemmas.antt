@@ -2,7 +2,7 @@
 use Rattle.std.proofs.Common.{◌≡◌, ◌≢◌, ℕ, suc, ◌+◌, ◌-◌, ◌*◌, ◌≤◌, ◌<◌, ◌==◌, Bool, true, false, List, [], length, map, get_or}
 use Rattle.std.proofs.Common.{slice_set, None, refl, sym, ap, subst, ◌∙◌, arith, add-one}
 use Rattle.std.proofs.lemmas.Bool.Decides.{nat_tests}
-use Rattle.std.proofs.lemmas.List.{get_or-set_same, get_or-set_other}
+use Rattle.std.proofs.lemmas.List.{get_or-set_same, get_or-set_other, length-set}
 use Rattle.std.proofs.lemmas.List.Sums.{sum_by-set}
 use Rattle.tag.specs.declared.limits.TheConstants.{LONGEST_VALUE, MOST_BYTES, MOST_MESSAGES, MOST_STEPS}
 use Rattle.indexmap.specs.IndexMap.{set_value_at}
@@ -21,7 +21,6 @@ use Rattle.register.specs.Causes.{if_step}
 use Rattle.register.specs.Retiring.{is_retirable, retire_cause}
 use Rattle.register.specs.Position.{banks_bytes, all_bytes}
 use Rattle.register.specs.State.{State, made}
-use Rattle.register.proofs.ListLemmas.{length_set}
 use Rattle.register.proofs.RetireLemmas.{none_stored}
 use Rattle.cluster.specs.Accounts.{stored_all}
 use Rattle.cluster.specs.Cluster.{Cluster}
@@ -50,15 +49,13 @@ retired_total object last now sound =
     let rows = sound.shape.banks in
     let put = sum_by-set banks_bytes object.banks (base_of object) (map (λ bank. retired_bank bank now) row) []
     (omega (arith, below, rows)) in
-    let none = none_stored row now in
-    omega (arith, put, none)
+    omega (arith, put, none_stored row now)
 
 -- and each server by what it stores there
 retired_part : (object : Object) (last now server : ℕ) → IsSound fragment object last
     → of.stored (stepped fragment Step.Retire now object) server + base_bytes_of object server ≡ of.stored object server
 retired_part object last now server sound =
-    let changed = stored-changed fragment object last now Step.Retire server sound in
-    omega (arith, changed)
+    omega (arith, stored-changed fragment object last now Step.Retire server sound)
 
 -- the servers before one no longer store what the base does there, and the others store what they did
 pub record IsUnloaded (first loads : List ℕ) (server : ℕ) (base : ℕ → ℕ) : Type 0 where
@@ -70,7 +67,7 @@ pub unload_next : (first loads new : List ℕ) (server bytes : ℕ) (base : ℕ 
     → server < length first → base server ≤ get_or first server 0 → bytes ≡ base server
     → new ≡ slice_set loads server (get_or loads server 0 + 0 - bytes) → IsUnloaded first new (server + 1) base
 unload_next first loads new server bytes base before there part is written = record {
-  count = ap length written ∙ length_set loads server (get_or loads server 0 + 0 - bytes) ∙ before.count;
+  count = ap length written ∙ length-set loads server (get_or loads server 0 + 0 - bytes) ∙ before.count;
   freed = λ other less. by_server other less (server == other) refl;
   others = λ other low. apart other (λ e. omega (arith, low, e)) ∙ before.others other (omega (arith, low));
 }
@@ -79,9 +76,7 @@ unload_next first loads new server bytes base before there part is written = rec
     within = let count = before.count in omega (arith, there, count)
 
     apart : (other : ℕ) → other ≢ server → get_or new other 0 ≡ get_or loads other 0
-    apart other differ =
-        ap (λ (ls : List ℕ). get_or ls other 0) written
-        ∙ get_or-set_other loads server other (get_or loads server 0 + 0 - bytes) 0 differ
+    apart other differ = cc (written, get_or-set_other loads server other (get_or loads server 0 + 0 - bytes) 0 differ)
 
     here : get_or new server 0 + base server ≡ get_or first server 0
     here =
@@ -110,24 +105,19 @@ module _ {servers : List Bool} {layouts : List Layout} {counter : ℕ} {entries 
       let lengths = counted.summed.servers in
       let load = counted.summed.stored server (omega (arith, there, lengths)) in
       let part = part_named (λ s. of.stored s.object server) name old (objects_of entries) (named_at at) in
-      let own = retired_part old.object old.last (suc counter) server sound in
-      omega (arith, load, part, own)
+      omega (arith, load, part, retired_part old.object old.last (suc counter) server sound)
 
   pub load_within : (server : ℕ) → server < length loads → get_or loads server 0 ≤ MOST_BYTES
   load_within server there =
       let lengths = counted.summed.servers in
       let below : server < length servers = omega (arith, there, lengths) in
       let load = counted.summed.stored server below in
-      let part = stored_part counted.kept server below in
-      let most = counted.kept.within in
-      omega (arith, load, part, most)
+      omega (arith, load, stored_part counted.kept server below, counted.kept.within)
 
   -- what is freed is a part of what all banks store
   pub part_freed : {freed : ℕ} → freed ≡ base_bytes old.object → freed ≤ bytes
   part_freed is =
-      let total = retired_total old.object old.last (suc counter) sound in
-      let all = part_at counted.kept at in
-      omega (arith, is, total, all)
+      omega (arith, is, retired_total old.object old.last (suc counter) sound, part_at counted.kept at)
 
   module _ {new : State} (is : new ≡ made Step.Retire (counter + 1) old) (few : counter + 1 ≤ MOST_STEPS) {freed : ℕ}
       (freed_is : freed ≡ base_bytes old.object) where
@@ -166,7 +156,4 @@ module _ {servers : List Bool} {layouts : List Layout} {counter : ℕ} {entries 
         let before = objects_total (length servers) counter (objects_of entries) counted.kept.objects in
         let after = objects_total (length servers) (counter + 1) (objects_of (set_value_at entries place new)) retire_kept.objects in
         let was = counted.kept.stored in
-        let fell = retire_kept.stored in
-        let part = part_freed freed_is in
-        let same = ap stored_all view in
-        omega (arith, before, after, was, fell, part, same)
+        omega (arith, before, after, was, retire_kept.stored, part_freed freed_is, ap stored_all view)

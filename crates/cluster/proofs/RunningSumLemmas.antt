@@ -12,7 +12,7 @@ use Rattle.record.specs.Steps.{Step, opened_object}
 use Rattle.soundness.proofs.Accounting.MailAfterStepLemmas.{stored-opened}
 use Rattle.soundness.proofs.Accounting.StoredChangeLemmas.{stored-changed}
 use Rattle.register.specs.State.{State, made}
-use Rattle.register.proofs.ListLemmas.{all_pushed}
+use Rattle.soundness.proofs.ListLemmas.{all_push}
 use Rattle.cluster.specs.Accounts.{object_sum}
 use Rattle.cluster.specs.Cluster.{Named, Cluster, all_up, named}
 use Rattle.cluster.specs.Steps.{with_step, with_object}
@@ -38,9 +38,7 @@ pub waiting_within : {cluster : Cluster} {bytes count waiting : ℕ} {loads : Li
     → waiting ≤ MOST_OBJECTS * (MOST_MESSAGES * LONGEST_VALUE)
 waiting_within {cluster} counted =
     let all = sum_few (λ o. of.mailed o.state.object) (MOST_MESSAGES * LONGEST_VALUE) cluster.objects counted.summed.few in
-    let waits = counted.summed.mailed in
-    let few = counted.kept.few_objects in
-    omega (arith, all, waits, few)
+    omega (arith, all, counted.summed.mailed, counted.kept.few_objects)
 
 -- The sums over a step of the object of this name, which has these loads more
 module _ (cluster : Cluster) (waiting : ℕ) (loads : List ℕ) (name : List ℕ) (step : Step) (old : State)
@@ -56,8 +54,7 @@ module _ (cluster : Cluster) (waiting : ℕ) (loads : List ℕ) (name : List ℕ
       AreSummed (with_step cluster name step) later more
   step_summed later same few more servers grown = record {
     mailed = let all = sum_changed name (made step (suc cluster.counter)) old (λ s. of.mailed s.object) cluster.objects here in
-        let before = summed.mailed in
-        omega (arith, all, before, same);
+        omega (arith, all, summed.mailed, same);
     few = all_changed name (made step (suc cluster.counter)) old
         (λ o. of.mailed o.state.object ≤ MOST_MESSAGES * LONGEST_VALUE) cluster.objects here
         (λ n p. few) summed.few;
@@ -65,9 +62,7 @@ module _ (cluster : Cluster) (waiting : ℕ) (loads : List ℕ) (name : List ℕ
     stored = λ server there.
         let all = sum_changed name (made step (suc cluster.counter)) old (λ s. of.stored s.object server) cluster.objects here in
         let own = stored-changed fragment old.object old.last (suc cluster.counter) step server sound in
-        let before = summed.stored server there in
-        let now = grown server there in
-        omega (arith, all, own, before, now);
+        omega (arith, all, own, summed.stored server there, grown server there);
   }
 
 module _ {servers : List Bool} {layouts : List Layout} {counter : ℕ} {entries : List Entry} {name : List ℕ}
@@ -129,20 +124,18 @@ object_summed cluster waiting loads name layout delta summed =
           let before = summed.mailed in
           let none : of.mailed object.state.object ≡ 0 = refl in
           omega (arith, all, before, none);
-      few = all_pushed (λ o. of.mailed o.state.object ≤ MOST_MESSAGES * LONGEST_VALUE) cluster.objects object summed.few (omega arith);
+      few = all_push (λ o. of.mailed o.state.object ≤ MOST_MESSAGES * LONGEST_VALUE) cluster.objects object summed.few (omega arith);
       servers = summed.servers;
       stored = λ server there.
           let all = sum_pushed (λ o. of.stored o.state.object server) cluster.objects object in
           let before = summed.stored server there in
-          let none = stored-opened layout delta (suc cluster.counter) server in
-          omega (arith, all, before, none);
+          omega (arith, all, before, stored-opened layout delta (suc cluster.counter) server);
     }
 
 -- A cluster without objects
 none_at : (count server : ℕ) → get_or (all_none count) server 0 ≡ 0
-none_at zero server = refl
-none_at (suc count) zero = refl
 none_at (suc count) (suc server) = none_at count server
+none_at _ _ = refl
 
 none_length : (count : ℕ) → length (all_none count) ≡ length (all_up count)
 none_length zero = refl

@@ -27,8 +27,7 @@ sum_most : {X : Type 0} (f : X → ℕ) (xs : List X) (i : ℕ) (y d : X) (n : �
 sum_most f [] i y d n more = omega arith
 sum_most f (x ∷ xs) zero y d n more = omega (arith, more, sum_by-cons f y xs, sum_by-cons f x xs)
 sum_most f (x ∷ xs) (suc i) y d n more =
-    let rest = sum_most f xs i y d n more in
-    omega (arith, rest, sum_by-cons f x (slice_set xs i y), sum_by-cons f x xs)
+    omega (arith, sum_most f xs i y d n more, sum_by-cons f x (slice_set xs i y), sum_by-cons f x xs)
 
 -- all banks store no more than before with the piece that the request brings
 pub served_most : {cluster : Cluster} {place : ℕ} {object : Object} → (room : HasRoom cluster place object) → (now : ℕ)
@@ -62,5 +61,4 @@ pub part_at : {servers : List Bool} {layouts : List Layout} {counter : ℕ} {ent
     IsAt entries name place old → all_bytes old.object.banks ≤ bytes
 part_at {entries = entries} {name = name} {old = old} kept at =
     let part = part_named (λ s. all_bytes s.object.banks) name old (objects_of entries) (named_at at) in
-    let all = kept.stored in
-    omega (arith, part, all)
+    omega (arith, part, kept.stored)

@@ -1,7 +1,7 @@
 -- What a served request makes of the running sums.
 use Rattle.std.proofs.Common.{◌≡◌, ℕ, zero, suc, ◌+◌, ◌-◌, ◌*◌, ◌≤◌, ◌<◌, ◌==◌}
 use Rattle.std.proofs.Common.{true, false, if◌then◌else◌, Bool, List, [], ◌∷◌, length, get_or}
-use Rattle.std.proofs.Common.{slice_get, slice_set, Option, Some, refl, sym, ap, subst, ◌∙◌, arith, add-one}
+use Rattle.std.proofs.Common.{slice_get, slice_set, Some, refl, sym, ap, subst, ◌∙◌, arith, add-one}
 use Rattle.std.specs.List.{AllByRecursion}
 use Rattle.std.proofs.lemmas.Bool.Decides.{nat_tests}
 use Rattle.tag.specs.declared.limits.TheConstants.{LONGEST_VALUE, MOST_BYTES, MOST_MESSAGES, MOST_STEPS}
@@ -10,9 +10,7 @@ use Rattle.layout.specs.Layout.{Layout}
 use Rattle.encoder.specs.Fragment.{fragment}
 use Rattle.bank.specs.Bytes.{added_bytes}
 use Rattle.bank.specs.Serve.{freed_bytes}
-use Rattle.mail.specs.declared.message.Message.{Message}
-use Rattle.mail.specs.declared.message.Body.{Body}
-use Rattle.record.specs.Accounts.{for_server, some_bytes, stored_by, stored_by_body, freed_by, freed_by_body}
+use Rattle.record.specs.Accounts.{stored_by, freed_by}
 use Rattle.record.specs.Accounts as of
 use Rattle.record.specs.Records.{Object, layout_at, bank_at, no_layout}
 use Rattle.soundness.specs.Sound.{IsSound}
@@ -20,7 +18,7 @@ use Rattle.record.specs.Steps.{Step, stepped}
 use Rattle.soundness.proofs.Accounting.StoredChangeLemmas.{stored-changed}
 use Rattle.register.specs.Position.{all_bytes}
 use Rattle.register.specs.State.{State, made}
-use Rattle.register.proofs.ListLemmas.{all_found, found_or, length_set}
+use Rattle.soundness.proofs.ListLemmas.{all_get}
 use Rattle.cluster.specs.Cluster.{Cluster}
 use Rattle.cluster.specs.Kept.{HasMembersBelow, AreBanked}
 use Rattle.cluster.specs.Serving.{GoesTo}
@@ -33,12 +31,14 @@ use Rattle.cluster.proofs.ServedBytesLemmas.{served_most, part_named, part_at}
 use Rattle.cluster.proofs.ServerTotalLemmas.{sum_same, sum_added, sum_one, chosen, object_total}
 use Rattle.cluster.proofs.StepEffectLemmas.{serve_served}
 use Rattle.cluster.proofs.StepInvariantLemmas.{placed}
+use Rattle.std.proofs.lemmas.Option.{get_or_from_slice_get}
+use Rattle.std.proofs.lemmas.List.{length-set}
 use Rattle.cluster.proofs.SumBoundLemmas.{stored_part}
 
 member_below : (servers : ℕ) (layouts : List Layout) (position member server : ℕ) → AllByRecursion (HasMembersBelow servers) layouts
     → slice_get (get_or layouts position no_layout).members member ≡ Some server → server < servers
 member_below servers [] position member server below is = absurd (cc)
-member_below servers (l ∷ layouts) zero member server below is = all_found (λ m. m < servers) l.members member server below.0 is
+member_below servers (l ∷ layouts) zero member server below is = all_get (λ m. m < servers) l.members member server below.0 is
 member_below servers (l ∷ layouts) (suc position) member server below is = member_below servers layouts position member server below.1 is
 
 same_suc : (a b : ℕ) → (suc a == suc b) ≡ (a == b)
@@ -94,28 +94,22 @@ module _ {cluster : Cluster} {place : ℕ} {object : Object} (room : HasRoom clu
   served_there servers below =
       member_below servers object.layouts room.message.position room.message.member server below (goes room.message room.waits)
 
+  to_server : get_or (layout_at object room.message.position).members room.message.member 0 ≡ server
+  to_server =
+      get_or_from_slice_get (layout_at object room.message.position).members room.message.member server 0 (goes room.message room.waits)
+
   pub served_by_one : (other : ℕ) → stored_by object (Step.Serve place) other ≡ (if server == other then added else 0)
-  served_by_one other =
-      ap (λ (found : Option Message). some_bytes found (λ message. stored_by_body object message message.body other)) room.waits
-      ∙ ap (λ (b : Body). stored_by_body object room.message b other) room.is
-      ∙ ap (λ n. for_server other n added)
-      (found_or (layout_at object room.message.position).members room.message.member server 0 (goes room.message room.waits))
+  served_by_one other = cc (room.waits, room.is, to_server)
 
   pub freed_by_one : (now other : ℕ) → freed_by object (Step.Serve place) now other ≡ (if server == other then freed now else 0)
-  freed_by_one now other =
-      ap (λ (found : Option Message). some_bytes found (λ message. freed_by_body object message message.body now other)) room.waits
-      ∙ ap (λ (b : Body). freed_by_body object room.message b now other) room.is
-      ∙ ap (λ n. for_server other n (freed now))
-      (found_or (layout_at object room.message.position).members room.message.member server 0 (goes room.message room.waits))
+  freed_by_one now other = cc (room.waits, room.is, to_server)
 
   -- what one server stores of it
   pub served_part : (last now other : ℕ) → IsSound fragment object last →
       of.stored (stepped fragment (Step.Serve place) now object) other + (if server == other then freed now else 0)
       ≡ of.stored object other + (if server == other then added else 0)
   served_part last now other sound =
-      ap (λ n. of.stored (stepped fragment (Step.Serve place) now object) other + n) (sym (freed_by_one now other))
-      ∙ stored-changed fragment object last now (Step.Serve place) other sound
-      ∙ ap (λ n. of.stored object other + n) (served_by_one other)
+      cc (freed_by_one now other, stored-changed fragment object last now (Step.Serve place) other sound, served_by_one other)
 
   -- what all banks store
   pub served_total : (servers last now : ℕ) → IsSound fragment object last → AllByRecursion (HasMembersBelow servers) object.layouts
@@ -193,7 +187,7 @@ module _ {servers : List Bool} {layouts : List Layout} {counter : ℕ} {entries 
         kept = serve_at counted.kept at (Step.Serve place) is few (serve_served place)
             stored (omega (arith, was, now, exchanged)) (omega (arith, exchanged, within));
         summed = loaded_at counted.summed at sound (Step.Serve place) is waited waits later wait_was wait_now wait_few wait_same more
-            (ap (λ (xs : List ℕ). length xs) loaded ∙ length_set loads server _)
+            (ap (λ (xs : List ℕ). length xs) loaded ∙ length-set loads server _)
             (λ other below.
             ap (λ (xs : List ℕ). get_or xs other 0 + freed_by old.object (Step.Serve place) (suc counter) other) loaded
             ∙ ap (λ n. get_or (slice_set loads server (get_or loads server 0 + after - before)) other 0 + n)

@@ -42,8 +42,7 @@ sum_past k n from zero before = refl
 sum_past k n from (suc count) before =
     let rest = sum_past k n (suc from) count (omega (arith, before)) in
     let other : (k == from) ≡ false = grind (arith, nat_tests, before) in
-    let here = passed (k == from) n other in
-    omega (arith, rest, here)
+    omega (arith, rest, passed (k == from) n other)
 
 -- one server counts it
 pub sum_one : (k n from count : ℕ) → from ≤ k → k < from + count → member_sum (λ s. if k == s then n else 0) from count ≡ n
@@ -55,40 +54,33 @@ sum_one k n from (suc count) low high = pick (k == from) refl (λ above. sum_one
     pick true e later =
         let same : k ≡ from = grind (arith, nat_tests, e) in
         let rest = sum_past k n (suc from) count (omega (arith, same)) in
-        let here = chosen (k == from) n e in
-        omega (arith, rest, here)
+        omega (arith, rest, chosen (k == from) n e)
     pick false e later =
         let above : suc from ≤ k = grind (arith, nat_tests, e, low) in
-        let rest = later above in
-        let here = passed (k == from) n e in
-        omega (arith, rest, here)
+        omega (arith, later above, passed (k == from) n e)
 
 position_total : (servers : ℕ) (members : List ℕ) (banks : List Bank) → AllByRecursion (λ member. member < servers) members →
     length banks ≡ length members → member_sum (λ s. position_bytes s members banks) 0 servers ≡ banks_bytes banks
 position_total servers [] [] below same = sum_none 0 servers
-position_total servers [] (b ∷ banks) below same = absurd (omega (arith, same))
-position_total servers (m ∷ members) [] below same = absurd (omega (arith, same))
 position_total servers (m ∷ members) (b ∷ banks) below same =
     let rest = position_total servers members banks below.1 (omega (arith, same)) in
     let first = below.0 in
     let one = sum_one m (bank_bytes b) 0 servers (omega arith) (omega (arith, first)) in
     let both = sum_added (λ s. if m == s then bank_bytes b else 0) (λ s. position_bytes s members banks) 0 servers in
-    let all = sum_by-cons bank_bytes b banks in
-    omega (arith, rest, one, both, all)
+    omega (arith, rest, one, both, sum_by-cons bank_bytes b banks)
+position_total servers _ _ below same = absurd (omega (arith, same))
 
 -- of one object
 pub object_total : (servers : ℕ) (layouts : List Layout) (banks : List (List Bank)) →
     AllByRecursion (HasMembersBelow servers) layouts → AreBanked layouts banks →
     member_sum (λ s. stored_bytes s layouts banks) 0 servers ≡ all_bytes banks
 object_total servers [] [] below banked = sum_none 0 servers
-object_total servers [] (b ∷ banks) below banked = absurd banked
-object_total servers (l ∷ layouts) [] below banked = absurd banked
 object_total servers (l ∷ layouts) (b ∷ banks) below banked =
     let rest = object_total servers layouts banks below.1 banked.1 in
     let one = position_total servers l.members b below.0 banked.0 in
     let both = sum_added (λ s. position_bytes s l.members b) (λ s. stored_bytes s layouts banks) 0 servers in
-    let all = sum_by-cons banks_bytes b banks in
-    omega (arith, rest, one, both, all)
+    omega (arith, rest, one, both, sum_by-cons banks_bytes b banks)
+object_total servers _ _ below banked = absurd banked
 
 -- of all objects
 pub objects_total : (servers counter : ℕ) (objects : List Named) → AllByRecursion (IsPlaced servers counter) objects

@@ -16,7 +16,8 @@ use Rattle.record.specs.Wants.{current_phase}
 use Rattle.record.specs.Steps.{Step, stepped, on_call, on_message, begun_object, advanced_object}
 use Rattle.record.specs.Steps.{asked_again, supplied_by, taken_calls, taken_by, served_by, opened_banks}
 use Rattle.register.specs.Position.{all_bytes}
-use Rattle.register.proofs.ListLemmas.{length_map, length_set, length_push}
+use Rattle.std.proofs.lemmas.List.{length-set}
+use Rattle.register.proofs.ListLemmas.{length_map, length_push}
 use Rattle.register.proofs.OpenedObjectLemmas.{opened_banks_bytes, bytes_push}
 use Rattle.cluster.specs.Kept.{AreBanked}
 
@@ -63,7 +64,7 @@ on_message_quiet object (Some message) change quiet = quiet message
 begun_quiet : (object : Object) (index : ℕ) (call : Call) (next : Option (Kind × ℕ)) (now : ℕ) →
     IsQuiet object (begun_object fragment object index call next now)
 begun_quiet object index call None now = unchanged object
-begun_quiet object index call (Some next) now = record { layouts = refl; banks = refl; calls = length_set object.calls index _ }
+begun_quiet object index call (Some next) now = record { layouts = refl; banks = refl; calls = length-set object.calls index _ }
 
 asked_quiet : (object : Object) (call : Call) (phase : Option Phase) → IsQuiet object (asked_again fragment object call phase)
 asked_quiet object call None = unchanged object
@@ -99,17 +100,17 @@ pub settle_quiet : (index : ℕ) (value : List ℕ) (object : Object) (now : ℕ
     IsQuiet object (stepped fragment (Step.Settle index value) now object)
 settle_quiet index value object now =
     on_call_quiet object (slice_get object.calls index) _
-    (λ call. record { layouts = refl; banks = refl; calls = length_set object.calls index _ })
+    (λ call. record { layouts = refl; banks = refl; calls = length-set object.calls index _ })
 
 pub answer_quiet : (index : ℕ) (object : Object) (now : ℕ) → IsQuiet object (stepped fragment (Step.AnswerCall index) now object)
 answer_quiet index object now =
     on_call_quiet object (slice_get object.calls index) _
-    (λ call. record { layouts = refl; banks = refl; calls = length_set object.calls index _ })
+    (λ call. record { layouts = refl; banks = refl; calls = length-set object.calls index _ })
 
 taken_length : (calls : List Call) (message : Message) (now : ℕ) (found : Option Call) →
     length (taken_calls calls message now found) ≡ length calls
 taken_length calls message now None = refl
-taken_length calls message now (Some call) = length_set calls (index_by_id calls message.call) _
+taken_length calls message now (Some call) = length-set calls (index_by_id calls message.call) _
 
 taken_quiet : (object : Object) (place : ℕ) (message : Message) (it : Body) (now : ℕ) →
     IsQuiet object (taken_by object place message it now)
@@ -137,7 +138,7 @@ repeat_quiet place object now =
 
 one_more : (calls : List Call) (index : ℕ) (fresh begun : Call) →
     length (slice_set (calls ++ fresh ∷ []) index begun) ≡ suc (length calls)
-one_more calls index fresh begun = length_set (calls ++ fresh ∷ []) index begun ∙ length_push calls fresh
+one_more calls index fresh begun = length-set (calls ++ fresh ∷ []) index begun ∙ length_push calls fresh
 
 pub read_called : (id : ℕ) (object : Object) (now : ℕ) → IsCalled object (stepped fragment (Step.CallRead id) now object)
 read_called id object now = record { layouts = refl; banks = refl; calls = one_more object.calls (length object.calls) _ _ }
@@ -154,9 +155,8 @@ opened_length (m ∷ members) member delta now = ap suc (opened_length members (
 banked_pushed : (layouts : List Layout) (banks : List (List Bank)) (layout : Layout) (more : List Bank) → AreBanked layouts banks
     → length more ≡ length layout.members → AreBanked (layouts ++ layout ∷ []) (banks ++ more ∷ [])
 banked_pushed [] [] layout more banked same = (same, tt)
-banked_pushed [] (b ∷ banks) layout more banked same = absurd banked
-banked_pushed (l ∷ layouts) [] layout more banked same = absurd banked
 banked_pushed (l ∷ layouts) (b ∷ banks) layout more banked same = (banked.0, banked_pushed layouts banks layout more banked.1 same)
+banked_pushed _ _ layout more banked same = absurd banked
 
 pub move_moved : (id : ℕ) (layout : Layout) (object : Object) (now : ℕ) →
     IsMoved object layout (stepped fragment (Step.CallMove id layout) now object)
@@ -173,17 +173,16 @@ move_moved id layout object now = record {
 banked_set : (layouts : List Layout) (banks : List (List Bank)) (position : ℕ) (more : List Bank) → AreBanked layouts banks
     → length more ≡ length (get_or banks position []) → AreBanked layouts (slice_set banks position more)
 banked_set [] [] position more banked same = tt
-banked_set [] (b ∷ banks) position more banked same = absurd banked
-banked_set (l ∷ layouts) [] position more banked same = absurd banked
 banked_set (l ∷ layouts) (b ∷ banks) zero more banked same = (same ∙ banked.0, banked.1)
 banked_set (l ∷ layouts) (b ∷ banks) (suc position) more banked same = (banked.0, banked_set layouts banks position more banked.1 same)
+banked_set _ _ position more banked same = absurd banked
 
 served_parts : (object : Object) (place : ℕ) (message : Message) (it : Body) (now : ℕ) →
     IsServed object (served_by object place message it now)
 served_parts object place message (body.Request asked) now = record {
   layouts = refl;
   banked = λ all. banked_set object.layouts object.banks message.position _ all
-      (length_set (get_or object.banks message.position []) message.member _);
+      (length-set (get_or object.banks message.position []) message.member _);
   calls = refl;
 }
 served_parts object place message (body.Reply kind made) now = record { layouts = refl; banked = λ all. all; calls = refl }

@@ -7,7 +7,8 @@ use Rattle.layout.specs.Layout.{Layout}
 use Rattle.record.specs.Steps.{Step}
 use Rattle.register.specs.Position.{all_bytes}
 use Rattle.register.specs.State.{State, made}
-use Rattle.register.proofs.ListLemmas.{all_pushed, all_weaker}
+use Rattle.soundness.proofs.ListLemmas.{all_push}
+use Rattle.register.proofs.ListLemmas.{all_weaker}
 use Rattle.cluster.specs.Cluster.{Named, Cluster, named, with_changed}
 use Rattle.cluster.specs.Kept.{HasMembersBelow, AreBanked, IsPlaced, IsKeptCluster}
 use Rattle.cluster.specs.Steps.{with_step}
@@ -59,8 +60,7 @@ module _ (cluster : Cluster) (bytes count : ℕ) (name : List ℕ) (step : Step)
         subst (λ n. n ≤ MOST_OBJECTS) (sym (length_changed cluster.objects name (made step (suc cluster.counter)))) kept.few_objects;
     few_steps = few;
     stored = let all = sum_changed name (made step (suc cluster.counter)) old (λ s. all_bytes s.object.banks) cluster.objects here in
-        let before = kept.stored in
-        omega (arith, all, before, same_bytes);
+        omega (arith, all, kept.stored, same_bytes);
     within = within;
     called = let all = sum_changed name (made step (suc cluster.counter)) old (λ s. length s.object.calls) cluster.objects here in
         let before = kept.called in
@@ -92,7 +92,7 @@ module _ (cluster : Cluster) (bytes count : ℕ) (name : List ℕ) (step : Step)
       let same = moved.banks in
       let length_more = moved.calls in
       step_kept bytes (count + 1) (λ all. subst (AllByRecursion (HasMembersBelow (length cluster.servers))) (sym moved.layouts)
-      (all_pushed (HasMembersBelow (length cluster.servers)) old.object.layouts layout all below)) moved.banked
+      (all_push (HasMembersBelow (length cluster.servers)) old.object.layouts layout all below)) moved.banked
       (ap (λ n. bytes + n) (sym same)) kept.within (omega (arith, length_more)) (omega arith)
 
   pub serve_kept : (more_bytes : ℕ) → more_bytes + all_bytes old.object.banks ≡ bytes + all_bytes new.object.banks →

@@ -28,13 +28,8 @@ past_unless true refusal later none = none
 past_unless false refusal later none = absurd (cc)
 
 past_settle : (w : Want) (later : Option Refusal) → if_settle w later ≡ None → later ≡ None
-past_settle want.Replies later none = absurd (cc)
-past_settle want.Advance later none = absurd (cc)
-past_settle want.Again later none = absurd (cc)
-past_settle (want.Supply k n) later none = absurd (cc)
 past_settle (want.Settle k len) later none = none
-past_settle want.Answer later none = absurd (cc)
-past_settle want.Done later none = absurd (cc)
+past_settle _ later none = absurd (cc)
 
 pub past_step : (now : ℕ) (later : Option Refusal) → if_step now later ≡ None → now ≤ MOST_STEPS
 past_step now later none = go (nat_le now MOST_STEPS) refl none

@@ -37,20 +37,16 @@ pub stored_part : {cluster : Cluster} {bytes count : ℕ} → IsKeptCluster clus
 stored_part {cluster} kept server there =
     let part = member_part (λ s. object_sum (λ o. of.stored o.state.object s) cluster.objects) server (length cluster.servers) there in
     let all = objects_total (length cluster.servers) cluster.counter cluster.objects kept.objects in
-    let total = kept.stored in
-    omega (arith, part, all, total)
+    omega (arith, part, all, kept.stored)
 
 -- what waits for one object
 bytes_few : (messages : List Message) → AllByRecursion (λ m. message_bytes m ≤ LONGEST_VALUE) messages →
     mail_bytes messages ≤ length messages * LONGEST_VALUE
 bytes_few [] short = omega arith
 bytes_few (m ∷ ms) short =
-    let rest = bytes_few ms short.1 in
-    let first = short.0 in
-    omega (arith, sum_by-cons message_bytes m ms, rest, first)
+    omega (arith, sum_by-cons message_bytes m ms, bytes_few ms short.1, short.0)
 
 pub waiting_few : (object : Object) (step : ℕ) → IsSound fragment object step → length object.mail ≤ MOST_MESSAGES →
     mail_bytes object.mail ≤ MOST_MESSAGES * LONGEST_VALUE
 waiting_few object step sound few =
-    let bytes = bytes_few object.mail (mail_short object step sound) in
-    omega (arith, bytes, few)
+    omega (arith, bytes_few object.mail (mail_short object step sound), few)

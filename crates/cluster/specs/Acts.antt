@@ -5,7 +5,7 @@ use Rattle.register.specs.declared.act.Act.{Act}
 use Rattle.register.specs.declared.act.Act.TheVariants as act
 use Rattle.cluster.specs.Kept.{HasMembersBelow}
 
--- so many servers allow an act: never a serve, a move where each member of its layout is a server, and any other act
+-- this many servers allow the act: a move if each member of its layout is a server, and any other act but a serve
 abbrev pub ServersAllow : (servers : ℕ) → Act → Type 0
 ServersAllow servers (act.CallMove layout) = HasMembersBelow servers layout
 ServersAllow servers (act.Serve place) = ⊥

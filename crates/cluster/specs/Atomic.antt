@@ -1,4 +1,4 @@
--- What holds of every cluster, whatever steps made it.
+-- What holds for every cluster, whatever steps made it.
 use Rattle.std.specs.Prelude.{◌≡◌, ◌<◌, ◌≤◌, ◌+◌, ◌⊎◌, ℕ, List, Some, length, map, slice_get}
 use Rattle.std.specs.List.{AllByRecursion, range_with_len}
 use Rattle.tag.specs.declared.tag.Tag.{Tag}
@@ -60,8 +60,8 @@ KeepsFew object =
     member < length (layout_at object position).members → object.delta ≡ Some delta →
     final_pieces (bank_at object position member) ≤ delta + 1
 
--- a read's complete fetch lacks pieces only where its position was retired by its end, or at least delta + 1 writes
--- with greater tags were called before that end and not answered before the read last began
+-- a read's complete fetch lacks pieces only if its position was retired by its end, or at least delta + 1 writes with
+-- greater tags were called before that end and not answered before the read last began
 abbrev pub LacksWhereOvertaken : Object → Type 0
 LacksWhereOvertaken object =
     (index place end : ℕ) (call : Call) (phase : Phase) (tag : Tag) →
@@ -76,7 +76,7 @@ HaveEnough cluster = AllByRecursion (λ o. FetchesHaveEnough o.state.object) clu
 abbrev pub KeepFew : Cluster → Type 0
 KeepFew cluster = AllByRecursion (λ o. KeepsFew o.state.object) cluster.objects
 
--- a read of any object lacks pieces only where its position was retired, or at least delta + 1 newer writes overlap it
+-- a read of any object lacks pieces only if its position was retired, or at least delta + 1 newer writes overlap it
 abbrev pub LackWhereOvertaken : Cluster → Type 0
 LackWhereOvertaken cluster = AllByRecursion (λ o. LacksWhereOvertaken o.state.object) cluster.objects
 

@@ -22,16 +22,16 @@ use Rattle.cluster.specs.Accounts.{banks_all}
 abbrev pub next : Cluster → ℕ
 next cluster = suc cluster.counter
 
--- NoObject where there is no object; otherwise the cause that is read of the object
+-- NoObject if there is no object; otherwise the cause that is read from the object
 abbrev pub if_object : Option State → (Object → Option Refusal) → Option Refusal
 if_object None cause = Some NoObject
 if_object (Some state) cause = cause state.object
 
--- NoObject where no object has this name; otherwise the cause that is read of that object
+-- NoObject if no object has this name; otherwise the cause that is read from that object
 abbrev pub object_cause : Cluster → (name : List ℕ) → (Object → Option Refusal) → Option Refusal
 object_cause cluster name cause = if_object (named cluster.objects name) cause
 
--- BadLayout where there is no layout; otherwise the cause that is read of the layout
+-- BadLayout if there is no layout; otherwise the cause that is read from the layout
 abbrev pub if_layout : Option Layout → (Layout → Option Refusal) → Option Refusal
 if_layout None cause = Some BadLayout
 if_layout (Some layout) cause = cause layout
@@ -72,7 +72,7 @@ message_cause cluster object message (body.Request asked) =
     (if_step (next cluster) (unless (nat_le (banks_all cluster.objects + request_bytes asked) MOST_BYTES) Full None))
 message_cause cluster object message (body.Reply kind made) = Some NotNow
 
--- why the message at this place is not served; NoMessage where there is none
+-- why the message at this place is not served; NoMessage if there is none
 abbrev pub serving_cause : Cluster → (place : ℕ) → Object → Option Refusal
 serving_cause cluster place object =
     if_message (slice_get object.mail place) (λ message. message_cause cluster object message message.body)
@@ -82,11 +82,11 @@ abbrev pub can_handle : Cluster → Object → Message → Body → Bool
 can_handle cluster object message (body.Request asked) = is_reached cluster object message
 can_handle cluster object message (body.Reply kind made) = true
 
--- whether the message at this place can be handled; none where there is no message
+-- whether the message at this place can be handled; none if there is no message
 abbrev pub handled_at : Cluster → (place : ℕ) → Object → Option Bool
 handled_at cluster place object =
     option_map (λ message. can_handle cluster object message message.body) (slice_get object.mail place)
 
--- NoMessage where there is no message at this place
+-- NoMessage if there is no message at this place
 abbrev pub place_cause : (place : ℕ) → Object → Option Refusal
 place_cause place object = if_message (slice_get object.mail place) (λ message. None)

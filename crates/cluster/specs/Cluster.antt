@@ -33,7 +33,7 @@ cluster_code layout state =
     (λ c. (c.servers, (c.layouts, (c.objects, c.counter))))
     (λ p. record { servers = p.0; layouts = p.1.0; objects = p.1.1.0; counter = p.1.1.1 }) (λ _. refl)
 
--- the object of this name; none where no object has it
+-- the object of this name; none if no object has it
 abbrev pub named : List Named → List ℕ → Option State
 named [] name = None
 named (object ∷ objects) name = if bytes_eq name object.name then Some object.state else named objects name
@@ -50,25 +50,25 @@ abbrev pub place_of : List Named → List ℕ → ℕ
 place_of [] name = 0
 place_of (object ∷ objects) name = if bytes_eq name object.name then 0 else suc (place_of objects name)
 
--- what is read of an object; none where there is no object
+-- what is read from an object; none if there is no object
 abbrev pub if_some : {X : Type 0} → Option State → (Object → Option X) → Option X
 if_some None read = None
 if_some (Some state) read = read state.object
 
--- what is read of the object of this name; none where no object has it
+-- what is read from the object of this name; none if no object has it
 abbrev pub if_named : {X : Type 0} → Cluster → (name : List ℕ) → (Object → Option X) → Option X
 if_named cluster name read = if_some (named cluster.objects name) read
 
--- the id of the next call of an object, which is its number; 0 where there is no object
+-- the id of the next call of an object, which is its number; 0 if there is no object
 abbrev pub next_id_in : Option State → ℕ
 next_id_in None = 0
 next_id_in (Some state) = next_id state.object
 
--- the id of the next call of the object of this name; 0 where no object has it
+-- the id of the next call of the object of this name; 0 if no object has it
 abbrev pub next_call_id : Cluster → (name : List ℕ) → ℕ
 next_call_id cluster name = next_id_in (named cluster.objects name)
 
--- the layout of this number; the layout without members where there is none
+-- the layout of this number; the layout without members if there is none
 abbrev pub layout_numbered : Cluster → (id : ℕ) → Layout
 layout_numbered cluster id = get_or cluster.layouts id no_layout
 

@@ -6,15 +6,15 @@ use Rattle.register.specs.State.{State}
 use Rattle.cluster.specs.Cluster.{Named, Cluster, if_some, place_of}
 use Rattle.cluster.specs.Causes.{if_object}
 
--- the object at this index; none where there is none
+-- the object at this index; none if there is none
 abbrev pub object_at : List Named → (place : ℕ) → Option State
 object_at objects place = option_map (λ o. o.state) (slice_get objects place)
 
--- what is read of the object at this index; none where there is no object
+-- what is read from the object at this index; none if there is no object
 abbrev pub if_placed : {X : Type 0} → Cluster → (place : ℕ) → (Object → Option X) → Option X
 if_placed cluster place read = if_some (object_at cluster.objects place) read
 
--- NoObject where there is no object at this index; otherwise the cause that is read of it
+-- NoObject if there is no object at this index; otherwise the cause that is read from it
 abbrev pub placed_cause : Cluster → (place : ℕ) → (Object → Option Refusal) → Option Refusal
 placed_cause cluster place cause = if_object (object_at cluster.objects place) cause
 

@@ -18,7 +18,7 @@ abbrev pub with_layout : Cluster → Layout → Cluster
 with_layout cluster layout =
     record cluster { layouts = cluster.layouts ++ layout ∷ []; counter = suc cluster.counter }
 
--- the cluster after one more object is created with this layout; its banks keep `delta` finalized versions beside the
+-- the cluster after one more object is created with this layout; its banks keep `delta` finalized versions besides the
 -- newest
 abbrev pub with_object : Cluster → (name : List ℕ) → Layout → (delta : Option ℕ) → Cluster
 with_object cluster name layout delta = record cluster {

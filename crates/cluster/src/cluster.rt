@@ -31,7 +31,7 @@ pub type LayoutId = u32;
 /// All objects by name, in order of creation, with the layouts and the servers.
 ///
 /// Each method that changes the cluster is one step, and raises the counter by one. A method that is refused changes
-/// nothing, not even the counter. Where several refusals apply, it returns the first of them in the order NoObject,
+/// nothing, not even the counter. If several refusals apply, it returns the first of them in the order NoObject,
 /// ObjectExists, NoCall, NoMessage, Down, NotNow, MovePending, BadLayout, TooLong, Collected, WrongCode, Full,
 /// NoMemory. `NoMemory` means that an allocation was refused; a method whose comment says that it allocates no memory
 /// never returns it.
@@ -81,7 +81,8 @@ impl Model for Cluster {
 }
 
 impl Cluster {
-    /// A cluster of `servers` servers, numbered from 0, all up, with no layouts and no objects. It allocates no memory.
+    /// Makes a cluster of `servers` servers, numbered from 0, all up, with no layouts and no objects. It allocates no
+    /// memory.
     pub fn new(alloc: Global, servers: u8) -> Cluster
         ensures { result ≡ record { servers = all_up servers; layouts = []; objects = []; counter = 0 } }
     {
@@ -97,7 +98,7 @@ impl Cluster {
         }
     }
 
-    /// How many steps were made: at most `MOST_STEPS`.
+    /// Returns how many steps were made: at most `MOST_STEPS`.
     pub fn counter(&self) -> Stamp
         ensures counter { result ≡ self.now.counter }
         ensures within { result ≤ MOST_STEPS }
@@ -105,7 +106,7 @@ impl Cluster {
         self.counter
     }
 
-    /// How many servers there are.
+    /// Returns how many servers there are.
     pub fn servers(&self) -> u8
         ensures { result ≡ length self.now.servers }
     {

@@ -22,7 +22,7 @@ impl Model for Loads {
 }
 
 impl Loads {
-    /// Zero bytes for each of this many servers. It allocates no memory.
+    /// Makes loads of zero bytes for each of this many servers. It allocates no memory.
     pub fn new(count: u8) -> Loads
         ensures { result ≡ all_none count }
     {
@@ -33,7 +33,7 @@ impl Loads {
         Loads { bytes }
     }
 
-    /// How many bytes a server stores.
+    /// Returns how many bytes a server stores.
     pub fn at(&self, server: u8) -> u64
         requires { server < length self.now }
         ensures { result ≡ get_or self.now server 0 }

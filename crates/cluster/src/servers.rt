@@ -21,7 +21,7 @@ impl Model for Servers {
 }
 
 impl Servers {
-    /// This many servers, all up. It allocates no memory.
+    /// Makes this many servers, all up. It allocates no memory.
     pub fn new(count: u8) -> Servers
         ensures { result ≡ all_up count }
     {
@@ -32,14 +32,14 @@ impl Servers {
         Servers { up }
     }
 
-    /// How many servers there are.
+    /// Returns how many servers there are.
     pub fn count(&self) -> u8
         ensures { result ≡ length self.now }
     {
         self.up.len() as u8
     }
 
-    /// Whether a server is up; false where there is no such server.
+    /// Returns whether a server is up; false if there is no such server.
     pub fn is_up(&self, server: u8) -> bool
         ensures { result ≡ get_or self.now server false }
     {

@@ -1,4 +1,4 @@
-//! Histories made by hand, and what `check` says of them.
+//! Histories made by hand, and what `check` returns for them.
 ghost use Rattle.std.specs.Prelude.{◌≡◌};
 
 use crate::acts::{object, read_at};
@@ -17,7 +17,7 @@ const READ: Operation = Operation::Read;
 
 const WRITE: Operation = Operation::Write;
 
-/// The entries of these calls, numbered from 1.
+/// Returns the entries of these calls, numbered from 1.
 fn entries_of(rt: &impl Abort, alloc: Global, calls: &[Seen]) -> Vec<Entry> {
     let mut entries = Vec::new(alloc);
     for (place, seen) in calls.iter().enumerate() {
@@ -34,7 +34,7 @@ fn entries_of(rt: &impl Abort, alloc: Global, calls: &[Seen]) -> Vec<Entry> {
     entries
 }
 
-/// The list of at most four of the calls 1 to 4 whose digits to the base 5 these are. A digit 0 names no call.
+/// Returns the list of at most four of the calls 1 to 4 whose digits to the base 5 these are. A digit 0 names no call.
 fn list_of(rt: &impl Abort, alloc: Global, code: u64) -> Vec<u64> {
     let mut list = Vec::new(alloc);
     for digit in [code % 5, code / 5 % 5, code / 25 % 5, code / 125] {
@@ -45,7 +45,7 @@ fn list_of(rt: &impl Abort, alloc: Global, code: u64) -> Vec<u64> {
     list
 }
 
-/// Whether some list of at most four of these calls passes.
+/// Returns whether some list of at most four of these calls passes.
 fn is_atomic(rt: &impl Abort, alloc: Global, calls: &[Seen]) -> bool {
     let entries = entries_of(rt, alloc, calls);
     let mut found = false;

@@ -9,7 +9,7 @@ mod acts;
 
 const HELLO: &[u8] = b"hello";
 
-/// An object whose servers 0 to 3 hold a piece each, any two of which give the value.
+/// Returns an object whose servers 0 to 3 hold a piece each, any two of which give the value.
 fn four_servers(rt: &impl Abort, alloc: Global) -> Register {
     object(rt, alloc, 2, &[0, 1, 2, 3])
 }
@@ -81,14 +81,14 @@ fn refuses_pieces_of_another_value(rt: HostRuntime) {
     assert_moving(&rt, &object);
 }
 
-/// Whether nothing is shown of this call.
+/// Returns whether nothing is shown of this call.
 fn shows_nothing(object: &Register, call: CallId) -> bool {
     matches!(object.want(call), Err(Refusal::NoCall))
         && matches!(object.call_view(call), Err(Refusal::NoCall))
         && object.value_view(call).is_none()
 }
 
-/// Whether nothing is made of this call.
+/// Returns whether nothing is made of this call.
 fn makes_nothing(object: &Register, call: CallId) -> bool {
     matches!(object.value_to_code(call), Err(Refusal::NoCall))
         && matches!(object.pieces(call), Err(Refusal::NoCall))

@@ -2,7 +2,7 @@
 use crate::acts::{assert_steps, assert_value, one_object, read, write};
 use driver::{Chooser, First};
 
-/// Answers the greatest number there is.
+/// Returns the greatest number there is.
 #[derive(Clone, Copy)]
 struct Greatest;
 

@@ -1,8 +1,8 @@
 -- A call that asks again, by its requests or by its pieces, is refused for a limit or for want of memory, and for
 -- nothing else.
-use Rattle.std.proofs.Common.{◌≡◌, ℕ, pred, ◌⊎◌, not, nat_le, Bool, true, false, cond, is_some, List, []}
+use Rattle.std.proofs.Common.{◌≡◌, ℕ, pred, ◌⊎◌, not, nat_le, Bool, true, false, cond, List, []}
 use Rattle.std.proofs.Common.{◌∷◌, Some, None, inl, inr, refl, sym}
-use Rattle.std.proofs.Common.{ap, subst, ◌∙◌}
+use Rattle.std.proofs.Common.{subst, ◌∙◌}
 use Rattle.tag.specs.declared.limits.TheConstants.{MOST_STEPS}
 use Rattle.tag.specs.Cause.{IsRefusalBy}
 use Rattle.tag.specs.declared.refusal.Refusal.{Refusal}
@@ -11,14 +11,14 @@ use Rattle.encoder.specs.Fragment.{fragment}
 use Rattle.mail.specs.Mail.{mail_cause}
 use Rattle.phase.specs.Phase.{Phase}
 use Rattle.record.specs.Records.{Call, Object}
-use Rattle.record.specs.Legal.{BeginsAt, due_of}
+use Rattle.record.specs.Legal.{BeginsAt}
 use Rattle.soundness.specs.Sound.{IsSound}
 use Rattle.record.specs.Steps.{Step, stepped}
 use Rattle.record.specs.Wants.{current_phase, want_of}
 use Rattle.record.specs.declared.stage.Want.TheVariants as want
-use Rattle.register.specs.Causes.{call_at, if_call, if_step, unless, is_plain}
-use Rattle.register.specs.Causes.{may_post, post_cause, supplying_cause, value_cause}
-use Rattle.register.specs.Coding.{is_pre_write, pieces_due, pieces_position, sending_position}
+use Rattle.register.specs.Causes.{call_at, if_step, unless}
+use Rattle.register.specs.Causes.{post_cause, supplying_cause, value_cause}
+use Rattle.register.specs.Coding.{is_pre_write}
 use Rattle.register.specs.State.{State}
 use Rattle.register.specs.View.{want_at}
 use Rattle.cluster.specs.Cluster.{Cluster, named}
@@ -55,27 +55,14 @@ asks object last number sound e =
 post_is : (object : Object) (number now : ℕ) (a : Asks object number) (b : Bool) → is_pre_write a.phase.kind ≡ b
     → post_cause now object number ≡ unless (not b) NotNow
     (if_step now (mail_cause (stepped fragment (Step.Post (pred number)) now object).mail))
-post_is object number now a b is =
-    ap (λ o. if_call o (λ call. unless (may_post (want_of object (pred number) call) (current_phase call.phases)) NotNow
-    (if_step now (mail_cause (stepped fragment (Step.Post (pred number)) now object).mail)))) a.at
-    ∙ ap (λ w. unless (may_post w (current_phase a.call.phases)) NotNow
-    (if_step now (mail_cause (stepped fragment (Step.Post (pred number)) now object).mail))) a.wants
-    ∙ ap (λ p. unless (is_plain p) NotNow (if_step now (mail_cause (stepped fragment (Step.Post (pred number)) now object).mail))) a.current
-    ∙ ap (λ b. unless (not b) NotNow (if_step now (mail_cause (stepped fragment (Step.Post (pred number)) now object).mail))) is
+post_is object number now a b is = cc (a.at, a.wants, a.current)
 
 asking_is : (object : Object) (number : ℕ) (a : Asks object number) (b : Bool) → is_pre_write a.phase.kind ≡ b
     → asking number a.call ≡ cond (not b) (Step.Post (pred number)) (Step.Supply (pred number))
-asking_is object number a b is =
-    ap (λ p. cond (is_plain p) (Step.Post (pred number)) (Step.Supply (pred number))) a.current
-    ∙ ap (λ b. cond (not b) (Step.Post (pred number)) (Step.Supply (pred number))) is
+asking_is object number a b is = cc (a.current)
 
 value_is : (object : Object) (number : ℕ) (a : Asks object number) → is_pre_write a.phase.kind ≡ true → value_cause object number ≡ None
-value_is object number a is =
-    ap (λ o. if_call o (λ call. unless (is_some (pieces_due object (pred number) call)) NotNow None)) a.at
-    ∙ ap (λ w. unless (is_some (pieces_position w (due_of object (pred number) a.call) (current_phase a.call.phases))) NotNow None)
-    a.wants
-    ∙ ap (λ p. unless (is_some (sending_position p)) NotNow None) a.current
-    ∙ ap (λ b. unless (is_some (cond b (Some a.phase.position) None)) NotNow None) is
+value_is object number a is = cc (a.at, a.wants, a.current)
 
 module _ {C : Type 0} (chooses : C → ℕ → ℕ → C → Type 0) (name : List ℕ) (call : ℕ) (cluster : Cluster) (c : C) (state : State)
     (there : named cluster.objects name ≡ Some state) (sound : IsSound fragment state.object state.last)

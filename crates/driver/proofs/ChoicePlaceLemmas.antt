@@ -11,16 +11,15 @@ drop_at (y ∷ ys) zero x e = ap (λ z. z ∷ ys) (let same : y ≡ x = cc in sa
 drop_at (y ∷ ys) (suc i) x e = drop_at ys i x e
 
 drop_end : {X : Type 0} (xs : List X) (i : ℕ) → length xs ≤ i → drop i xs ≡ []
-drop_end [] zero past = refl
-drop_end [] (suc i) past = refl
 drop_end (x ∷ xs) zero past = absurd (omega (arith, past))
 drop_end (x ∷ xs) (suc i) past = drop_end xs i (omega (arith, past))
+drop_end [] zero past = refl
+drop_end [] (suc i) past = refl
 
 drop_few : {X : Type 0} (xs : List X) (i : ℕ) → length (drop i xs) ≤ length xs
-drop_few [] zero = omega arith
-drop_few [] (suc i) = omega arith
-drop_few (x ∷ xs) zero = omega arith
 drop_few (x ∷ xs) (suc i) = let rest = drop_few xs i in omega (arith, rest)
+drop_few [] (suc i) = omega arith
+drop_few _ zero = omega arith
 
 places_few : (test : Message → Bool) (place : ℕ) (messages : List Message) → length (places_passing test place messages) ≤ length messages
 places_few test place [] = omega arith
@@ -59,9 +58,7 @@ told_of test mail seen place m b same at is message there =
 pub choices_few : (test : Message → Bool) (mail : List Message) (from : ℕ)
     → length (places_passing test from (drop from mail)) ≤ length mail
 choices_few test mail from =
-    let few = places_few test from (drop from mail) in
-    let less = drop_few mail from in
-    omega (arith, few, less)
+    omega (arith, places_few test from (drop from mail), drop_few mail from)
 
 module _ (test : Message → Bool) (mail : List Message) (place : ℕ) (b : Bool) (within : place < length mail)
     (told : (message : Message) → slice_get mail place ≡ Some message → b ≡ test message) where
@@ -69,9 +66,7 @@ module _ (test : Message → Bool) (mail : List Message) (place : ℕ) (b : Bool
   pub counted : (count total : ℕ) → b ≡ true → count + length (from test mail place) ≡ total
       → count + 1 + length (places_passing test (place + 1) (drop (place + 1) mail)) ≡ total
   counted count total passes so_far =
-      let e = so_length passes in
-      let n = add-one-of place in
-      omega (arith, so_far, e, n)
+      omega (arith, so_far, so_length passes, add-one-of place)
     where
       so_length : b ≡ true → length (from test mail place) ≡ suc (length (later test mail place))
       so_length passes =
@@ -101,10 +96,7 @@ module _ (test : Message → Bool) (mail : List Message) (place : ℕ) (b : Bool
 
   -- the one that is looked for
   pub here : (left : ℕ) (answer : Option ℕ) → b ≡ true → left ≡ 0 → slice_get (from test mail place) left ≡ answer → Some place ≡ answer
-  here left answer passes none so_far =
-      sym (ap (λ left. slice_get (cond true (place ∷ later test mail place) (later test mail place)) left) none)
-      ∙ sym (ap (λ b. slice_get (cond b (place ∷ later test mail place) (later test mail place)) left) passes)
-      ∙ sym (ap (λ xs. slice_get xs left) (from_is test mail place b within told)) ∙ so_far
+  here left answer passes none so_far = cc (from_is test mail place b within told)
 
   pub passed : (left : ℕ) (answer : Option ℕ) → b ≡ true → (left ≡ 0 → ⊥) → slice_get (from test mail place) left ≡ answer
       → slice_get (places_passing test (place + 1) (drop (place + 1) mail)) (left - 1) ≡ answer
@@ -117,10 +109,7 @@ module _ (test : Message → Bool) (mail : List Message) (place : ℕ) (b : Bool
 
   pub skipped : (left : ℕ) (answer : Option ℕ) → b ≡ false → slice_get (from test mail place) left ≡ answer
       → slice_get (places_passing test (place + 1) (drop (place + 1) mail)) left ≡ answer
-  skipped left answer passes so_far =
-      ap (λ n. slice_get (places_passing test n (drop n mail)) left) (add-one place)
-      ∙ sym (ap (λ b. slice_get (cond b (place ∷ later test mail place) (later test mail place)) left) passes)
-      ∙ sym (ap (λ xs. slice_get xs left) (from_is test mail place b within told)) ∙ so_far
+  skipped left answer passes so_far = cc (add-one place, from_is test mail place b within told)
 
 -- there is none behind the last message
 pub past_last : (test : Message → Bool) (mail : List Message) (place left : ℕ) (answer : Option ℕ) → length mail ≤ place

@@ -52,9 +52,8 @@ apart_below value k replies (suc n) all = go (apart_below value k replies n all)
         apart
 
 pub apart_take : (k : ℕ) (xs : List Piece) → AreApart xs → AreApart (take k xs)
-apart_take zero xs apart = tt
-apart_take (suc k) [] apart = tt
 apart_take (suc k) (x ∷ xs) apart = (all_take (λ q. nat_eq x.point q.point ≡ false) k xs apart.0, apart_take k xs apart.1)
+apart_take _ _ apart = tt
 
 all_points : (P : ℕ → Type 0) (xs : List Piece) → AllByRecursion (λ q. P q.point) xs → AllByRecursion P (points_of xs)
 all_points P [] all = tt

@@ -11,7 +11,7 @@ use Rattle.mail.specs.declared.message.Body.TheVariants as body
 use Rattle.mail.specs.Message.{request_bytes}
 use Rattle.record.specs.Records.{Object}
 use Rattle.record.specs.declared.stage.Want.TheVariants as want
-use Rattle.register.proofs.ListLemmas.{found_within}
+use Rattle.std.proofs.lemmas.Option.{slice_get_within}
 use Rattle.register.specs.Causes.{if_step, if_message, unless}
 use Rattle.register.specs.State.{State}
 use Rattle.register.specs.View.{want_at}
@@ -55,7 +55,7 @@ pub picked_within : {C : Type 0} (chooses : C → ℕ → ℕ → C → Type 0) 
 picked_within chooses test mail before after place picks =
     let p = passes_of test 0 mail (picks.0 % length (places_passing test 0 mail)) place picks.2 in
     let is = p.is in
-    let within = found_within mail p.off p.message p.at in
+    let within = slice_get_within mail p.off p.message p.at in
     omega arith
 
 right_true : (a b : Bool) → (a && b) ≡ true → b ≡ true

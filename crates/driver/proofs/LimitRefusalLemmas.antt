@@ -1,12 +1,11 @@
 -- What a call does next is refused for a limit alone.
 use Rattle.std.proofs.Common.{◌≡◌, ℕ, pred, ◌⊎◌, nat_le, nat_lt, Bool, true, false, is_some, List}
-use Rattle.std.proofs.Common.{length, Option, Some, None, option_map, Result, Ok, Err, IsErrAnd, IfErr, inl, inr, refl, sym}
+use Rattle.std.proofs.Common.{length, Option, Some, None, Result, Ok, Err, IsErrAnd, IfErr, inl, inr, refl, sym}
 use Rattle.std.proofs.Common.{ap, subst, ◌∙◌}
 use Rattle.std.proofs.lemmas.Bool.{cond_both}
 use Rattle.tag.specs.declared.limits.TheConstants.{MOST_STEPS, MOST_PHASES}
 use Rattle.tag.specs.declared.refusal.Refusal.{Refusal}
 use Rattle.tag.specs.declared.refusal.Refusal.TheVariants.{NotNow, Full}
-use Rattle.bank.specs.declared.kind.Kind.{Kind}
 use Rattle.encoder.specs.Fragment.{fragment}
 use Rattle.mail.specs.declared.message.Message.{Message}
 use Rattle.mail.specs.Mail.{mail_cause, is_within}
@@ -20,7 +19,7 @@ use Rattle.soundness.proofs.Sound.SentPieceLemmas.{supply_counts}
 use Rattle.register.specs.Causes.{call_at, if_call, if_step, unless, wants_due, due_step, due_cause, is_answer, is_replied, if_settle}
 use Rattle.register.specs.Causes.{advance_cause, again_cause, answer_cause, value_cause, new_phase_cause}
 use Rattle.register.specs.Causes.{supply_room_cause, supplying_cause}
-use Rattle.register.specs.Coding.{pieces_due, pieces_position}
+use Rattle.register.specs.Coding.{pieces_due}
 use Rattle.register.specs.View.{want_at, coding_at}
 use Rattle.driver.specs.Coding.{settling_cause}
 use Rattle.driver.proofs.WantLemmas.{wants_at}
@@ -120,7 +119,4 @@ pub value_none : (object : Object) (number k n : ℕ) → want_at object number 
 value_none object number k n e =
     let w = wants_at object number (want.Supply k n) e in
     let counts = supply_counts object (pred number) w.call k n w.wants in
-    ap (λ o. if_call o (λ call. unless (is_some (pieces_due object (pred number) call)) NotNow None)) w.at
-    ∙ ap (λ v. unless (is_some (pieces_position v (due_of object (pred number) w.call) (current_phase w.call.phases))) NotNow None)
-    w.wants
-    ∙ ap (λ (o : Option (Kind × ℕ)). unless (is_some (option_map (λ (n : Kind × ℕ). n.1) o)) NotNow None) counts.2
+    cc (w.at, w.wants, counts.2)

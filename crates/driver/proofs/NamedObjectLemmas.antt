@@ -54,12 +54,8 @@ named_changed (object ∷ objects) name change state e = go (named_changed objec
         → bytes_eq name object.name ≡ b
         → named (cond b (record { name = object.name; state = change object.state } ∷ objects) (object ∷ with_changed objects name change))
         name ≡ Some (change state)
-    go rest true is =
-        ap (λ b. cond b (Some (change object.state)) (named objects name)) is
-        ∙ ap (λ s. Some (change s)) (there object.state state (sym (ap (λ b. cond b (Some object.state) (named objects name)) is) ∙ e))
-    go rest false is =
-        ap (λ b. cond b (Some object.state) (named (with_changed objects name change) name)) is
-        ∙ rest (sym (ap (λ b. cond b (Some object.state) (named objects name)) is) ∙ e)
+    go rest true is = cc (there object.state state (sym (ap (λ b. cond b (Some object.state) (named objects name)) is) ∙ e))
+    go rest false is = cc (rest (sym (ap (λ b. cond b (Some object.state) (named objects name)) is) ∙ e))
 
 -- the same cause
 pub by_cause : {T : Type 0} (a b : Option Refusal) (r : Result T Refusal) → a ≡ b → IsByCause a r → IsByCause b r

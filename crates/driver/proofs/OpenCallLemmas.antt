@@ -3,7 +3,7 @@ use Rattle.std.proofs.Common.{◌≡◌, ◌≢◌, ℕ, zero, suc, pred, Bool, 
 use Rattle.std.proofs.Common.{slice_get, slice_set, refl, sym, ap, subst, ◌∙◌}
 use Rattle.std.proofs.lemmas.Bool.{cond_both}
 use Rattle.bank.specs.declared.kind.Kind.{Kind}
-use Rattle.bank.specs.declared.kind.Kind.TheVariants.{Next, Spread, Query, PreWrite, Finalize, Fetch}
+use Rattle.bank.specs.declared.kind.Kind.TheVariants.{Next}
 use Rattle.encoder.specs.Fragment.{fragment}
 use Rattle.layout.specs.Layout.{Layout}
 use Rattle.mail.specs.declared.message.Message.{Message}
@@ -46,10 +46,9 @@ set_keeps : (calls : List Call) (i j : ℕ) (a b call : Call) → slice_get call
 set_keeps [] i j a b call at same there = absurd (cc)
 set_keeps (c ∷ calls) zero zero a b call at same there =
     record { new = b; at = refl; same = same ∙ ap (λ (c : Call). c.answered) (same_call a call (sym at ∙ there)) }
-set_keeps (c ∷ calls) zero (suc j) a b call at same there = record { new = call; at = there; same = refl }
-set_keeps (c ∷ calls) (suc i) zero a b call at same there = record { new = call; at = there; same = refl }
 set_keeps (c ∷ calls) (suc i) (suc j) a b call at same there =
     let rest = set_keeps calls i j a b call at same there in record { new = rest.new; at = rest.at; same = rest.same }
+set_keeps (c ∷ calls) _ _ a b call at same there = record { new = call; at = there; same = refl }
 
 -- the steps by which a call goes on, but for its answer
 abbrev pub IsCarry : Step → Type 0
@@ -123,22 +122,12 @@ module _ (object : Object) (index now : ℕ) (call : Call) (there : slice_get ob
       on_call_kept i _ (λ a at. from_calls _ (set_keeps object.calls i index a _ call at refl there)) (slice_get object.calls i) refl
   kept (Step.Serve place) carry = on_message_kept _ (λ m. served_kept place m m.body) (slice_get object.mail place)
   kept (Step.Take place) carry = on_message_kept _ (λ m. taken_kept place m m.body) (slice_get object.mail place)
-  kept (Step.CallRead id) carry = absurd carry
-  kept (Step.CallWrite id value) carry = absurd carry
-  kept (Step.CallMove id layout) carry = absurd carry
-  kept (Step.AnswerCall i) carry = absurd carry
-  kept (Step.Lose place) carry = absurd carry
-  kept (Step.Repeat place) carry = absurd carry
-  kept Step.Retire carry = absurd carry
+  kept _ carry = absurd carry
 
 -- a call that is not answered wants something
 begins : (kind : Kind) (layout : Layout) → want_to_begin kind layout ≢ want.Done
 begins Next layout e = cc
-begins (Spread s) layout e = cc
-begins Query layout e = cc
-begins (PreWrite tag) layout e = cc
-begins (Finalize tag) layout e = cc
-begins (Fetch tag) layout e = cc
+begins _ layout e = cc
 
 for_some : (object : Object) (next : Option (Kind × ℕ)) → want_for object next ≢ want.Done
 for_some object None e = cc
@@ -205,22 +194,16 @@ module _ {C : Type 0} (chooses : C → ℕ → ℕ → C → Type 0) (name : Lis
       subst IsCarry (sym next.1.2)
       (cond_both (is_plain (current_phase next.1.0.phases)) (Step.Post (pred call)) (Step.Supply (pred call)) IsCarry (λ _. tt) (λ _. tt))
   carry_of cluster object false before after step want.Replies other next = subst IsCarry (sym next.4) (carry_handling next.0 next.1.body)
-  carry_of cluster object again before after step want.Advance other next = subst IsCarry (sym next.1) tt
-  carry_of cluster object again before after step (want.Supply k n) other next = subst IsCarry (sym next.1) tt
   carry_of cluster object again before after step (want.Settle k len) other next = subst IsCarry (sym next.1.1) tt
   carry_of cluster object again before after step want.Again other next = subst IsCarry (sym next.2) tt
   carry_of cluster object again before after step want.Answer other next = absurd (other refl)
   carry_of cluster object again before after step want.Done other next = absurd next
+  carry_of cluster object again before after step _ other next = subst IsCarry (sym next.1) tt
 
   not_done : (cluster : Cluster) (object : Object) (again : Bool) (before after : C) (step : Step) (w : Want)
       → IsNext chooses name call cluster object again before after step w → w ≢ want.Done
-  not_done cluster object again before after step want.Replies next e = cc
-  not_done cluster object again before after step want.Advance next e = cc
-  not_done cluster object again before after step (want.Supply k n) next e = cc
-  not_done cluster object again before after step (want.Settle k len) next e = cc
-  not_done cluster object again before after step want.Again next e = cc
-  not_done cluster object again before after step want.Answer next e = cc
   not_done cluster object again before after step want.Done next e = next
+  not_done cluster object again before after step _ next e = cc
 
   -- a turn that is not the answer leaves the call open
   pub turn_open : (again : Bool) (old : Cluster) (before : C) (new : Cluster) (after : C)

@@ -86,5 +86,4 @@ count_below replies (suc n) xs below all distinct =
     let w = without n brought (λ x. is_some (piece_by replies x)) (some_listed (piece_by replies n)) xs below all distinct in
     let few = w.few in
     let rest = count_below replies n w.rest w.below w.pass w.distinct in
-    let sum = length_append (pieces_below replies n) (piece_list (piece_by replies n)) in
-    omega (arith, few, rest, sum)
+    omega (arith, few, rest, length_append (pieces_below replies n) (piece_list (piece_by replies n)))

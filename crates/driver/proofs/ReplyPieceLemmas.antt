@@ -58,9 +58,8 @@ all_wider value k n [] all = tt
 all_wider value k n (x ∷ xs) all = ((all.0.0, (let less = all.0.1 in omega (arith, less))), all_wider value k n xs all.1)
 
 pub all_take : (P : Piece → Type 0) (k : ℕ) (xs : List Piece) → AllByRecursion P xs → AllByRecursion P (take k xs)
-all_take P zero xs all = tt
-all_take P (suc k) [] all = tt
 all_take P (suc k) (x ∷ xs) all = (all.0, all_take P k xs all.1)
+all_take P _ _ all = tt
 
 pub take_length : (k : ℕ) (xs : List Piece) → k ≤ length xs → length (take k xs) ≡ k
 take_length zero xs within = refl
@@ -82,9 +81,7 @@ unfolding IsDistinct
 first_reply [] place t distinct within = absurd (cc)
 first_reply (first ∷ replies) zero t distinct within =
     let same : first ≡ t = cc in
-    ap (λ b. cond b (answer_piece first.reply.answer) (piece_by replies t.member))
-    (eq-eqb first.member t.member (ap (λ (t : Taken). t.member) same))
-    ∙ ap (λ (t : Taken). answer_piece t.reply.answer) same
+    cc (eq-eqb first.member t.member (ap (λ (t : Taken). t.member) same), same)
 first_reply (first ∷ replies) (suc place) t distinct within =
     ap (λ b. cond b (answer_piece first.reply.answer) (piece_by replies t.member)) (apart_of replies place t distinct.0 within)
     ∙ first_reply replies place t distinct.1 within
@@ -120,9 +117,6 @@ brought_of object position tag value t unique coded piece e = go t.reply.answer 
   where
     go : (a : Answer) → answer_piece a ≡ Some piece → IfCoded fragment object position t.member (answer_tag (Fetch tag) a) (answer_piece a)
         → piece ≡ piece_at_point value (layout_at object position).k t.member
-    go answer.Done e coded = absurd (cc)
-    go (answer.Pointer status) e coded = absurd (cc)
-    go (answer.Greatest t) e coded = absurd (cc)
     go (answer.Piece o) e coded =
         let fits = coded.fits piece e in
         let same = unique coded.value coded.journaled in
@@ -131,6 +125,7 @@ brought_of object position tag value t unique coded piece e = go t.reply.answer 
           len = (fits.len ∙ ap length same) i;
           bytes = (fits.bytes ∙ ap (λ (v : List ℕ). fragment v (layout_at object position).k t.member) same) i;
         }
+    go _ e coded = absurd (cc)
 
 pub some_is : (o : Option Piece) → IsSome o → is_some o ≡ true
 some_is None some = absurd (cc)
@@ -142,10 +137,8 @@ piece_there (Some piece) some = (piece, refl)
 
 pub coded_value : (object : Object) (position member : ℕ) (tag : Tag) (a : Answer) (piece : Piece) → answer_piece a ≡ Some piece
     → IfCoded fragment object position member (answer_tag (Fetch tag) a) (answer_piece a) → (value : List ℕ) × IsJournaled object tag value
-coded_value object position member tag answer.Done piece e coded = absurd (cc)
-coded_value object position member tag (answer.Pointer status) piece e coded = absurd (cc)
-coded_value object position member tag (answer.Greatest t) piece e coded = absurd (cc)
 coded_value object position member tag (answer.Piece o) piece e coded = (coded.value, coded.journaled)
+coded_value object position member tag _ piece e coded = absurd (cc)
 
 pub journaled_value : (object : Object) (last : ℕ) (tag : Tag) (value : List ℕ) → IsSound fragment object last
     → IsJournaled object tag value

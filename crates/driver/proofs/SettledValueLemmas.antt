@@ -39,10 +39,7 @@ recorded (t ∷ replies) member p e = go (recorded replies member p) (t.member =
   where
     go : (piece_by replies member ≡ Some p → is_recorded replies p ≡ true) → (b : Bool) → (t.member == member) ≡ b
         → is_recorded (t ∷ replies) p ≡ true
-    go rest true is =
-        ap (λ o. has_same_piece p o || is_recorded replies p)
-        (sym (ap (λ b. cond b (answer_piece t.reply.answer) (piece_by replies member)) is) ∙ e)
-        ∙ ap (λ b. b || is_recorded replies p) (same_self p)
+    go rest true is = cc (e, same_self p)
     go rest false is =
         or_right (has_same_piece p (answer_piece t.reply.answer)) (is_recorded replies p)
         (rest (sym (ap (λ b. cond b (answer_piece t.reply.answer) (piece_by replies member)) is) ∙ e))
@@ -58,14 +55,13 @@ all_both test (x ∷ xs) ys a b = go (all_both test xs ys) (test x) refl a
     go rest false is a = absurd (cc)
 
 all_take : (test : Piece → Bool) (k : ℕ) (xs : List Piece) → list_all test xs ≡ true → list_all test (take k xs) ≡ true
-all_take test zero xs a = refl
-all_take test (suc k) [] a = refl
 all_take test (suc k) (x ∷ xs) a = go (all_take test k xs) (test x) a
   where
     go : (list_all test xs ≡ true → list_all test (take k xs) ≡ true) → (t : Bool) → (t && list_all test xs) ≡ true
         → (t && list_all test (take k xs)) ≡ true
     go rest true a = rest a
     go rest false a = absurd (cc)
+all_take test _ _ a = refl
 
 all_listed : (test : Piece → Bool) (o : Option Piece) → ((p : Piece) → o ≡ Some p → test p ≡ true) → list_all test (piece_list o) ≡ true
 all_listed test None each = refl
@@ -118,6 +114,4 @@ pub settling_none : (object : Object) (number k len now : ℕ) → want_at objec
     → settling_cause now object number ≡ None
 settling_none object number k len now e within =
     let w = wants_at object number (want.Settle k len) e in
-    ap (λ o. if_call o (λ call. if_settle (want_of object (pred number) call) (if_step now None))) w.at
-    ∙ ap (λ v. if_settle v (if_step now None)) w.wants
-    ∙ step_within now None within
+    cc (w.at, w.wants, step_within now None within)

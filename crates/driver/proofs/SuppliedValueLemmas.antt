@@ -1,5 +1,5 @@
 -- What a call sends can be coded, and is what it is to be supplied with.
-use Rattle.std.proofs.Common.{◌≡◌, ℕ, pred, ◌<◌, ◌≤◌, ◌&&◌, Bool, true, false, is_some, List, [], ◌∷◌}
+use Rattle.std.proofs.Common.{◌≡◌, ℕ, pred, ◌<◌, ◌≤◌, ◌&&◌, Bool, true, is_some, List, [], ◌∷◌}
 use Rattle.std.proofs.Common.{length, Option, Some, None, option_map, slice_get, sym, ap, subst, ◌∙◌, refl, arith}
 use Rattle.std.proofs.lemmas.Bool.{eq-eqb}
 use Rattle.tag.specs.declared.limits.TheConstants.{LONGEST_VALUE}
@@ -10,7 +10,7 @@ use Rattle.encoder.specs.Coded as coded
 use Rattle.encoder.specs.Fragment.{fragment}
 use Rattle.bank.specs.declared.kind.Kind.{Kind}
 use Rattle.record.specs.declared.call.CallKind.{CallKind}
-use Rattle.record.specs.declared.call.CallKind.TheVariants.{Read, Write, Move}
+use Rattle.record.specs.declared.call.CallKind.TheVariants.{Write}
 use Rattle.record.specs.Records.{Call, Object, layout_at}
 use Rattle.record.specs.Knowledge.{IsTruePhase}
 use Rattle.record.specs.Legal.{due_of}
@@ -52,11 +52,7 @@ sent_there object last index position call sound at = go (want_of object index c
         let l = last_at call.phases s.phase s.is in
         subst (λ p. p < length object.layouts) s.same
         (all_get (IsTruePhase object) call.phases l.place s.phase (sound.legal.calls index call at).phases l.within).placed
-    go want.Advance e = absurd (cc)
-    go want.Again e = absurd (cc)
-    go (want.Settle k len) e = absurd (cc)
-    go want.Answer e = absurd (cc)
-    go want.Done e = absurd (cc)
+    go _ e = absurd (cc)
 
 sent_short : (object : Object) (last index : ℕ) (call : Call) → IsSound fragment object last → slice_get object.calls index ≡ Some call
     → length (value_or_empty (sent_value call.kind call.settled)) ≤ LONGEST_VALUE
@@ -67,9 +63,8 @@ sent_short object last index call sound at = go call.kind refl
     settled (Some value) e = (sound.values.settled index call value at e).1
 
     go : (kind : CallKind) → call.kind ≡ kind → length (value_or_empty (sent_value kind call.settled)) ≤ LONGEST_VALUE
-    go Read e = settled call.settled refl
     go (Write value) e = (sound.values.written index call value at e).1
-    go Move e = settled call.settled refl
+    go _ e = settled call.settled refl
 
 -- what is to be coded, with k and n
 pub record Sends (object : Object) (number k n : ℕ) (value : List ℕ) : Type 0 where
@@ -140,9 +135,7 @@ bytes_same (x ∷ xs) = ap (λ b. b && bytes_eq xs xs) (eq-eqb x x refl) ∙ byt
 
 pub all_three : (a b c : Bool) → a ≡ true → b ≡ true → c ≡ true → (a && (b && c)) ≡ true
 all_three true true true p q r = refl
-all_three false b c p q r = absurd (cc)
-all_three true false c p q r = absurd (cc)
-all_three true true false p q r = absurd (cc)
+all_three _ _ _ p q r = absurd (cc)
 
 pub supply_is : (object : Object) (number k n now : ℕ) (value : List ℕ) → coding_at object number ≡ Some (value, k, n)
     → supply_cause now object number (record { k = k; n = n; value = value }) ≡ supplying_cause now object number

@@ -1,11 +1,12 @@
 -- The contracts that docs/trusted.md lists do not depend on this file; other contracts and proofs do.
 -- Which messages of an object can be handled, which of them is chosen, and how one is handled.
-use Rattle.std.specs.Prelude.{◌≡◌, ℕ, suc, ◌%◌, ◌==◌, ◌&&◌, Bool, true, false, if◌then◌else◌, List, [], ◌∷◌, length}
+use Rattle.std.specs.Prelude.{◌≡◌, ℕ, suc, ◌%◌, ◌==◌, ◌&&◌, Bool, if◌then◌else◌, List, [], ◌∷◌, length}
 use Rattle.std.specs.Prelude.{drop, Option, Some, option_map, slice_get}
 use Rattle.tag.specs.declared.refusal.Refusal.{Refusal}
 use Rattle.mail.specs.declared.message.Message.{Message}
 use Rattle.mail.specs.declared.message.Body.{Body}
 use Rattle.mail.specs.declared.message.Body.TheVariants as body
+use Rattle.mail.specs.Message.{is_request}
 use Rattle.record.specs.Records.{Object}
 use Rattle.record.specs.Steps.{Step}
 use Rattle.register.specs.Causes.{if_message, taken_cause}
@@ -62,7 +63,7 @@ abbrev pub handled_as : Object → (place : ℕ) → Body → Handled
 handled_as object place (body.Request asked) = handled.Served
 handled_as object place (body.Reply kind made) = handled.Taken (took_at object place)
 
--- what is returned for the message at a place; none where there is no message
+-- what is returned for the message at a place; none if there is no message
 abbrev pub handled_result_at : (place : ℕ) → Object → Option Handled
 handled_result_at place object =
     option_map (λ (message : Message). handled_as object place message.body) (slice_get object.mail place)
@@ -72,15 +73,10 @@ abbrev pub handled_cause : Cluster → Object → Message → Body → Option Re
 handled_cause cluster object message (body.Request asked) = message_cause cluster object message (body.Request asked)
 handled_cause cluster object message (body.Reply kind made) = taken_cause (next cluster) (body.Reply kind made)
 
--- why the message at a place is not handled; NoMessage where there is none
+-- why the message at a place is not handled; NoMessage if there is none
 abbrev pub handling_cause : Cluster → (place : ℕ) → Object → Option Refusal
 handling_cause cluster place object =
     if_message (slice_get object.mail place) (λ message. handled_cause cluster object message message.body)
-
--- whether a message is a request
-abbrev pub is_request : Body → Bool
-is_request (body.Request asked) = true
-is_request (body.Reply kind made) = false
 
 -- whether the message at a place is a request; none where there is no message
 abbrev pub request_at : (place : ℕ) → Object → Option Bool

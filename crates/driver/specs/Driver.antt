@@ -23,7 +23,7 @@ use Rattle.cluster.specs.Steps.{with_step}
 use Rattle.driver.specs.Choices.{Picks, choices, handling, handling_cause}
 use Rattle.driver.specs.Coding.{settling_cause, Settles}
 
--- what a call wants; none where there is no such call
+-- what a call wants; none if there is no such call
 abbrev pub wanted : Cluster → (name : List ℕ) → (call : ℕ) → Option Want
 wanted cluster name call = if_named cluster name (λ object. want_at object call)
 
@@ -31,8 +31,7 @@ wanted cluster name call = if_named cluster name (λ object. want_at object call
 abbrev pub IsNotAnswered : Cluster → (name : List ℕ) → (call : ℕ) → Type 0
 IsNotAnswered cluster name call = (w : Want) × (wanted cluster name call ≡ Some w) × (w ≢ want.Done)
 
--- the step by which the current phase of a call resends: a supply where its requests have pieces, a post where they
--- have none
+-- the step by which the current phase of a call resends: a supply if its requests have pieces, a post if they have none
 abbrev pub asking : (number : ℕ) → Call → Step
 asking number call = if is_plain (current_phase call.phases) then Step.Post (pred number) else Step.Supply (pred number)
 
@@ -68,7 +67,7 @@ module _ {C : Type 0} (chooses : C → ℕ → ℕ → C → Type 0) (name : Lis
       (place : ℕ) × (message : Message) × Picks chooses (choices cluster call object) before after place
       × (slice_get object.mail place ≡ Some message) × (step ≡ handling place message.body)
 
-  -- the next step of a call that wants this; a call that wants to be restarted is restarted only where `again` is true
+  -- the next step of a call that wants this; a call that wants to be restarted is restarted only if `again` is true
   abbrev pub IsNext : Cluster → Object → (again : Bool) → (before after : C) → Step → Want → Type 0
   IsNext cluster object again before after step want.Replies = IsWaitingStep cluster object again before after step
   IsNext cluster object again before after step want.Advance = (after ≡ before) × (step ≡ Step.Advance (pred call))

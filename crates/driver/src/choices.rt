@@ -17,10 +17,10 @@ pub enum Filter {
     Call(CallId),
 }
 
-/// The place of the chosen message. The choice is made among the messages that pass `filter` and that can be handled,
-/// from place `from` of the mail on. Of these, in mail order, it is the message at the number that the chooser returns,
-/// modulo their count. A message can be handled if it is a reply, or a request to a server that is up. None, and no
-/// choice is made, where there is no such message.
+/// Returns the place of the chosen message. The choice is made among the messages that pass `filter` and that can be
+/// handled, from place `from` of the mail on. Of these, in mail order, it is the message at the number that the chooser
+/// returns, modulo their count. A message can be handled if it is a reply, or a request to a server that is up. Returns
+/// none, and makes no choice, if there is no such message.
 pub fn choose<C: Chooser>(
     cluster: &Cluster,
     register: &Register,
@@ -46,8 +46,8 @@ pub fn choose<C: Chooser>(
     )
 }
 
-/// The place of one of the messages that pass `filter` and that can be handled, from place `from` of the mail on: in
-/// mail order, the message at index `skipped`, from 0. None where there are not so many.
+/// Returns the place of one of the messages that pass `filter` and that can be handled, from place `from` of the mail
+/// on: in mail order, the message at index `skipped`, from 0, or none if there are not so many.
 pub fn choice_at(
     cluster: &Cluster,
     register: &Register,

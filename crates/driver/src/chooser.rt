@@ -6,8 +6,8 @@ pub trait Chooser {
     /// Relates the chooser before a choice, how many things there are, the number returned, and the chooser after.
     ghost chooses: { Self → ℕ → ℕ → Self → Type 0 } = { λ _ _ _ _. Unit {0} };
 
-    /// A number for a choice among `below` things, of which there is at least one. The driver takes it modulo `below`,
-    /// so any number will do.
+    /// Returns a number for a choice among `below` things, of which there is at least one. The driver takes it modulo
+    /// `below`, so any number will do.
     fn choose(&mut self, below: usize) -> usize
         requires { 0 < below }
         ensures { chooses self.old below result self.new };

@@ -27,9 +27,9 @@ use tag::{CallId, MOST_STEPS, Refusal};
 /// Encodes the value that the call of this number is to send, and supplies the call with it: one step. Every cause of
 /// refusal but `NoMemory` is checked before the value is copied and encoded.
 ///
-/// `NoObject` where no object has this name, `NoCall` where it has no call of this number, and `NotNow` where the call
-/// has no pieces to send. `Full` where the limit of steps, of the call's phases or of the object's waiting messages is
-/// met.
+/// Is refused with `NoObject` if no object has this name, with `NoCall` if it has no call of this number, and with
+/// `NotNow` if the call has no pieces to send. It is refused with `Full` if the limit of steps, of the call's phases or
+/// of the object's waiting messages is met.
 pub fn supply(alloc: Global, cluster: &mut Cluster, name: &str, call: CallId) -> Result<(), Refusal>
     ensures step { OnOk result (cluster.new ≡ with_step cluster.old name.entry.now (Step.Supply (pred call))) }
     ensures may { OnOk result (MayMake cluster.old name.entry.now (Step.Supply (pred call))) }
@@ -44,8 +44,9 @@ pub fn supply(alloc: Global, cluster: &mut Cluster, name: &str, call: CallId) ->
 /// Decodes the value that the call of this number is to settle, from k pieces that its current phase took, and settles
 /// it: one step.
 ///
-/// `NoObject` where no object has this name, `NoCall` where it has no call of this number, `NotNow` unless the call
-/// wants to settle a value, `Collected` where its fetch lacks pieces, and `Full` where the limit of steps is met.
+/// Is refused with `NoObject` if no object has this name, with `NoCall` if it has no call of this number, with `NotNow`
+/// unless the call wants to settle a value, with `Collected` if its fetch lacks pieces, and with `Full` if the limit of
+/// steps is met.
 pub fn settle(alloc: Global, cluster: &mut Cluster, name: &str, call: CallId) -> Result<(), Refusal>
     ensures step { OnOk result (SettlesOwn cluster.old name.entry.now call cluster.new) }
     ensures cause { IsByCause
@@ -62,7 +63,8 @@ pub fn settle(alloc: Global, cluster: &mut Cluster, name: &str, call: CallId) ->
     }
 }
 
-/// The value that a call is to send, with its k and n. Every refusal of the supply but `NoMemory` is found here.
+/// Returns the value that a call is to send, with its k and n. Every refusal of the supply but `NoMemory` is found
+/// here.
 pub(crate) fn value_to_encode(
     cluster: &Cluster,
     name: &str,
@@ -77,7 +79,7 @@ pub(crate) fn value_to_encode(
     cluster.value_to_code(name, call)
 }
 
-/// The pieces from which the call decodes the value that it is to settle.
+/// Returns the pieces from which the call decodes the value that it is to settle.
 pub(crate) fn pieces_to_decode(
     cluster: &Cluster,
     name: &str,

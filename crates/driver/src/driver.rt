@@ -13,19 +13,19 @@ use register::Receipt;
 use std::alloc::Global;
 use tag::{CallId, Refusal};
 
-/// Brings the call of this number to its answer, in at most `turns` turns. Each turn is one step: where the call wants
+/// Brings the call of this number to its answer, in at most `turns` turns. Each turn is one step: if the call wants
 /// replies, one of its messages is handled, the one that `chooser` chooses; otherwise it is the step that the call
 /// wants.
 ///
 /// With `resumed`, the first turn differs in two cases. If the call wants replies, the turn resends the requests of the
 /// current phase instead. If the call's fetch lacks pieces, the turn restarts the call.
 ///
-/// - `NoObject` where no object has this name, `NoCall` where it has no call of this number, and `NotNow` where the
-///   call is answered. Nothing has changed then.
+/// - `NoObject` if no object has this name, `NoCall` if it has no call of this number, and `NotNow` if the call is
+///   answered. Nothing has changed then.
 /// - `GaveUp` after `turns` turns.
-/// - `Stuck` where the call wants replies and none of its messages can be handled.
-/// - `Collected` where the call's fetch lacks pieces, except in the first turn with `resumed`.
-/// - `Full` where the step that comes next meets a limit.
+/// - `Stuck` if the call wants replies and none of its messages can be handled.
+/// - `Collected` if the call's fetch lacks pieces, except in the first turn with `resumed`.
+/// - `Full` if the step that comes next meets a limit.
 ///
 /// After the last four, and after `NoMemory`, the steps of the earlier turns stay made, and the call stays open.
 pub fn finish<C: Chooser>(

@@ -27,10 +27,11 @@ pub enum Handled {
     Taken(Took),
 }
 
-/// Handles the message at a place, from 0, of an object's mail: a request is served, and a reply is taken. One step.
+/// Handles the message at a place, from 0, of an object's mail: a request is served, and a reply is taken. This is one
+/// step.
 ///
-/// `NoObject` where no object has this name, `NoMessage` where there is no message at this place, `Down` where it is a
-/// request to a server that is down, and `Full` as for `Cluster::serve` and `Cluster::take`.
+/// Is refused with `NoObject` if no object has this name, with `NoMessage` if there is no message at this place, with
+/// `Down` if it is a request to a server that is down, and with `Full` as for `Cluster::serve` and `Cluster::take`.
 pub fn handle(cluster: &mut Cluster, name: &str, place: usize) -> Result<Handled, Refusal>
     ensures step { IfOk result (λ h. cluster.new ≡ with_step cluster.old name.entry.now (step_of_handled place h)) }
     ensures may { IfOk result (λ h. MayMake cluster.old name.entry.now (step_of_handled place h)) }
@@ -42,7 +43,7 @@ pub fn handle(cluster: &mut Cluster, name: &str, place: usize) -> Result<Handled
     handle_at(cluster, name, object, place)
 }
 
-/// `handle` for a caller that has looked the object up by `Cluster::place`: `object` must be its index.
+/// Does what `handle` does, for a caller that has looked the object up by `Cluster::place`: `object` must be its index.
 pub fn handle_at(
     cluster: &mut Cluster,
     name: &str,
@@ -83,7 +84,7 @@ fn handle_as(
     Ok(Handled::Taken(cluster.take_at(name, object, place)?))
 }
 
-/// Handles the chosen one of the call's messages that can be handled. `Stuck` where there is none.
+/// Handles the chosen one of the call's messages that can be handled. Is refused with `Stuck` if there is none.
 pub(crate) fn handle_chosen<C: Chooser>(
     cluster: &mut Cluster,
     name: &str,

@@ -32,16 +32,16 @@ pub enum Round {
     Late,
 }
 
-/// One round of the call of this number, without the coding. `want` must be what the call wants now.
+/// Makes one round of the call of this number, without the coding. `want` must be what the call wants now.
 ///
-/// Where the call wants replies, one of its messages is handled, or, with `asks_again`, its current phase's requests
-/// are resent; where these have pieces, the value to encode is returned instead. A call that wants to be restarted is
-/// restarted with `asks_again`. Where the call wants a value encoded or decoded, the round hands out the value or the
+/// If the call wants replies, one of its messages is handled, or, with `asks_again`, its current phase's requests are
+/// resent; if these have pieces, the value to encode is returned instead. A call that wants to be restarted is
+/// restarted with `asks_again`. If the call wants a value encoded or decoded, the round hands out the value or the
 /// pieces, and changes nothing. Any other round makes the step that the call wants.
 ///
-/// `NotNow` where the call is answered, `Stuck` where it wants replies and none of its messages can be handled,
-/// `Collected` where it wants to be restarted without `asks_again`, and `Full` where the step, made or still to be
-/// made, meets a limit.
+/// Is refused with `NotNow` if the call is answered, with `Stuck` if it wants replies and none of its messages can be
+/// handled, with `Collected` if it wants to be restarted without `asks_again`, and with `Full` if the step, made or
+/// still to be made, meets a limit.
 pub fn make_round<C: Chooser>(
     cluster: &mut Cluster,
     name: &str,
@@ -61,7 +61,8 @@ pub fn make_round<C: Chooser>(
     make_round_at(cluster, name, object, call, want, asks_again, chooser)
 }
 
-/// `make_round` for a caller that has looked the object up by `Cluster::place`: `object` must be its index.
+/// Does what `make_round` does, for a caller that has looked the object up by `Cluster::place`: `object` must be its
+/// index.
 pub fn make_round_at<C: Chooser>(
     cluster: &mut Cluster,
     name: &str,

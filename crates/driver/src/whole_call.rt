@@ -21,8 +21,8 @@ pub enum NotAnswered {
     Open { call: CallId, refusal: Refusal },
 }
 
-/// A whole read: `Cluster::call_read`, and then `finish` without a resume, in at most `turns` turns beside the first
-/// step.
+/// Makes a whole read: `Cluster::call_read`, and then `finish` without a resume, in at most `turns` turns besides the
+/// first step.
 ///
 /// The error is `NotCalled` with a refusal of `call_read`, or `Open` with a refusal of `finish`. What the call costs
 /// does not grow with the messages of other calls.
@@ -41,7 +41,7 @@ pub fn read<C: Chooser>(
     }
 }
 
-/// A whole write: `Cluster::call_write`, and then the driver, as for a read.
+/// Makes a whole write: `Cluster::call_write`, and then the driver, as for a read.
 pub fn write<C: Chooser>(
     alloc: Global,
     cluster: &mut Cluster,
@@ -58,7 +58,7 @@ pub fn write<C: Chooser>(
     }
 }
 
-/// A whole move to the layout of this number: `Cluster::call_move`, and then the driver, as for a read.
+/// Makes a whole move to the layout of this number: `Cluster::call_move`, and then the driver, as for a read.
 pub fn move_to<C: Chooser>(
     alloc: Global,
     cluster: &mut Cluster,

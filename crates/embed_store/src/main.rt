@@ -94,7 +94,7 @@ fn write_move_and_read<L: StoreName, R: Threads + Wait + Sync>(
     receipt.value.ok_or(Refusal::NotNow)
 }
 
-/// A cluster of four servers, with the object.
+/// Returns a cluster of four servers, with the object.
 fn four_servers(alloc: Global) -> Result<Cluster, Refusal> {
     let mut cluster = Cluster::new(alloc, 4);
     let layout = cluster.add_layout(Layout::new(2, &[0, 1, 2, 3])?)?;

@@ -25,8 +25,7 @@ pub calls_stepped : (cluster : Cluster) (name : List ℕ) (step : Step) (old : S
     → client_calls (of.with_step cluster name step) ≡ client_calls cluster + begins step
 calls_stepped cluster name step old at =
     let all = sum_changed name (made step (suc cluster.counter)) old count_of cluster.objects at in
-    let one = count_stepped step (suc cluster.counter) old.object in
-    omega (arith, all, one)
+    omega (arith, all, count_stepped step (suc cluster.counter) old.object)
 
 -- where there is no cause of refusal there is an object
 pub there : (cluster : Cluster) (name : List ℕ) (cause : Object → Option Refusal) → object_cause cluster name cause ≡ None
@@ -102,9 +101,7 @@ count_most (c ∷ cs) = pick (is_client c.kind) (count_most cs)
 sum_most : (objects : List Named) → object_sum (λ o. count_of o.state) objects ≤ calls objects
 sum_most [] = omega arith
 sum_most (o ∷ os) =
-    let rest = sum_most os in
-    let one = count_most o.state.object.calls in
-    omega (arith, rest, one)
+    omega (arith, sum_most os, count_most o.state.object.calls)
 
 -- where there is no call there is no read or write
 pub none_called : (cluster : Cluster) → calls cluster.objects ≡ 0 → client_calls cluster ≡ 0

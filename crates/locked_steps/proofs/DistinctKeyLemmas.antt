@@ -53,8 +53,7 @@ distinct_moved = IsDistinct-IsPermutation tie (eq_by_cmp_equiv key_total).symm
 
 is_below : (r : Ordering) → is_lt r ≡ true → r ≡ Less
 is_below Less h = refl
-is_below Equal h = absurd (cc (h))
-is_below Greater h = absurd (cc (h))
+is_below _ h = absurd (cc (h))
 
 -- where neither of two is below the other, they tie
 neither_below : (r s : Ordering) → s ≡ ordering_reverse r → is_lt r ≡ false → is_lt s ≡ false → is_eq r ≡ true

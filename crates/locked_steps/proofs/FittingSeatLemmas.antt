@@ -5,7 +5,7 @@ use Rattle.std.specs.Prelude.{Option, MatchOption, Contains, not, ◌&&◌, ◌|
 use Rattle.std.specs.List.{AllByRecursion, list_any}
 use Rattle.std.proofs.lemmas.Bool.{eq-eqb}
 use Rattle.record.specs.declared.call.CallKind.{CallKind}
-use Rattle.record.specs.declared.call.CallKind.TheVariants.{Read, Write, Move}
+use Rattle.record.specs.declared.call.CallKind.TheVariants.{Move}
 use Rattle.record.specs.declared.call.Entry.{Entry}
 use Rattle.record.specs.declared.call.Operation.{Operation}
 use Rattle.record.specs.declared.call.Operation.TheVariants as operation
@@ -29,14 +29,12 @@ use Rattle.locked_steps.proofs.SameElementsLemmas.{AreApart, contains_here, cont
 use Rattle.locked_steps.proofs.SeatRecordLemmas.{all_front, all_back}
 
 written_shown : (o : Operation) (value written : Option (List ℕ)) → IsWrittenAs o value written → written_in o value ≡ written
-written_shown operation.Read value written h = sym h
-written_shown operation.Write value written h = sym h
 written_shown operation.Move value written h = absurd h
+written_shown _ value written h = sym h
 
 written_client : (k : CallKind) (value written : Option (List ℕ)) → IsWrittenAs (operation_of k) value written → is_client k ≡ true
-written_client Read value written h = refl
-written_client (Write v) value written h = refl
 written_client Move value written h = absurd h
+written_client _ value written h = refl
 
 told_shown : (object : ℕ) (e : Entry) (o : Option Receipt) → IsToldAs object e o → (e.answered ≡ answer_of o)
     × (told_in e.answered e.value ≡ value_returned o)

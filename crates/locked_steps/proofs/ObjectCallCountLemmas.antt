@@ -42,8 +42,7 @@ count_begun [] fresh begun = pick (is_client begun.kind)
 count_begun (c ∷ cs) fresh begun =
     let rest = count_begun cs fresh begun in
     let one = first_count (is_client c.kind) (client_count (slice_set (cs ++ fresh ∷ []) (length cs) begun)) in
-    let all = first_count (is_client c.kind) (client_count cs) in
-    omega (arith, rest, one, all)
+    omega (arith, rest, one, first_count (is_client c.kind) (client_count cs))
 
 abbrev IsQuiet : Object → Object → Type 0
 IsQuiet object later = client_count later.calls ≡ client_count object.calls
@@ -105,9 +104,6 @@ begins _ = 0
 -- the reads and writes of one object
 pub count_stepped : (step : Step) (now : ℕ) (object : Object)
     → client_count (stepped fragment step now object).calls ≡ client_count object.calls + begins step
-count_stepped (Step.CallRead id) now object = count_begun object.calls _ _
-count_stepped (Step.CallWrite id value) now object = count_begun object.calls _ _
-count_stepped (Step.CallMove id layout) now object = count_begun object.calls _ _
 count_stepped (Step.Advance index) now object =
     let same =
     on_call_quiet object index (slice_get object.calls index) (λ call. advanced_object fragment object index call now) refl
@@ -151,3 +147,4 @@ count_stepped (Step.Lose place) now object = omega arith
 count_stepped (Step.Repeat place) now object =
     let same = on_message_quiet object (slice_get object.mail place) (λ message. repeated_object object message) (λ message. refl) in
     omega (arith, same)
+count_stepped _ now object = count_begun object.calls _ _

@@ -37,10 +37,9 @@ module _ {C : Type 0} (chooses : C → ℕ → ℕ → C → Type 0) (name : Lis
 
   goes_on_round : (r : Round) → MakesRound chooses name call again old before new after r → PreservesReachable old new
   goes_on_round round.Stepped h = goes_on_turn h.0
-  goes_on_round (round.Encode value k n) h = goes_on_same old new h.0
-  goes_on_round (round.Decode pieces k len) h = goes_on_same old new h.0
   goes_on_round (round.Answered receipt) h = goes_on_turn h.turn
   goes_on_round round.Late h = absurd h
+  goes_on_round _ h = goes_on_same old new h.0
 
   -- a round that was made or refused
   pub goes_on_round_both : (answer : Result Round Refusal) → IfOk answer (λ r. MakesRound chooses name call again old before new after r)

@@ -1,5 +1,5 @@
 -- Floors and steps that rise along a seat's records.
-use Rattle.std.proofs.Common.{◌≡◌, ℕ, ◌+◌, ◌<◌, ◌≤◌, List, [], ◌∷◌, ◌++◌, length, Some, None, sym, ap, ◌∙◌, arith, subst, false}
+use Rattle.std.proofs.Common.{◌≡◌, ℕ, ◌+◌, ◌<◌, ◌≤◌, List, [], ◌∷◌, ◌++◌, length, Some, None, sym, ap, arith, subst, false}
 use Rattle.std.proofs.Common.{length-append}
 use Rattle.std.specs.Prelude.{Option, is_some}
 use Rattle.std.proofs.lemmas.List.{append-nil}
@@ -62,7 +62,4 @@ rising_settled name rs new pending floor up p r t is set same h later le =
 pub length_settled : (name : List ℕ) (rs new : List CallRecord) (pending : Option CallRecord) (p r : CallRecord) → pending ≡ Some p
     → new ≡ rs ++ r ∷ []
     → length new ≡ length (rs ++ pending_list (pending_of name pending))
-length_settled name rs new pending p r is same =
-    ap length same
-    ∙ (length-append rs (r ∷ [])
-    ∙ (sym (length-append rs (p ∷ [])) ∙ ap (λ (o : Option CallRecord). length (rs ++ pending_list (pending_of name o))) (sym is)))
+length_settled name rs new pending p r is same = cc (length-append rs (r ∷ []), length-append rs (p ∷ []))

@@ -5,19 +5,19 @@ use Rattle.std.specs.Prelude.{option_map}
 use Rattle.std.specs.List.{AllByRecursion}
 use Rattle.tag.specs.declared.limits.TheConstants.{MOST_STEPS}
 use Rattle.tag.specs.declared.refusal.Refusal.{Refusal}
-use Rattle.tag.specs.declared.refusal.Refusal.TheVariants.{NoMemory, NotNow}
+use Rattle.tag.specs.declared.refusal.Refusal.TheVariants.{NoMemory}
 use Rattle.mail.specs.declared.message.Body.{Body}
 use Rattle.mail.specs.declared.message.Body.TheVariants as body
 use Rattle.record.specs.declared.call.CallKind.{CallKind}
-use Rattle.record.specs.declared.call.CallKind.TheVariants.{Read, Write, Move}
+use Rattle.record.specs.declared.call.CallKind.TheVariants.{Read}
 use Rattle.record.specs.declared.stage.Want.{Want}
 use Rattle.record.specs.declared.stage.Want.TheVariants as want
 use Rattle.record.specs.Journals.{entry_value}
 use Rattle.record.specs.Records.{Call, Object}
 use Rattle.record.specs.Steps.{Step}
 use Rattle.record.specs.Sending.{sent_value}
-use Rattle.record.specs.Wants.{current_phase, want_of}
-use Rattle.register.specs.Causes.{call_at, if_call, is_answer, is_plain, unless, if_step, answer_cause}
+use Rattle.record.specs.Wants.{current_phase}
+use Rattle.register.specs.Causes.{call_at, is_plain, answer_cause}
 use Rattle.register.specs.State.{State}
 use Rattle.register.specs.View.{value_at, want_at, receipt_of, receipt_at}
 use Rattle.register.specs.declared.receipt.Receipt.{Receipt}
@@ -73,12 +73,10 @@ module _ {C : Type 0} (chooses : C → ℕ → ℕ → C → Type 0) (name : Lis
   quiet_next : (cluster : Cluster) (object : Object) (again : Bool) (before after : C) (step : Step) (w : Want)
       → IsNext chooses name call cluster object again before after step w → begins step ≡ 0
   quiet_next cluster object again before after step want.Replies n = quiet_waiting cluster object again before after step n
-  quiet_next cluster object again before after step want.Advance n = ap begins n.1
-  quiet_next cluster object again before after step (want.Supply k m) n = ap begins n.1
   quiet_next cluster object again before after step (want.Settle k len) n = ap begins n.1.1
   quiet_next cluster object again before after step want.Again n = ap begins n.2
-  quiet_next cluster object again before after step want.Answer n = ap begins n.1
   quiet_next cluster object again before after step want.Done n = absurd n
+  quiet_next cluster object again before after step _ n = ap begins n.1
 
   module _ (again : Bool) (old : Cluster) (before : C) (new : Cluster) (after : C) where
     counted_turn : IsTurn chooses name call again old before new after → client_calls new ≡ client_calls old
@@ -87,10 +85,9 @@ module _ {C : Type 0} (chooses : C → ℕ → ℕ → C → Type 0) (name : Lis
 
     counted_round : (r : Round) → MakesRound chooses name call again old before new after r → client_calls new ≡ client_calls old
     counted_round round.Stepped h = counted_turn h.0
-    counted_round (round.Encode value k n) h = ap client_calls h.0
-    counted_round (round.Decode pieces k len) h = ap client_calls h.0
     counted_round (round.Answered receipt) h = counted_turn h.turn
     counted_round round.Late h = absurd h
+    counted_round _ h = ap client_calls h.0
 
     -- a round that was made or refused
     pub counted_round_both : (answer : Result Round Refusal) → IfOk answer (λ r. MakesRound chooses name call again old before new after r)
@@ -103,9 +100,7 @@ module _ {C : Type 0} (chooses : C → ℕ → ℕ → C → Type 0) (name : Lis
 told_same : (kind : CallKind) (now : ℕ) (settled : Option (List ℕ))
     → (if is_some (entry_value kind (Some now) settled) then sent_value kind settled else None) ≡ entry_value kind (Some now) settled
 told_same Read now None = refl
-told_same Read now (Some value) = refl
-told_same (Write value) now settled = refl
-told_same Move now settled = refl
+told_same _ now _ = refl
 
 found_receipt : (object : Object) (place call now : ℕ) (receipt : Receipt) → receipt_at object place call now ≡ Some receipt
     → (c : Call) × (call_at object call ≡ Some c) × (receipt ≡ receipt_of place call now c)
@@ -167,15 +162,11 @@ module _ {C : Type 0} (chooses : C → ℕ → ℕ → C → Type 0) (name : Lis
       → (w ≡ want.Answer → h ≡ hand.Empty → old.counter < MOST_STEPS → copy ≡ if_named old name (λ object. value_at object call))
       → (w ≡ want.Answer → ArePast old name)
       → new.counter ≤ MOST_STEPS → Copies old call r (if tells r then copy else None)
-  copies h round.Stepped w copy goes is value past few = tt
-  copies h (round.Encode v k n) w copy goes is value past few = tt
-  copies h (round.Decode pieces k len) w copy goes is value past few = tt
-  copies h round.Late w copy goes is value past few = tt
   copies hand.Empty (round.Answered receipt) w copy goes is value past few =
       let wants : w ≡ want.Answer = same_want w want.Answer (sym is ∙ goes.wants) in
       told old name call receipt copy goes.handed (value wants refl (room goes.turn few)) (past wants)
-  copies (hand.Coded coded) (round.Answered receipt) w copy goes is value past few = absurd goes
-  copies (hand.Decoded decoded) (round.Answered receipt) w copy goes is value past few = absurd goes
+  copies _ (round.Answered receipt) w copy goes is value past few = absurd goes
+  copies h _ w copy goes is value past few = tt
 
 -- Want of memory for an answer
 
@@ -183,8 +174,7 @@ answer_none : (object : Object) (number now : ℕ) → want_at object number ≡
     → answer_cause now object number ≡ None
 answer_none object number now wants few =
     let w = wants_at object number want.Answer wants in
-    ap (λ o. if_call o (λ call. unless (is_answer (want_of object (pred number) call)) NotNow (if_step now None))) w.at
-    ∙ ap (λ v. unless (is_answer v) NotNow (if_step now None)) w.wants ∙ step_within now None few
+    cc (w.at, w.wants, step_within now None few)
 
 pub memory_refused : {C : Type 0} (chooses : C → ℕ → ℕ → C → Type 0) (name : List ℕ) (call : ℕ) (old : Cluster) (again : Bool) (before : C)
     (r : Refusal)

@@ -75,17 +75,13 @@ receipts_most (r ∷ rs) = go (is_some r.receipt) (receipts_most rs) (sum_by-con
     go false rest is = omega (arith, rest, is)
 
 taken_most : (n : ℕ) (ss : List SeatState) → length (all_records (take n ss)) ≤ length (all_records ss)
-taken_most zero ss = omega arith
-taken_most (suc n) [] = omega arith
 taken_most (suc n) (s ∷ ss) =
     let rest = taken_most n ss in
     let a = length-append (records_of s) (all_records (take n ss)) in
-    let b = length-append (records_of s) (all_records ss) in
-    omega (arith, rest, a, b)
+    omega (arith, rest, a, length-append (records_of s) (all_records ss))
+taken_most _ _ = omega arith
 
 -- there are no more receipts than records
 pub receipts_few : (ss : List SeatState) (n : ℕ) → receipts_of (all_records (take n ss)) ≤ length (all_records ss)
 receipts_few ss n =
-    let one = receipts_most (all_records (take n ss)) in
-    let all = taken_most n ss in
-    omega (arith, one, all)
+    omega (arith, receipts_most (all_records (take n ss)), taken_most n ss)

@@ -14,7 +14,8 @@ use Rattle.soundness.proofs.Sound.OpenedObjectLemmas.{opening_sound}
 use Rattle.soundness.proofs.Sound.RunSoundLemmas.{step_sound}
 use Rattle.register.specs.Causes.{unless}
 use Rattle.register.specs.State.{State, made}
-use Rattle.register.proofs.ListLemmas.{all_pushed, all_weaker}
+use Rattle.soundness.proofs.ListLemmas.{all_push}
+use Rattle.register.proofs.ListLemmas.{all_weaker}
 use Rattle.cluster.specs.Causes.{create_cause}
 use Rattle.cluster.specs.Cluster.{Named, Cluster, named, layout_numbered}
 use Rattle.cluster.specs.Preconditions.{MayMake}
@@ -59,9 +60,9 @@ created_keeps old name id delta lawful sound =
       state = record { object = opened_object (layout_numbered old id) delta (suc old.counter); last = suc old.counter };
     } in
     record {
-      records = all_pushed HasSoundRecord old.objects object sound.records
+      records = all_push HasSoundRecord old.objects object sound.records
           (opening_sound fragment fragments_are_code (layout_numbered old id) delta (suc old.counter) lawful);
-      past = all_pushed (IsPastAt (suc old.counter)) old.objects object (later old.counter old.objects sound.past) (omega arith);
+      past = all_push (IsPastAt (suc old.counter)) old.objects object (later old.counter old.objects sound.past) (omega arith);
     }
 
 pub step_keeps : (old new : Cluster) → IsStep old new → IsSoundCluster old → IsSoundCluster new

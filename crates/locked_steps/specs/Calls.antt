@@ -28,7 +28,7 @@ client_count (call ∷ calls) = if is_client call.kind then suc (client_count ca
 abbrev pub client_calls : Cluster → ℕ
 client_calls cluster = object_sum (λ o. client_count o.state.object.calls) cluster.objects
 
--- the entry of the call of this number of the object at this index; none where there is no such call
+-- the entry of the call of this number of the object at this index; none if there is no such call
 abbrev pub entry_of_call : Cluster → (object call : ℕ) → Option Entry
 entry_of_call cluster object call = if_placed cluster object (λ o. option_map (entry_of call) (call_at o call))
 
@@ -53,7 +53,7 @@ abbrev pub told_in : Option ℕ → Option (List ℕ) → Option (List ℕ)
 told_in None value = None
 told_in (Some step) value = value
 
--- what the entry of a call shows, where its object is at this index
+-- what the entry of a call shows, if its object is at this index
 abbrev pub shown_entry : (object : ℕ) → Entry → Shown
 shown_entry object e = record {
   object = object;

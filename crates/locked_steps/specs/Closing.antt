@@ -27,7 +27,7 @@ pub record IsReceiptOf (place : ℕ) (e : Entry) (t : Receipt) : Type 0 where
   pub answered : e.answered ≡ Some t.answered
   pub value : t.value ≡ e.value
 
--- the entry is unanswered where there is no receipt, and is answered as the receipt says where there is one
+-- the entry is unanswered if there is no receipt, and is answered as the receipt says if there is one
 abbrev pub IsToldAs : (place : ℕ) → Entry → Option Receipt → Type 0
 IsToldAs place e None = e.answered ≡ None
 IsToldAs place e (Some t) = IsReceiptOf place e t
@@ -77,12 +77,12 @@ pub record Fit (count : ℕ) (cluster : Cluster) (seats : List SeatState) : Type
   pub stand : AllStand cluster (all_records seats)
   pub distinct : are_distinct (map key_of (all_records seats)) ≡ true
 
--- the step of the answer; none where there is no receipt
+-- the step of the answer; none if there is no receipt
 abbrev pub answer_of : Option Receipt → Option ℕ
 answer_of None = None
 answer_of (Some t) = Some t.answered
 
--- the value that was returned; none where there is no receipt
+-- the value that was returned; none if there is no receipt
 abbrev pub value_returned : Option Receipt → Option (List ℕ)
 value_returned None = None
 value_returned (Some t) = t.value

@@ -34,7 +34,7 @@ pub record IsSoundCluster (cluster : Cluster) : Type 0 where
   pub records : AreSound cluster
   pub past : AllByRecursion (λ o. o.state.last ≤ cluster.counter) cluster.objects
 
--- steps that lead to the old cluster can be continued to the new one, which is sound where the old one is
+-- steps that lead to the old cluster can be continued to the new one, which is sound if the old one is
 abbrev pub PreservesReachable : (old new : Cluster) → Type 0
 PreservesReachable old new =
     ((first : Cluster) → IsReachable first old → IsReachable first new) × (IsSoundCluster old → IsSoundCluster new)

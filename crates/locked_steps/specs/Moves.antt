@@ -41,7 +41,7 @@ admin_code cluster =
 abbrev pub moving : List ℕ → PendingMove → Moving
 moving name p = record { name = name; object = p.object; call = p.call; called = p.called }
 
--- the pending move of the object of this name; none where none is kept
+-- the pending move of the object of this name; none if none is kept
 abbrev pub moving_of : List ℕ → Option PendingMove → Option Moving
 moving_of name None = None
 moving_of name (Some p) = Some (moving name p)

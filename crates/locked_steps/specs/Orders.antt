@@ -91,7 +91,7 @@ abbrev pub AnswersMove : Cluster → Option Moving → Round → Type 0
 AnswersMove cluster pending (round.Answered receipt) = IsReceiptOfMove cluster pending receipt
 AnswersMove cluster pending _ = Unit {0}
 
--- why no round of the pending move is made; NoCall where none is pending
+-- why no round of the pending move is made; NoCall if none is pending
 abbrev pub move_cause_of : Cluster → Option Moving → (turns : ℕ) → Option Refusal
 move_cause_of cluster None turns = Some NoCall
 move_cause_of cluster (Some m) turns = going_cause cluster m.name m.call turns
@@ -103,7 +103,7 @@ module _ {C : Type 0} (chooses : C → ℕ → ℕ → C → Type 0) where
   MoveGoes None h again old before new after r = ⊥
   MoveGoes (Some m) h again old before new after r = Goes chooses m.name m.call h again old before new after r
 
-  -- why a round of the pending move is refused, where no cause above forbids the round
+  -- why a round of the pending move is refused, if no cause above forbids the round
   abbrev pub MoveGoesNot : Option Moving → HandedIn → (again : Bool) → (old : Cluster) → (before after : C) → Refusal
       → Type 0
   MoveGoesNot None h again old before after r = ⊥

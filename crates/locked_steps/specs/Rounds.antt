@@ -27,20 +27,20 @@ open_cause turns None = Some NoCall
 open_cause turns (Some want.Done) = Some NotNow
 open_cause turns (Some w) = unless (nat_lt 0 turns) GaveUp None
 
--- why the call of this number makes no round; NoObject where no object has this name
+-- why the call of this number makes no round; NoObject if no object has this name
 abbrev pub going_cause : Cluster → (name : List ℕ) → (call turns : ℕ) → Option Refusal
 going_cause cluster name call turns = object_cause cluster name (λ object. open_cause turns (want_at object call))
 
--- why the pending call makes no round; NoCall where none is pending
+-- why the pending call makes no round; NoCall if none is pending
 abbrev pub pending_cause : Cluster → Option Pending → (turns : ℕ) → Option Refusal
 pending_cause cluster None turns = Some NoCall
 pending_cause cluster (Some p) turns = going_cause cluster p.name p.kept.call turns
 
--- why a seat's call makes no round; Stranger, before all others, where the seat is ahead of the cluster
+-- why a seat's call makes no round; Stranger, before all others, if the seat is ahead of the cluster
 abbrev pub round_cause : Cluster → SeatState → (turns : ℕ) → Option Refusal
 round_cause cluster s turns = unless_stranger cluster s (pending_cause cluster s.pending turns)
 
--- why the cluster refuses what is handed in; nothing is refused where nothing is handed in
+-- why the cluster refuses what is handed in; nothing is refused if nothing is handed in
 abbrev pub hand_cause : Cluster → (name : List ℕ) → (call : ℕ) → HandedIn → Option Refusal
 hand_cause cluster name call hand.Empty = None
 hand_cause cluster name call (hand.Coded coded) =
@@ -60,7 +60,7 @@ abbrev pub IsOvertaken : {C : Type 0} → Option Refusal
 IsOvertaken cause old before new after = (cause ≡ Some NotNow) × (new ≡ old) × (after ≡ before)
 
 module _ {C : Type 0} (chooses : C → ℕ → ℕ → C → Type 0) where
-  -- a round of a call: one of the driver where nothing is handed in; otherwise the call is supplied or settled
+  -- a round of a call: one of the driver if nothing is handed in; otherwise the call is supplied or settled
   abbrev pub Goes : (name : List ℕ) → (call : ℕ) → HandedIn → (again : Bool)
       → (old : Cluster) → (before : C) → (new : Cluster) → (after : C) → Round → Type 0
   Goes name call hand.Empty again old before new after r = MakesRound chooses name call again old before new after r
@@ -86,7 +86,7 @@ module _ {C : Type 0} (chooses : C → ℕ → ℕ → C → Type 0) where
   SeatGoes None h again old before new after r = ⊥
   SeatGoes (Some p) h again old before new after r = Goes p.name p.kept.call h again old before new after r
 
-  -- why a round of a seat's pending call is refused, where nothing above forbids it
+  -- why a round of a seat's pending call is refused, if nothing above forbids it
   abbrev pub SeatGoesNot : Option Pending → HandedIn → (again : Bool) → (old : Cluster) → (before after : C) → Refusal
       → Type 0
   SeatGoesNot None h again old before after r = ⊥
@@ -106,7 +106,7 @@ abbrev pub tells : Round → Bool
 tells (round.Answered receipt) = is_some receipt.value
 tells _ = false
 
--- where the round answered its call: the receipt has its number and the number of the next step, and `copy` is a second
+-- if the round answered its call: the receipt has its number and the number of the next step, and `copy` is a second
 -- copy of its value
 abbrev pub Copies : Cluster → (call : ℕ) → Round → Option (List ℕ) → Type 0
 Copies old call (round.Answered receipt) copy =

@@ -34,12 +34,12 @@ pub record SeatState : Type 0 where
   pub records : List CallRecord
   pub pending : Option Pending
 
--- the pending call of this object with this record; none where there is no record
+-- the pending call of this object with this record; none if there is no record
 abbrev pub pending_of : List ℕ → Option CallRecord → Option Pending
 pending_of name None = None
 pending_of name (Some r) = Some (record { name = name; kept = r })
 
--- the record of the pending call as a list, which is empty where none is pending
+-- the record of the pending call as a list, which is empty if none is pending
 abbrev pub pending_list : Option Pending → List CallRecord
 pending_list None = []
 pending_list (Some p) = p.kept ∷ []
@@ -52,11 +52,11 @@ records_of s = s.records ++ pending_list s.pending
 abbrev pub IsUnanswered : Option Pending → Type 0
 IsUnanswered pending = MatchOption pending (Unit {0}) (λ p. p.kept.receipt ≡ None)
 
--- the lower bound for the next call's floor: the answer step, or this call's floor where it has no answer
+-- the lower bound for the next call's floor: the answer step, or this call's floor if it has no answer
 abbrev pub least_after : ℕ → Option Receipt → ℕ
 least_after floor receipt = option_map_or (λ t. t.answered) receipt floor
 
--- where there is a receipt, its answer is later than its call
+-- if there is a receipt, its answer is later than its call
 abbrev pub IsAnsweredLater : Option Receipt → Type 0
 IsAnsweredLater receipt = MatchOption receipt (Unit {0}) (λ t. t.called < t.answered)
 
@@ -97,7 +97,7 @@ abbrev pub call_step : (id : ℕ) → Begin → Step
 call_step id begin.Read = Step.CallRead id
 call_step id (begin.Write value) = Step.CallWrite id value
 
--- how many calls an object has; 0 where there is no object
+-- how many calls an object has; 0 if there is no object
 abbrev pub call_count : Option State → ℕ
 call_count None = 0
 call_count (Some state) = length state.object.calls
@@ -162,7 +162,7 @@ new_seats (suc n) = new_seats n ++ new_seat n ∷ []
 
 -- Why a seat's call is refused
 
--- Stranger where the seat has seen a later step than the cluster has made; otherwise the later cause
+-- Stranger if the seat has seen a later step than the cluster has made; otherwise the later cause
 abbrev pub unless_stranger : Cluster → SeatState → Option Refusal → Option Refusal
 unless_stranger cluster s later = unless (nat_le s.floor cluster.counter) Stranger later
 

@@ -46,7 +46,7 @@ pub(crate) struct PendingMove {
 pub enum Order<'a> {
     /// Adds a layout.
     AddLayout(Layout),
-    /// Creates an object under a layout. Its banks keep `delta` finalized versions beside the newest, or all pieces
+    /// Creates an object under a layout. Its banks keep `delta` finalized versions besides the newest, or all pieces
     /// without `delta`.
     Create {
         name: &'a str,
@@ -78,7 +78,7 @@ impl<L: StoreName> Model for Admin<L> {
 }
 
 impl<L: StoreName> Admin<L> {
-    /// The administrator of a store that is opened with this cluster. It allocates no memory.
+    /// Makes the administrator of a store that is opened with this cluster. It allocates no memory.
     pub(crate) fn new(alloc: Global, cluster: &Cluster) -> Admin<L>
         ensures { result ≡ new_admin cluster.now }
     {
@@ -92,22 +92,23 @@ impl<L: StoreName> Admin<L> {
         }
     }
 
-    /// Whether it has a move that is not answered. A resume continues that move (`move_round_in`).
+    /// Returns whether the administrator has a move that is not answered. A resume continues that move
+    /// (`move_round_in`).
     pub fn is_pending(&self) -> bool
         ensures { IsTrue result ↔ IsSome self.now.moving }
     {
         self.pending.is_some()
     }
 
-    /// How many orders were carried out: layouts added, objects created, servers set, positions retired, and moves
-    /// begun.
+    /// Returns how many orders were carried out: layouts added, objects created, servers set, positions retired, and
+    /// moves begun.
     pub fn orders(&self) -> u64
         ensures { result ≡ self.now.orders }
     {
         self.orders
     }
 
-    /// How many rounds of its moves were made with `asks_again`.
+    /// Returns how many rounds of the administrator's moves were made with `asks_again`.
     pub fn asked(&self) -> u64
         ensures { result ≡ self.now.asked }
     {
@@ -115,7 +116,7 @@ impl<L: StoreName> Admin<L> {
     }
 
     /// Copies the name of the object that is to be moved, so that `begin_move_in` does not do it under the lock. It
-    /// does nothing where a move is pending. `NoMemory` is the only refusal.
+    /// does nothing if a move is pending. `NoMemory` is the only refusal.
     pub fn make_room(&mut self, name: &str) -> Result<(), Refusal>
         ensures same { self.new ≡ self.old }
         ensures refused { IfErr result (λ r. r ≡ NoMemory) }

@@ -18,10 +18,11 @@ use tag::{CallId, Refusal};
 
 /// Begins a read or a write of a seat: one step, with its record in the seat.
 ///
-/// `Stranger` where the seat's floor is above the cluster's counter, `NoObject` where no object has this name, `NotNow`
-/// where the seat has a pending call, `TooLong` where the value is longer than `LONGEST_VALUE` bytes, and `Full` where
-/// the limit of steps, of the object's calls or of its waiting messages is met. Else `NoMemory`, where memory is
-/// refused. Without `Seat::make_room` for this name, the seat grows under the lock, before the step.
+/// Is refused with `Stranger` if the seat's floor is above the cluster's counter, with `NoObject` if no object has this
+/// name, with `NotNow` if the seat has a pending call, with `TooLong` if the value is longer than `LONGEST_VALUE`
+/// bytes, and with `Full` if the limit of steps, of the object's calls or of its waiting messages is met. Otherwise it
+/// is refused with `NoMemory` if memory is refused. Without `Seat::make_room` for this name, the seat grows under the
+/// lock, before the step.
 pub fn begin_in<L: StoreName>(
     booked: &mut Booked<L>,
     seat: &mut Seat<L>,

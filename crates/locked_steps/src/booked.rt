@@ -56,7 +56,7 @@ impl<L: StoreName> Model for Booked<L> {
 }
 
 impl<L: StoreName> Booked<L> {
-    /// A sound cluster without calls, with an empty book for this many seats.
+    /// Makes a sound cluster without calls, with an empty book for this many seats.
     pub(crate) fn new(cluster: Cluster, book: Book<L>, own: Share<L>, seats: u32) -> Booked<L>
         requires calls { calls cluster.objects ≡ 0 }
         requires first { cluster ≡ L.first }

@@ -38,7 +38,7 @@ pub struct CallRecord {
 }
 
 impl Begin {
-    /// What the call does.
+    /// Returns what the call does.
     pub(crate) fn operation(&self) -> Operation
         ensures { result ≡ begun_operation self.now }
     {
@@ -48,7 +48,7 @@ impl Begin {
         }
     }
 
-    /// A copy of the value that a write brings, which shares its bytes; none for a read. `NoMemory` is the only
+    /// Returns a copy of the value that a write brings, which shares its bytes; none for a read. `NoMemory` is the only
     /// refusal.
     pub(crate) fn written(&self) -> Result<Option<Bytes>, Refusal>
         ensures value { IfOk result (λ w. w ≡ written_of self.now) }
@@ -60,7 +60,7 @@ impl Begin {
         }
     }
 
-    /// The length in bytes of the value that a write brings; 0 for a read.
+    /// Returns the length in bytes of the value that a write brings; 0 for a read.
     pub(crate) fn len(&self) -> usize
         ensures { result ≡ written_len self.now }
     {

@@ -32,8 +32,8 @@ pub struct NotClosed<L: StoreName> {
 
 /// Closes a store that nobody uses any more.
 ///
-/// `Stranger` where the seats are not all seats of the store, each once, or do not fit its history: a record or its
-/// receipt differs from the history, a call is recorded twice, or a call whose record has no receipt is answered.
+/// Fails with `Stranger` if the seats are not all seats of the store, each once, or do not fit its history: a record or
+/// its receipt differs from the history, a call is recorded twice, or a call whose record has no receipt is answered.
 /// `NoMemory` may come before that is known. Both give the cluster and the seats back.
 pub fn close_in<L: StoreName>(
     alloc: Global,

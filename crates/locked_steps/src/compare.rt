@@ -10,7 +10,8 @@ use record::{Entry, Operation};
 use register::Receipt;
 use tag::Refusal;
 
-/// Whether the record's call is in the history, and its entry agrees with the record. `NoMemory` is the only refusal.
+/// Returns whether the record's call is in the history, and its entry agrees with the record. `NoMemory` is the only
+/// refusal.
 pub(crate) fn stands(cluster: &Cluster, record: &CallRecord) -> Result<bool, Refusal>
     ensures stand { IfOk result (λ b. IsTrue b ↔ Stands cluster.now record.now) }
     ensures refused { IfErr result (λ e. e ≡ NoMemory) }

@@ -16,7 +16,7 @@ use std::alloc::Global;
 use std::sync::ledger::{Book, Share};
 use tag::Refusal;
 
-/// Whether all seats are there and fit the history. `NoMemory` is the only refusal.
+/// Returns whether all seats are there and fit the history. `NoMemory` is the only refusal.
 pub(crate) fn fit<L: StoreName>(
     alloc: Global,
     cluster: &Cluster,
@@ -111,7 +111,7 @@ fn have_no_repeat(keys: &mut [(u32, u64)]) -> bool
     keys.is_sorted_by(|first, second| first < second)
 }
 
-/// How many receipts the records of the seats have.
+/// Returns how many receipts the records of the seats have.
 pub(crate) fn receipts<L: StoreName>(seats: &[Seat<L>]) -> u64
     requires { length (all_records seats.now) < 2 ^ 64 }
     ensures { result ≡ receipts_of (all_records seats.now) }

@@ -17,7 +17,7 @@ pub enum HandedIn {
 }
 
 impl HandedIn {
-    /// Whether nothing is handed in.
+    /// Returns whether nothing is handed in.
     pub(crate) fn is_empty(&self) -> bool
         ensures { IsTrue result ↔ (self.now ≡ hands.Empty) }
     {

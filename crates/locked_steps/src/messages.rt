@@ -11,10 +11,11 @@ use driver::{Chooser, Filter, choose, handle_at};
 use tag::Refusal;
 
 /// Handles one message of an object, the one that `chooser` chooses among those that can be handled: a request to a
-/// server that is up is served, and a reply is taken. This is one step. Returns false, and makes no step, where no
-/// message can be handled.
+/// server that is up is served, and a reply is taken. This is one step. Returns false, and makes no step, if no message
+/// can be handled.
 ///
-/// `NoObject` where no object has this name, and `Full` where the limit of steps or of stored bytes is met.
+/// Is refused with `NoObject` if no object has this name, and with `Full` if the limit of steps or of stored bytes is
+/// met.
 pub fn stir_in<L: StoreName, C: Chooser>(
     booked: &mut Booked<L>,
     name: &str,
@@ -48,10 +49,10 @@ fn stir<C: Chooser>(cluster: &mut Cluster, name: &str, chooser: &mut C) -> Resul
 
 /// Loses or repeats one waiting message of an object: one step. `chooser` first chooses the message among all that
 /// wait, and then what happens to it: with an even number the message is lost, with an odd one it is repeated. Returns
-/// false, and makes no step, where no message waits.
+/// false, and makes no step, if no message waits.
 ///
-/// `NoObject` where no object has this name, and `Full` where the limit of steps or of the object's waiting messages is
-/// met.
+/// Is refused with `NoObject` if no object has this name, and with `Full` if the limit of steps or of the object's
+/// waiting messages is met.
 pub fn disturb_in<L: StoreName, C: Chooser>(
     booked: &mut Booked<L>,
     name: &str,

@@ -26,10 +26,11 @@ use tag::{CallId, Refusal, Stamp};
 
 /// Begins a move of an object to the layout of this number: one step, which counts as an order.
 ///
-/// `NoObject` where no object has this name, `MovePending` where the object or the administrator has a move that is not
-/// answered, `BadLayout` where there is no layout of this number, and `Full` where the limit of steps, of the object's
-/// positions, of its calls or of its waiting messages is met. Else `NoMemory`, where memory is refused. Without
-/// `Admin::make_room` for this name, the administrator copies the name under the lock, before the step.
+/// Is refused with `NoObject` if no object has this name, with `MovePending` if the object or the administrator has a
+/// move that is not answered, with `BadLayout` if there is no layout of this number, and with `Full` if the limit of
+/// steps, of the object's positions, of its calls or of its waiting messages is met. Otherwise it is refused with
+/// `NoMemory` if memory is refused. Without `Admin::make_room` for this name, the administrator copies the name under
+/// the lock, before the step.
 pub fn begin_move_in<L: StoreName>(
     booked: &mut Booked<L>,
     admin: &mut Admin<L>,
@@ -74,8 +75,8 @@ fn call_move(cluster: &mut Cluster, name: &str, layout: LayoutId) -> Result<Call
     cluster.call_move(name, layout)
 }
 
-/// Whether the cluster has the administrator's pending move: the move's object is at its place, and the call of the
-/// move's number is a move that began at its step. False where no move is pending.
+/// Returns whether the cluster has the administrator's pending move: the move's object is at its place, and the call of
+/// the move's number is a move that began at its step. False if no move is pending.
 pub fn has_move_in<L: StoreName>(booked: &Booked<L>, admin: &Admin<L>) -> bool
     ensures state { IsStateOf L.first booked.now }
     ensures has { result ≡ has_pending_move booked.now admin.now.moving }
@@ -88,11 +89,11 @@ pub fn has_move_in<L: StoreName>(booked: &Booked<L>, admin: &Admin<L>) -> bool
 }
 
 /// Makes one round of the administrator's pending move, as `round_in` makes one of a seat's call. It counts a round
-/// that is made with `asks_again`. Where the round answers the move, none is pending any more, and the receipt has the
+/// that is made with `asks_again`. If the round answers the move, none is pending any more, and the receipt has the
 /// move's number. If the cluster has the move (`has_move_in`), the receipt also names the move's object and the step
 /// that began it, and says that it is a move without a value.
 ///
-/// `NoCall` where no move is pending. Else it is refused as `round_in` is, but never as `Stranger`.
+/// Is refused with `NoCall` if no move is pending. Otherwise it is refused as `round_in` is, but never as `Stranger`.
 pub fn move_round_in<L: StoreName, C: Chooser>(
     booked: &mut Booked<L>,
     admin: &mut Admin<L>,

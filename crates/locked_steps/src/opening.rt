@@ -17,9 +17,9 @@ use tag::Refusal;
 /// The cluster with its book, the seats, and the administrator of a store.
 pub type Parts<L> = (Booked<L>, Vec<Seat<L>>, Admin<L>);
 
-/// The parts of a store over a cluster without calls, with `seats` seats, numbered from 0. The store's book is made
-/// from `blank`, which must have one part for each seat and one for the store. The cluster must be the one that the
-/// store's name has as its member `first`.
+/// Makes the parts of a store over a cluster without calls, with `seats` seats, numbered from 0. The store's book is
+/// made from `blank`, which must have one part for each seat and one for the store. The cluster must be the one that
+/// the store's name has as its member `first`.
 ///
 /// `NoMemory` is the only refusal.
 pub fn open_in<L: StoreName>(

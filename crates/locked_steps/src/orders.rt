@@ -16,14 +16,13 @@ use crate::booked::{Booked, StoreName};
 use cluster::{Cluster, LayoutId};
 use tag::Refusal;
 
-/// Carries out an order in one step, and counts it. Returns the number of the layout where the order adds one, and else
-/// none.
+/// Carries out an order in one step, and counts it. Returns the number of the layout if the order adds one, and
+/// otherwise none.
 ///
-/// - `AddLayout`: `BadLayout` where a member is no server, and `Full` where the limit of steps or of layouts is met.
-/// - `Create`: `ObjectExists` where an object has this name, `BadLayout` where there is no layout of this number,
-///   `TooLong` where the name is longer than `LONGEST_NAME` bytes, and `Full` where the limit of steps or of objects is
-///   met.
-/// - `SetServer`: `BadLayout` where there is no such server, and `Full` where the limit of steps is met.
+/// - `AddLayout`: `BadLayout` if a member is no server, and `Full` if the limit of steps or of layouts is met.
+/// - `Create`: `ObjectExists` if an object has this name, `BadLayout` if there is no layout of this number, `TooLong`
+///   if the name is longer than `LONGEST_NAME` bytes, and `Full` if the limit of steps or of objects is met.
+/// - `SetServer`: `BadLayout` if there is no such server, and `Full` if the limit of steps is met.
 pub fn admin_in<L: StoreName>(
     booked: &mut Booked<L>,
     admin: &mut Admin<L>,

@@ -16,8 +16,8 @@ use tag::Refusal;
 /// Retires the base of an object, which must be this position: one step, which counts as an order. Returns how many
 /// bytes this frees. It allocates no memory.
 ///
-/// `NoObject` where no object has this name, `NotNow` unless the position is the object's base and the move out of it
-/// was answered, and `Full` where the limit of steps is met.
+/// Is refused with `NoObject` if no object has this name, with `NotNow` unless the position is the object's base and
+/// the move out of it was answered, and with `Full` if the limit of steps is met.
 pub fn retire_in<L: StoreName>(
     booked: &mut Booked<L>,
     admin: &mut Admin<L>,

@@ -32,9 +32,9 @@ use tag::{CallId, MOST_STEPS, Refusal};
 /// each round made with `asks_again`, and keeps the receipt of the answer. `turns` is how many turns the call has left;
 /// a round needs one.
 ///
-/// `Stranger` if the seat's floor is above the cluster's counter, `NoCall` if the seat has no pending call, `NotNow` if
-/// the call is answered, `GaveUp` if `turns` is 0. Else it is refused as `make_round`, `Cluster::supply` or
-/// `Cluster::settle` is.
+/// Is refused with `Stranger` if the seat's floor is above the cluster's counter, with `NoCall` if the seat has no
+/// pending call, with `NotNow` if the call is answered, with `GaveUp` if `turns` is 0. Otherwise it is refused as
+/// `make_round`, `Cluster::supply` or `Cluster::settle` is.
 pub fn round_in<L: StoreName, C: Chooser>(
     booked: &mut Booked<L>,
     seat: &mut Seat<L>,

@@ -53,29 +53,29 @@ impl<L: StoreName> Model for Seat<L> {
 }
 
 impl<L: StoreName> Seat<L> {
-    /// The number of the seat in its store, from 0.
+    /// Returns the number of the seat in its store, from 0.
     pub fn number(&self) -> u32
         ensures { result ≡ self.now.number }
     {
         self.number
     }
 
-    /// Whether it has a pending call: one that is neither answered nor abandoned. A resume continues that call
-    /// (`round_in`).
+    /// Returns whether the seat has a pending call: one that is neither answered nor abandoned. A resume continues that
+    /// call (`round_in`).
     pub fn is_pending(&self) -> bool
         ensures { IsTrue result ↔ IsSome self.now.pending }
     {
         self.pending.is_some()
     }
 
-    /// Its floor: the greatest answer step that it has seen, or 0.
+    /// Returns the seat's floor: the greatest answer step that it has seen, or 0.
     pub fn floor(&self) -> Stamp
         ensures { result ≡ self.now.floor }
     {
         self.floor
     }
 
-    /// How many rounds of its calls were made with `asks_again`.
+    /// Returns how many rounds of the seat's calls were made with `asks_again`.
     pub fn asked(&self) -> u64
         ensures { result ≡ self.now.asked }
     {
@@ -133,7 +133,7 @@ impl<L: StoreName> Seat<L> {
     }
 
     /// Makes room for the record of a call of an object of this name, so that `begin_in` does not grow the seat under
-    /// the lock. It does nothing where a call is pending. `NoMemory` is the only refusal.
+    /// the lock. It does nothing if a call is pending. `NoMemory` is the only refusal.
     pub fn make_room(&mut self, name: &str) -> Result<(), Refusal>
         ensures same { self.new ≡ self.old }
         ensures refused { IfErr result (λ r. r ≡ NoMemory) }
@@ -145,7 +145,7 @@ impl<L: StoreName> Seat<L> {
     }
 }
 
-/// A seat without calls. It allocates no memory.
+/// Makes a seat without calls. It allocates no memory.
 pub(crate) fn empty_seat<L: StoreName>(alloc: Global, number: u32, share: Share<L>) -> Seat<L>
     requires parts { share.parts ≡ 1 }
     requires amount { share.amount ≡ 0 }
@@ -162,8 +162,8 @@ pub(crate) fn empty_seat<L: StoreName>(alloc: Global, number: u32, share: Share<
     }
 }
 
-/// Copies the name of an object into `kept`, and makes room for one more record. It allocates only where the name
-/// differs or there is no room. `NoMemory` is the only refusal.
+/// Copies the name of an object into `kept`, and makes room for one more record. It allocates only if the name differs
+/// or there is no room. `NoMemory` is the only refusal.
 pub(crate) fn make_room_for(
     kept: &mut String,
     records: &mut Vec<CallRecord>,
@@ -181,7 +181,7 @@ pub(crate) fn make_room_for(
     Ok(())
 }
 
-/// Copies `text` into `kept`, where they differ. `NoMemory` is the only refusal.
+/// Copies `text` into `kept`, if they differ. `NoMemory` is the only refusal.
 pub(crate) fn hold(kept: &mut String, text: &str) -> Result<(), Refusal>
     ensures copy { OnOk result (string_bytes kept.new ≡ text.now) }
     ensures refused { IfErr result (λ r. r ≡ NoMemory) }

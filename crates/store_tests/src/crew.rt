@@ -21,7 +21,7 @@ const THREADS: usize = 8;
 #[derive(Clone, Copy)]
 pub(crate) struct Part {
     pub(crate) calls: u8,
-    /// Each client writes and reads in turn. Else every second one writes, and the others read.
+    /// Each client writes and reads in turn. Otherwise every second one writes, and the others read.
     pub(crate) alternates: bool,
 }
 

@@ -47,7 +47,7 @@ pub(crate) fn is_answered(rt: &impl Abort, answer: Answer) {
     let _receipt = receipt_of(rt, answer);
 }
 
-/// The step at which a call began that was answered with this value.
+/// Returns the step at which a call began that was answered with this value.
 pub(crate) fn called_with(rt: &impl Abort, answer: Answer, value: &'static [u8]) -> u64 {
     let receipt = receipt_of(rt, answer);
     is_value(rt, &receipt.value, &Some(Bytes::from_static(value)));

@@ -10,7 +10,7 @@ use std::process::Abort;
 use std::sync::Wait;
 use std::thread::Threads;
 
-/// Answers the greatest number there is.
+/// Returns the greatest number there is.
 #[derive(Clone, Copy)]
 struct Greatest;
 

@@ -5,13 +5,13 @@ use layout::Layout;
 use std::alloc::Global;
 use std::process::Abort;
 
-/// Four servers with the object `a`, but where they are bare.
+/// Four servers with the object `a`, but if they are bare.
 #[derive(Clone, Copy)]
 pub(crate) enum Servers {
     Bare,
     /// The banks keep every piece.
     KeepAll,
-    /// The banks keep so many finalized versions beside the newest.
+    /// The banks keep so many finalized versions besides the newest.
     Collect { delta: u32 },
     /// There is a layout more, of three servers with k 1.
     TwoLayouts,
@@ -34,8 +34,8 @@ fn add_layout(rt: &impl Abort, cluster: &mut Cluster, k: u8, members: &[u8]) -> 
     cluster.add_layout(layout).expect(rt, "room for a layout")
 }
 
-/// Four servers, one layout of all with k 2, and the object `a`, whose banks keep `delta` finalized versions beside the
-/// newest, or all: two steps.
+/// Four servers, one layout of all with k 2, and the object `a`, whose banks keep `delta` finalized versions besides
+/// the newest, or all: two steps.
 pub(crate) fn four_servers(rt: &impl Abort, alloc: Global, delta: Option<u32>) -> Cluster {
     let mut cluster = Cluster::new(alloc, 4);
     let layout = add_layout(rt, &mut cluster, 2, &[0, 1, 2, 3]);

@@ -36,7 +36,7 @@ impl Tally {
         self.answered.load(Ordering::SeqCst)
     }
 
-    /// Whether a call is to be resumed: it is stuck, gave up or is to begin anew, and resumes are left.
+    /// Returns whether a call is to be resumed: it is stuck, gave up or is to begin anew, and resumes are left.
     pub(crate) fn is_resumed(&self, answer: &Answer) -> bool {
         match answer {
             Err(Refusal::Stuck) | Err(Refusal::GaveUp) | Err(Refusal::Collected) => {

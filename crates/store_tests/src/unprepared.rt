@@ -1,4 +1,4 @@
-//! The locked sections that begin a call and a move, where no room was made before: they make it themselves.
+//! The locked sections that begin a call and a move, if no room was made before: they make it themselves.
 
 ghost use Rattle.std.specs.Prelude.{◌≡◌, ◌+◌};
 

@@ -10,7 +10,7 @@ pub(crate) struct Varied {
 }
 
 impl Varied {
-    /// One of the first four, by the seat of this number.
+    /// Returns one of the first four, by the seat of this number.
     pub(crate) fn new(seat: u32) -> Varied {
         Varied {
             state: u64::from(seat),

@@ -16,13 +16,13 @@ use std::thread::Threads;
 use tag::Refusal;
 
 impl<L: StoreName> Store<L> {
-    /// Writes a value of at most `LONGEST_VALUE` bytes to an object, in at most `turns` steps beside the one that
-    /// begins the call. Where the call wants replies, `chooser` chooses which of its messages is handled next.
+    /// Writes a value of at most `LONGEST_VALUE` bytes to an object, in at most `turns` steps besides the one that
+    /// begins the call. If the call wants replies, `chooser` chooses which of its messages is handled next.
     ///
-    /// Where the call does not begin, the seat is unchanged: `Stranger` where its floor is above the store's counter,
-    /// `NoObject` where no object has this name, `NotNow` where it has a pending call, `TooLong` where the value is too
-    /// long, `Full` where the limit of steps, of the object's calls or of its waiting messages is met, and else
-    /// `NoMemory`. A later refusal leaves the call pending in the seat, and is one of those of `resume`.
+    /// If the call does not begin, the seat is unchanged: `Stranger` if its floor is above the store's counter,
+    /// `NoObject` if no object has this name, `NotNow` if it has a pending call, `TooLong` if the value is too long,
+    /// `Full` if the limit of steps, of the object's calls or of its waiting messages is met, and otherwise `NoMemory`.
+    /// A later refusal leaves the call pending in the seat, and is one of those of `resume`.
     pub fn write<R: Threads + Wait + Sync, C: Chooser>(
         &self,
         rt: &R,
@@ -41,7 +41,7 @@ impl<L: StoreName> Store<L> {
         self.call(rt, &NoGate, seat, name, Begin::Write(value), chooser, turns)
     }
 
-    /// Reads an object, in at most `turns` steps beside the one that begins the call. It is refused as `write` is, but
+    /// Reads an object, in at most `turns` steps besides the one that begins the call. It is refused as `write` is, but
     /// never for the value.
     pub fn read<R: Threads + Wait + Sync, C: Chooser>(
         &self,
@@ -61,13 +61,13 @@ impl<L: StoreName> Store<L> {
     /// Continues the seat's pending call, in at most `turns` steps. The first round resends the requests of the current
     /// phase of a call that wants replies, and restarts a call whose fetch lacks pieces.
     ///
-    /// - `Stranger` where the seat's floor is above the store's counter.
-    /// - `NoCall` where the seat has no pending call.
+    /// - `Stranger` if the seat's floor is above the store's counter.
+    /// - `NoCall` if the seat has no pending call.
     /// - `GaveUp` once `turns` steps were made.
-    /// - `Stuck` where the call wants replies and none of its messages can be handled.
-    /// - `Full` where a limit is met.
-    /// - `Collected` where the call's fetch lacks pieces after the first round; the next resume restarts the call.
-    /// - `NoMemory` where an allocation is refused.
+    /// - `Stuck` if the call wants replies and none of its messages can be handled.
+    /// - `Full` if a limit is met.
+    /// - `Collected` if the call's fetch lacks pieces after the first round; the next resume restarts the call.
+    /// - `NoMemory` if an allocation is refused.
     ///
     /// After a refusal, a pending call stays pending in the seat.
     pub fn resume<R: Threads + Wait + Sync, C: Chooser>(

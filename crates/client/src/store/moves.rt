@@ -20,7 +20,8 @@ use tag::Refusal;
 impl<L: StoreName> Store<L> {
     /// Adds a layout. Returns its number, from 0 in the order in which the layouts were added.
     ///
-    /// `BadLayout` where a member is no server, and `Full` where the limit of steps or of layouts is met.
+    /// Is refused with `BadLayout` if a member is no server, and with `Full` if the limit of steps or of layouts is
+    /// met.
     pub fn add_layout<R: Wait>(
         &self,
         rt: &R,
@@ -54,8 +55,9 @@ impl<L: StoreName> Store<L> {
     /// Creates an object, with one position of this layout. The banks of all its positions keep the pieces of the
     /// newest finalized version and of `delta` others; without `delta` they keep every piece.
     ///
-    /// `ObjectExists` where an object has this name, `BadLayout` where there is no layout of this number, `TooLong`
-    /// where the name is longer than `LONGEST_NAME` bytes, and `Full` where the limit of steps or of objects is met.
+    /// Is refused with `ObjectExists` if an object has this name, with `BadLayout` if there is no layout of this
+    /// number, with `TooLong` if the name is longer than `LONGEST_NAME` bytes, and with `Full` if the limit of steps or
+    /// of objects is met.
     pub fn create_with<R: Wait>(
         &self,
         rt: &R,
@@ -77,7 +79,7 @@ impl<L: StoreName> Store<L> {
 
     /// Brings a server up or takes it down.
     ///
-    /// `BadLayout` where there is no server of this number, and `Full` where the limit of steps is met.
+    /// Is refused with `BadLayout` if there is no server of this number, and with `Full` if the limit of steps is met.
     pub fn set_server<R: Wait>(
         &self,
         rt: &R,
@@ -96,8 +98,8 @@ impl<L: StoreName> Store<L> {
     /// later; the next position becomes the base, where first readings begin from then on. Returns how many bytes this
     /// frees. It allocates no memory.
     ///
-    /// `NoObject` where no object has this name, `NotNow` unless the position is the object's base and the move out of
-    /// it was answered, and `Full` where the limit of steps is met.
+    /// Is refused with `NoObject` if no object has this name, with `NotNow` unless the position is the object's base
+    /// and the move out of it was answered, and with `Full` if the limit of steps is met.
     pub fn retire<R: Wait>(
         &self,
         rt: &R,
@@ -110,12 +112,12 @@ impl<L: StoreName> Store<L> {
         retire_in(&mut *self.booked.lock(rt), admin, name, position)
     }
 
-    /// Moves an object to the layout of this number, in at most `turns` steps beside the one that begins the move.
+    /// Moves an object to the layout of this number, in at most `turns` steps besides the one that begins the move.
     ///
-    /// Where the move does not begin, the administrator is unchanged: `NoObject` where no object has this name,
-    /// `MovePending` where the object or the administrator has a move that is not answered, `BadLayout` where there is
-    /// no layout of this number, `Full` where a limit is met, and else `NoMemory`. A later refusal leaves the move
-    /// pending, and is one of those of `resume_move`.
+    /// If the move does not begin, the administrator is unchanged: `NoObject` if no object has this name, `MovePending`
+    /// if the object or the administrator has a move that is not answered, `BadLayout` if there is no layout of this
+    /// number, `Full` if a limit is met, and otherwise `NoMemory`. A later refusal leaves the move pending, and is one
+    /// of those of `resume_move`.
     pub fn move_object<R: Threads + Wait + Sync, C: Chooser>(
         &self,
         rt: &R,
@@ -136,8 +138,8 @@ impl<L: StoreName> Store<L> {
 
     /// Continues the administrator's pending move, in at most `turns` steps.
     ///
-    /// `NoCall` where no move is pending. Else it is refused as `resume` is, but never as `Stranger`, and the move
-    /// stays pending.
+    /// Is refused with `NoCall` if no move is pending. Otherwise it is refused as `resume` is, but never as `Stranger`,
+    /// and the move stays pending.
     pub fn resume_move<R: Threads + Wait + Sync, C: Chooser>(
         &self,
         rt: &R,

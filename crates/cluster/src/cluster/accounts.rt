@@ -27,8 +27,8 @@ pub struct Accounts {
 }
 
 impl Cluster {
-    /// How many bytes of pieces a server stores, over all objects. `server` must be the number of a server of the
-    /// cluster.
+    /// Returns how many bytes of pieces a server stores, over all objects. `server` must be the number of a server of
+    /// the cluster.
     pub fn stored(&self, server: u8) -> u64
         requires { server < length self.now.servers }
         ensures { result ≡ server_bytes self.now server }
@@ -36,7 +36,7 @@ impl Cluster {
         self.loads.at(server)
     }
 
-    /// How many bytes of pieces all servers store.
+    /// Returns how many bytes of pieces all servers store.
     pub fn stored_all(&self) -> u64
         ensures value { result ≡ stored_all self.now }
         ensures within { result ≤ MOST_BYTES }
@@ -44,7 +44,7 @@ impl Cluster {
         self.stored
     }
 
-    /// How many bytes of pieces wait in the messages of all objects.
+    /// Returns how many bytes of pieces wait in the messages of all objects.
     pub fn mailed(&self) -> u64
         ensures value { result ≡ waiting_bytes self.now }
         ensures within { result ≤ MOST_BYTES }
@@ -68,16 +68,16 @@ impl Cluster {
         }
     }
 
-    /// How many calls all objects have, moves among them.
+    /// Returns how many calls all objects have, moves among them.
     pub fn calls(&self) -> u64
         ensures { result ≡ calls self.now.objects }
     {
         self.called
     }
 
-    /// One entry for each call of an object, in the order of their numbers.
+    /// Returns one entry for each call of an object, in the order of their numbers.
     ///
-    /// `NoObject` where no object has this name; else `NoMemory` is the only refusal.
+    /// Is refused with `NoObject` if no object has this name. Otherwise `NoMemory` is the only refusal.
     pub fn entries(&self, name: &str) -> Result<Vec<Entry>, Refusal>
         ensures entries { IfOk result
             (λ es. if_named self.now name.now (λ object. Some (entries object)) ≡ Some es.items) }
@@ -89,9 +89,9 @@ impl Cluster {
         }
     }
 
-    /// The object of this name, for reading. It allocates no memory.
+    /// Returns the object of this name, for reading. It allocates no memory.
     ///
-    /// `NoObject` where no object has this name.
+    /// Is refused with `NoObject` if no object has this name.
     pub fn register(&self, name: &str) -> Result<&Register, Refusal>
         ensures object { IfOk result (λ r. named self.now.objects name.now ≡ Some r.now) }
         ensures cause { IsExactlyByCause (object_cause self.now name.now (λ object. None)) result }

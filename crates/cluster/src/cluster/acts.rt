@@ -52,15 +52,11 @@ impl Cluster {
         let register = &mut self.objects[object as usize];
         register.allowed_steps_may_be_made();
         let waited = waiting(register);
-        match register.act(act, object, now) {
-            Ok(answered) => {
-                self.mailed = exchanged(self.mailed, waited, waiting(register));
-                self.counter = now;
-                self.called += begun;
-                Ok(answered)
-            }
-            Err(refusal) => Err(refusal),
-        }
+        let answered = register.act(act, object, now)?;
+        self.mailed = exchanged(self.mailed, waited, waiting(register));
+        self.counter = now;
+        self.called += begun;
+        Ok(answered)
     }
 }
 

@@ -19,8 +19,9 @@ impl Cluster {
     /// Begins a read of an object: its first phase sends a request Next to each of the n members of the object's base.
     /// Returns the call's number.
     ///
-    /// `NoObject` where no object has this name. `Full` where the counter is at `MOST_STEPS`, the object has
-    /// `MOST_CALLS` calls, or the n requests would make more than `MOST_MESSAGES` waiting messages of the object.
+    /// Is refused with `NoObject` if no object has this name. It is refused with `Full` if the counter is at
+    /// `MOST_STEPS`, the object has `MOST_CALLS` calls, or the n requests would make more than `MOST_MESSAGES` waiting
+    /// messages of the object.
     pub fn call_read(&mut self, name: &str) -> Result<CallId, Refusal>
         ensures step { OnOk result (self.new
             ≡ with_step self.old name.entry.now (Step.CallRead (next_call_id self.old name.entry.now))) }
@@ -41,8 +42,8 @@ impl Cluster {
     /// Begins a write of a value to an object: its first phase sends a request Next to each of the n members of the
     /// object's base. Returns the call's number.
     ///
-    /// `NoObject` where no object has this name, `TooLong` where the value is longer than `LONGEST_VALUE` bytes, and
-    /// `Full` as for `call_read`.
+    /// Is refused with `NoObject` if no object has this name, with `TooLong` if the value is longer than
+    /// `LONGEST_VALUE` bytes, and with `Full` as for `call_read`.
     pub fn call_write(&mut self, name: &str, value: Bytes) -> Result<CallId, Refusal>
         ensures step { OnOk result (self.new
             ≡ with_step self.old name.entry.now (Step.CallWrite (next_call_id self.old name.entry.now) value)) }
@@ -64,10 +65,10 @@ impl Cluster {
     /// each member of the layout. The first phase spreads Pending: it sends a request to each member of the position
     /// that was the last one so far. Returns the call's number.
     ///
-    /// `NoObject` where no object has this name, `MovePending` where an earlier move of the object is not answered, and
-    /// `BadLayout` where there is no layout of this number. `Full` where the counter is at `MOST_STEPS`, the object has
-    /// `MOST_POSITIONS` positions or `MOST_CALLS` calls, or the requests would make more than `MOST_MESSAGES` waiting
-    /// messages of the object.
+    /// Is refused with `NoObject` if no object has this name, with `MovePending` if an earlier move of the object is
+    /// not answered, and with `BadLayout` if there is no layout of this number. It is refused with `Full` if the
+    /// counter is at `MOST_STEPS`, the object has `MOST_POSITIONS` positions or `MOST_CALLS` calls, or the requests
+    /// would make more than `MOST_MESSAGES` waiting messages of the object.
     pub fn call_move(&mut self, name: &str, id: LayoutId) -> Result<CallId, Refusal>
         ensures step { OnOk result (self.new ≡ moved self.old name.entry.now id) }
         ensures may { OnOk result (MayMake self.old name.entry.now
@@ -95,8 +96,8 @@ impl Cluster {
 
     /// Answers the call of this number. The receipt names the object by its place in the order of creation.
     ///
-    /// `NoObject` where no object has this name, `NoCall` where it has no call of this number, `NotNow` unless the call
-    /// wants to be answered, and `Full` where the counter is at `MOST_STEPS`.
+    /// Is refused with `NoObject` if no object has this name, with `NoCall` if it has no call of this number, with
+    /// `NotNow` unless the call wants to be answered, and with `Full` if the counter is at `MOST_STEPS`.
     pub fn answer(&mut self, name: &str, call: CallId) -> Result<Receipt, Refusal>
         ensures step { OnOk result (self.new ≡ with_step self.old name.entry.now (Step.AnswerCall (pred call))) }
         ensures may { OnOk result (MayMake self.old name.entry.now (Step.AnswerCall (pred call))) }

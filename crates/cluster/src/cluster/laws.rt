@@ -1,4 +1,4 @@
-//! What holds of every cluster, whatever steps made it.
+//! What holds for every cluster, whatever steps made it.
 
 ghost use Rattle.std.specs.Prelude.{◌≡◌, ℕ, List, None};
 ghost use Rattle.std.specs.List.{AllByRecursion};
@@ -25,7 +25,7 @@ use register::fragments_are_a_code;
 use soundness::sent_tags_are_journaled;
 
 impl Cluster {
-    /// One law of what holds of every cluster. It changes nothing and allocates no memory. The clauses say:
+    /// A law: what holds for every cluster. It changes nothing and allocates no memory. The clauses say:
     ///
     /// - `atomic`: each object's answered reads and writes, with some unanswered writes, follow one register in an
     ///   order that keeps answer before call.
@@ -34,8 +34,8 @@ impl Cluster {
     /// - `enough`: a complete fetch has pieces of at least k members, or one of its replies was made by a bank that had
     ///   dropped its own.
     /// - `few`: a bank of an object with `delta` keeps at most `delta` + 1 pieces of finalized tags.
-    /// - `overtaken`: a read's fetch lacks pieces only where its position was retired, or where at least `delta` + 1
-    ///   newer writes overlap the read.
+    /// - `overtaken`: a read's fetch lacks pieces only if its position was retired, or if at least `delta` + 1 newer
+    ///   writes overlap the read.
     /// - `phases`: each tag that a phase carries, in a pre-write, a finalize or a fetch, is in the object's journal,
     ///   even if no reply has come yet.
     /// - `reads`, `journal`: an answered read returns the journal's value of its tag, and the journal has one value for

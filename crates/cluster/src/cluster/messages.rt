@@ -24,9 +24,10 @@ use tag::{MOST_BYTES, MOST_STEPS, Refusal, Stamp};
 impl Cluster {
     /// The server to which the request at a place is sent serves the request. Its reply takes the place of the request.
     ///
-    /// `NoObject` where no object has this name, `NoMessage` where there is no message at this place, `Down` where the
-    /// server is down, and `NotNow` where the message is a reply. `Full` where the counter is at `MOST_STEPS`, or the
-    /// bytes of the request's piece and all that the cluster stores are together more than `MOST_BYTES`.
+    /// Is refused with `NoObject` if no object has this name, with `NoMessage` if there is no message at this place,
+    /// with `Down` if the server is down, and with `NotNow` if the message is a reply. It is refused with `Full` if the
+    /// counter is at `MOST_STEPS`, or the bytes of the request's piece and all that the cluster stores are together
+    /// more than `MOST_BYTES`.
     pub fn serve(&mut self, name: &str, place: usize) -> Result<(), Refusal>
         ensures step { OnOk result (self.new ≡ with_step self.old name.entry.now (Step.Serve place)) }
         ensures may { OnOk result (MayMake self.old name.entry.now (Step.Serve place)) }
@@ -66,8 +67,8 @@ impl Cluster {
     /// The call that the reply at a place names takes the reply. Returns what the call did with it. The message leaves
     /// the mail, and later ones move down by one place. It allocates no memory.
     ///
-    /// `NoObject` where no object has this name, `NoMessage` where there is no message at this place, `NotNow` where it
-    /// is a request, and `Full` where the counter is at `MOST_STEPS`.
+    /// Is refused with `NoObject` if no object has this name, with `NoMessage` if there is no message at this place,
+    /// with `NotNow` if it is a request, and with `Full` if the counter is at `MOST_STEPS`.
     pub fn take(&mut self, name: &str, place: usize) -> Result<Took, Refusal>
         ensures step { OnOk result (self.new ≡ with_step self.old name.entry.now (Step.Take place)) }
         ensures may { OnOk result (MayMake self.old name.entry.now (Step.Take place)) }
@@ -85,8 +86,8 @@ impl Cluster {
 
     /// The message at a place is lost. Later ones move down by one place. It allocates no memory.
     ///
-    /// `NoObject` where no object has this name, `NoMessage` where there is no message at this place, and `Full` where
-    /// the counter is at `MOST_STEPS`.
+    /// Is refused with `NoObject` if no object has this name, with `NoMessage` if there is no message at this place,
+    /// and with `Full` if the counter is at `MOST_STEPS`.
     pub fn lose(&mut self, name: &str, place: usize) -> Result<(), Refusal>
         ensures step { OnOk result (self.new ≡ with_step self.old name.entry.now (Step.Lose place)) }
         ensures may { OnOk result (MayMake self.old name.entry.now (Step.Lose place)) }
@@ -100,8 +101,8 @@ impl Cluster {
 
     /// A copy of the message at a place is put at the end of the object's mail.
     ///
-    /// `NoObject` where no object has this name, `NoMessage` where there is no message at this place, and `Full` where
-    /// the counter is at `MOST_STEPS` or `MOST_MESSAGES` messages of the object wait.
+    /// Is refused with `NoObject` if no object has this name, with `NoMessage` if there is no message at this place,
+    /// and with `Full` if the counter is at `MOST_STEPS` or `MOST_MESSAGES` messages of the object wait.
     pub fn repeat(&mut self, name: &str, place: usize) -> Result<(), Refusal>
         ensures step { OnOk result (self.new ≡ with_step self.old name.entry.now (Step.Repeat place)) }
         ensures may { OnOk result (MayMake self.old name.entry.now (Step.Repeat place)) }
@@ -113,10 +114,11 @@ impl Cluster {
         Ok(())
     }
 
-    /// Whether the message at a place is a reply, or a request to a server that is up. It is no step and allocates no
-    /// memory.
+    /// Returns whether the message at a place is a reply, or a request to a server that is up. It is no step and
+    /// allocates no memory.
     ///
-    /// `NoObject` where no object has this name, and `NoMessage` where there is no message at this place.
+    /// Is refused with `NoObject` if no object has this name, and with `NoMessage` if there is no message at this
+    /// place.
     pub fn can_handle(&self, name: &str, place: usize) -> Result<bool, Refusal>
         ensures value { IfOk result (λ b. if_named self.now name.now (handled_at self.now place) ≡ Some b) }
         ensures cause { IsExactlyByCause (object_cause self.now name.now (place_cause place)) result }
@@ -168,7 +170,7 @@ fn room_to_serve(
     Ok(server)
 }
 
-/// Whether a message is a reply, or a request to a server that is up.
+/// Returns whether a message is a reply, or a request to a server that is up.
 pub(crate) fn is_handled(servers: &Servers, register: &Register, message: &Message) -> bool
     ensures { (cluster : Store) → cluster.servers ≡ servers.now
         → result ≡ can_handle cluster register.now.object message.now message.now.body }

@@ -2,7 +2,7 @@
 //! crates `driver` and `locked_steps`; other callers name the object alone.
 //!
 //! Each does what the method of the same name without `_at` does. `object` must be the index of the object of this
-//! name, which stays the same in every step. The code reads the index, and the contract speaks of the name.
+//! name, which stays the same in every step. The code uses the index, and the contract the name.
 
 ghost use Rattle.std.specs.Prelude.{◌≡◌, pred, true, Some, None, IfOk, OnOk, OnErr};
 ghost use Rattle.tag.specs.Refusal.{IsByCause, IsExactlyByCause};
@@ -25,8 +25,8 @@ use register::{Act, Answered, Receipt, Register};
 use tag::{CallId, Refusal};
 
 impl Cluster {
-    /// The index of the object, as `place` returns it. A caller that knew the index in an earlier cluster gives it as
-    /// `guess`: where the object of this index has this name, nothing is looked up.
+    /// Returns the index of the object, as `place` returns it. A caller that knew the index in an earlier cluster gives
+    /// it as `guess`: if the object of this index has this name, nothing is looked up.
     pub fn place_near(&self, name: &str, guess: u32) -> Result<u32, Refusal>
         ensures place { IfOk result (λ p. p ≡ place_of self.now.objects name.now) }
         ensures placed { IfOk result (λ p. IsObjectAt self.now name.now p) }
@@ -48,7 +48,7 @@ impl Cluster {
         }
     }
 
-    /// The object, for reading. It allocates no memory.
+    /// Returns the object, for reading. It allocates no memory.
     pub fn register_at(&self, _name: &str, object: u32) -> &Register
         requires { IsObjectAt self.now _name.now object }
         ensures { named self.now.objects _name.now ≡ Some result.now }
@@ -56,7 +56,7 @@ impl Cluster {
         &self.objects[object as usize]
     }
 
-    /// What the call of this number wants next, as `want` does.
+    /// Returns what the call of this number wants next, as `want` does.
     pub fn want_at(&self, name: &str, object: u32, call: CallId) -> Result<Want, Refusal>
         requires { IsObjectAt self.now name.now object }
         ensures want { IfOk result (λ w. if_named self.now name.now (λ object. want_at object call) ≡ Some w) }

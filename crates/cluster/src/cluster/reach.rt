@@ -9,8 +9,8 @@ use mail::Message;
 use register::Register;
 
 impl Cluster {
-    /// Whether a message of this object is a reply, or a request to a server that is up. It is no step and allocates no
-    /// memory.
+    /// Returns whether a message of this object is a reply, or a request to a server that is up. It is no step and
+    /// allocates no memory.
     pub fn handles(&self, register: &Register, message: &Message) -> bool
         ensures { result ≡ can_handle self.now register.now.object message.now message.now.body }
     {

@@ -21,8 +21,8 @@ impl Cluster {
     /// later; the next position becomes the base, where first readings begin from then on. Returns how many bytes this
     /// frees. It allocates no memory.
     ///
-    /// `NoObject` where no object has this name, `NotNow` unless the position is the object's base and the move out of
-    /// it was answered, and `Full` where the counter is at `MOST_STEPS`.
+    /// Is refused with `NoObject` if no object has this name, with `NotNow` unless the position is the object's base
+    /// and the move out of it was answered, and with `Full` if the counter is at `MOST_STEPS`.
     pub fn retire(&mut self, name: &str, position: u64) -> Result<u64, Refusal>
         ensures step { OnOk result (self.new ≡ with_step self.old name.entry.now Step.Retire) }
         ensures may { OnOk result (MayMake self.old name.entry.now Step.Retire) }

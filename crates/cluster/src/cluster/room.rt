@@ -25,9 +25,9 @@ impl Cluster {
         let _ = &self.layouts;
     }
 
-    /// The index of an object in the order of creation, from 0. It allocates no memory.
+    /// Returns the index of an object in the order of creation, from 0. It allocates no memory.
     ///
-    /// `NoObject` where no object has this name.
+    /// Is refused with `NoObject` if no object has this name.
     pub fn place(&self, name: &str) -> Result<u32, Refusal>
         ensures place { IfOk result (λ p. p ≡ place_of self.now.objects name.now) }
         ensures placed { IfOk result (λ p. IsObjectAt self.now name.now p) }
@@ -50,9 +50,10 @@ impl Cluster {
         }
     }
 
-    /// The entry of the call of this number of an object, which is named by its index in the order of creation.
+    /// Returns the entry of the call of this number of an object, which is named by its index in the order of creation.
     ///
-    /// `NoObject` where there is no object of this index, and `NoCall` where it has no call of this number.
+    /// Is refused with `NoObject` if there is no object of this index, and with `NoCall` if it has no call of this
+    /// number.
     pub fn entry(&self, object: u32, call: CallId) -> Result<Entry, Refusal>
         ensures entry { IfOk result
             (λ e. if_placed self.now object (λ o. option_map (entry_of call) (call_at o call)) ≡ Some e) }
@@ -64,10 +65,10 @@ impl Cluster {
         }
     }
 
-    /// Whether a read may begin, or a write of `len` bytes. It is no step and allocates no memory.
+    /// Returns whether a read may begin, or a write of `len` bytes. It is no step and allocates no memory.
     ///
-    /// `NoObject` where no object has this name, `TooLong` where `len` is above `LONGEST_VALUE`, and `Full` as for
-    /// `call_read`.
+    /// Is refused with `NoObject` if no object has this name, with `TooLong` if `len` is above `LONGEST_VALUE`, and
+    /// with `Full` as for `call_read`.
     pub fn may_call(&self, name: &str, len: usize) -> Result<(), Refusal>
         ensures cause { IsExactlyByCause (object_cause self.now name.now (λ object.
             unless (nat_le len LONGEST_VALUE) TooLong (read_cause (next self.now) object))) result }
@@ -81,9 +82,9 @@ impl Cluster {
         register.may_call(self.counter + 1)
     }
 
-    /// Whether a move to a layout may begin. It is no step and allocates no memory.
+    /// Returns whether a move to a layout may begin. It is no step and allocates no memory.
     ///
-    /// `NoObject`, `MovePending`, `BadLayout` and `Full` as for `call_move`.
+    /// Is refused with `NoObject`, `MovePending`, `BadLayout` and `Full` as for `call_move`.
     pub fn may_move(&self, name: &str, id: LayoutId) -> Result<(), Refusal>
         ensures cause { IsExactlyByCause (object_cause self.now name.now (moving_cause self.now id)) result }
     {
@@ -99,10 +100,10 @@ impl Cluster {
         register.may_move(self.counter + 1)
     }
 
-    /// Whether a call may be supplied with its own value, so that the value need not be encoded in vain. It is no step
-    /// and allocates no memory.
+    /// Returns whether a call may be supplied with its own value, so that the value need not be encoded in vain. It is
+    /// no step and allocates no memory.
     ///
-    /// `NoObject`, `NoCall` and `NotNow` as for `value_to_code`, and `Full` as for `supply`.
+    /// Is refused with `NoObject`, `NoCall` and `NotNow` as for `value_to_code`, and with `Full` as for `supply`.
     pub fn may_supply(&self, name: &str, call: CallId) -> Result<(), Refusal>
         ensures cause { IsExactlyByCause
             (object_cause self.now name.now (λ object. supplying_cause (next self.now) object call)) result }

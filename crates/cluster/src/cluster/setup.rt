@@ -14,8 +14,8 @@ use tag::{LONGEST_NAME, MOST_LAYOUTS, MOST_OBJECTS, MOST_STEPS, Refusal};
 impl Cluster {
     /// Adds a layout, which objects may have from then on. Returns its number.
     ///
-    /// `BadLayout` where a member is no server of the cluster, and `Full` where the counter is at `MOST_STEPS` or there
-    /// are `MOST_LAYOUTS` layouts.
+    /// Is refused with `BadLayout` if a member is no server of the cluster, and with `Full` if the counter is at
+    /// `MOST_STEPS` or there are `MOST_LAYOUTS` layouts.
     pub fn add_layout(&mut self, layout: Layout) -> Result<LayoutId, Refusal>
         ensures step { OnOk result (self.new ≡ with_layout self.old layout) }
         ensures id { IfOk result (λ id. id ≡ length self.old.layouts) }
@@ -48,9 +48,9 @@ impl Cluster {
     /// Creates an object, with one position of this layout and no calls. The banks of all its positions keep the pieces
     /// of the newest finalized version and of `delta` others; without `delta` they keep every piece.
     ///
-    /// `ObjectExists` where an object has this name, `BadLayout` where there is no layout of this number, `TooLong`
-    /// where the name is longer than `LONGEST_NAME` bytes, and `Full` where the counter is at `MOST_STEPS` or there are
-    /// `MOST_OBJECTS` objects.
+    /// Is refused with `ObjectExists` if an object has this name, with `BadLayout` if there is no layout of this
+    /// number, with `TooLong` if the name is longer than `LONGEST_NAME` bytes, and with `Full` if the counter is at
+    /// `MOST_STEPS` or there are `MOST_OBJECTS` objects.
     pub fn create_with(
         &mut self,
         name: &str,
@@ -84,7 +84,8 @@ impl Cluster {
 
     /// Brings a server up or takes it down. It is a step even if this changes nothing. It allocates no memory.
     ///
-    /// `BadLayout` where there is no server of this number, and `Full` where the counter is at `MOST_STEPS`.
+    /// Is refused with `BadLayout` if there is no server of this number, and with `Full` if the counter is at
+    /// `MOST_STEPS`.
     pub fn set_server(&mut self, server: u8, up: bool) -> Result<(), Refusal>
         ensures step { OnOk result (self.new ≡ with_server self.old server up) }
         ensures cause { IsExactlyByCause (server_cause self.old server) result }

@@ -1,4 +1,5 @@
 use Rattle.std.proofs.Common.{◌≡◌, suc, ◌+◌, length, Ok, Err, subst, ap, sym, ◌∙◌}
+use Rattle.std.proofs.lemmas.Result.{err_from_is_err_and}
 use Rattle.cluster.specs.Acts.{ServersAllow}
 use Rattle.register.specs.Act.{act_cause, answered_by, step_of}
 use Rattle.register.specs.State.{next_id}
@@ -23,77 +24,70 @@ act-requires c =
     c.requires.placed c.index_mut-register.ensures.value in
     record { after = last_before c.self.invariant.kept at }
 
-pub invariant_of-self : goal.invariant_of-self
-invariant_of-self c =
+pub invariant_of-self-2 : goal.invariant_of-self-2
+invariant_of-self-2 c =
     let at = object_is_at c.self.inside.objects.entries c.args.name.now c.args.object c.self.view_is c.index_mut-register.result.now
     c.requires.placed c.index_mut-register.ensures.value in
     let number = next_id c.index_mut-register.result.now.object in
     let ready = subst (λ n. ServersAllow n c.args.act) (sym (ap (λ (k : Cluster). length k.servers) c.self.view_is)) c.requires.ready in
     record {
-      kept = act_at c.self.invariant.kept at c.args.act ready c.in-Ok.ensures.step
-          (act_none c.in-Ok.answered c.args.act c.in-Ok.ensures.cause)
+      kept = act_at c.self.invariant.kept at c.args.act ready c.in_ok-answered.ensures.step
+          (act_none c.in_ok-answered.answered c.args.act c.in_ok-answered.ensures.cause)
           c.begun-begun.ensures.count;
       summed = summed_at c.self.invariant.summed at c.waiting-waited.ensures.sound (step_of number c.args.act)
           (no_more (length c.self.inside.servers) number c.index_mut-register.result.now.object c.args.act ready)
           (no_less (length c.self.inside.servers) number c.index_mut-register.result.now.object c.args.act ready
           (suc c.self.inside.counter))
-          c.in-Ok.ensures.step
+          c.in_ok-answered.ensures.step
           c.waiting-waited.result c.waiting.result c.exchanged-self-inside.result c.waiting-waited.ensures.value c.waiting.ensures.value
           c.waiting.ensures.within c.exchanged-self-inside.ensures;
     }
 
-pub invariant_of-self-in-Err : goal.invariant_of-self-in-Err
-invariant_of-self-in-Err c =
+pub invariant_of-self : goal.invariant_of-self
+invariant_of-self c =
     let at = object_is_at c.self.inside.objects.entries c.args.name.now c.args.object c.self.view_is c.index_mut-register.result.now
     c.requires.placed c.index_mut-register.ensures.value in
-    refused_counted c.self.invariant at c.in-Err.ensures.unchanged
+    refused_counted c.self.invariant at c.in_err-answered.ensures.unchanged
 
-pub returns-in-Ok-clause-step : goal.returns-in-Ok-clause-step
-returns-in-Ok-clause-step c =
-    let at = object_is_at c.self.inside.objects.entries c.args.name.now c.args.object c.self.view_is c.index_mut-register.result.now
-    c.requires.placed c.index_mut-register.ensures.value in
-    stepped_at c.self.view_is at (step_of (next_id c.index_mut-register.result.now.object) c.args.act) c.in-Ok.ensures.step
-    ∙ ap (λ n. with_step c.args.self.now c.args.name.now (step_of n c.args.act)) (sym (next_id_at c.self.view_is at))
-
-pub returns-in-Ok-clause-may : goal.returns-in-Ok-clause-may
-returns-in-Ok-clause-may c =
-    let at = object_is_at c.self.inside.objects.entries c.args.name.now c.args.object c.self.view_is c.index_mut-register.result.now
-    c.requires.placed c.index_mut-register.ensures.value in
-    subst (λ n. MayMake c.args.self.now c.args.name.now (step_of n c.args.act)) (sym (next_id_at c.self.view_is at))
-    (may_at c.self.view_is at (step_of (next_id c.index_mut-register.result.now.object) c.args.act)
-    (c.allowed_steps_may_be_made.ensures.acts c.args.act (c.self.inside.counter + 1) c.values_are_lawful.ensures
-    (act_none c.in-Ok.answered c.args.act c.in-Ok.ensures.cause)))
-
-pub returns-in-Ok-clause-cause : goal.returns-in-Ok-clause-cause
-returns-in-Ok-clause-cause c =
-    let at = object_is_at c.self.inside.objects.entries c.args.name.now c.args.object c.self.view_is c.index_mut-register.result.now
-    c.requires.placed c.index_mut-register.ensures.value in
-    act_by (Ok c.in-Ok.answered) c.args.act (cause_at c.self.view_is at (act_cause c.args.act)) c.in-Ok.ensures.cause
-
-pub returns-in-Err-clause-cause : goal.returns-in-Err-clause-cause
-returns-in-Err-clause-cause c =
-    let at = object_is_at c.self.inside.objects.entries c.args.name.now c.args.object c.self.view_is c.index_mut-register.result.now
-    c.requires.placed c.index_mut-register.ensures.value in
-    act_by (Err c.in-Err.refusal) c.args.act (cause_at c.self.view_is at (act_cause c.args.act)) c.in-Err.ensures.cause
-
-pub returns-in-Err-clause-unchanged : goal.returns-in-Err-clause-unchanged
-returns-in-Err-clause-unchanged c =
-    let at = object_is_at c.self.inside.objects.entries c.args.name.now c.args.object c.self.view_is c.index_mut-register.result.now
-    c.requires.placed c.index_mut-register.ensures.value in
-    unchanged_at at c.in-Err.ensures.unchanged ∙ c.self.view_is
-
-pub returns-in-Ok-clause-answered : goal.returns-in-Ok-clause-answered
-returns-in-Ok-clause-answered c =
+pub returns : goal.returns
+returns c =
     let at = object_is_at c.self.inside.objects.entries c.args.name.now c.args.object c.self.view_is c.index_mut-register.result.now
     c.requires.placed c.index_mut-register.ensures.value in
     let now = c.args.self.now in
     let name = c.args.name.now in
     let old = c.index_mut-register.result.now.object in
     let here : place_of now.objects name ≡ c.args.object = c.requires.placed.0 in
-    read_at c.self.view_is at (answered_by c.args.act (place_of now.objects name) (next now))
-    ∙ ap (λ p. answered_by c.args.act p (next now) old) here
-    ∙ ap (λ n. answered_by c.args.act c.args.object n old) (next_is c.self.view_is)
-    ∙ c.in-Ok.ensures.answered
+    record {
+      step = stepped_at c.self.view_is at (step_of (next_id c.index_mut-register.result.now.object) c.args.act)
+          c.in_ok-answered.ensures.step
+          ∙ ap (λ n. with_step c.args.self.now c.args.name.now (step_of n c.args.act)) (sym (next_id_at c.self.view_is at));
+      may = subst (λ n. MayMake c.args.self.now c.args.name.now (step_of n c.args.act)) (sym (next_id_at c.self.view_is at))
+          (may_at c.self.view_is at (step_of (next_id c.index_mut-register.result.now.object) c.args.act)
+          (c.allowed_steps_may_be_made.ensures.acts c.args.act (c.self.inside.counter + 1) c.values_are_lawful.ensures
+          (act_none c.in_ok-answered.answered c.args.act c.in_ok-answered.ensures.cause)));
+      cause = act_by (Ok c.in_ok-answered.answered) c.args.act (cause_at c.self.view_is at (act_cause c.args.act))
+          c.in_ok-answered.ensures.cause;
+      answered = read_at c.self.view_is at (answered_by c.args.act (place_of now.objects name) (next now))
+          ∙ ap (λ p. answered_by c.args.act p (next now) old) here
+          ∙ ap (λ n. answered_by c.args.act c.args.object n old) (next_is c.self.view_is)
+          ∙ c.in_ok-answered.ensures.answered;
+      unchanged = tt;
+    }
+
+pub returns-in_err-answered-clause-cause : goal.returns-in_err-answered-clause-cause
+returns-in_err-answered-clause-cause c =
+    let at = object_is_at c.self.inside.objects.entries c.args.name.now c.args.object c.self.view_is c.index_mut-register.result.now
+    c.requires.placed c.index_mut-register.ensures.value in
+    let p = err_from_is_err_and c.from_residual.result c.from_residual.ensures.1 in
+    rw (p.1, p.2) (act_by (Err c.in_err-answered.field-0.0) c.args.act (cause_at c.self.view_is at (act_cause c.args.act))
+    c.in_err-answered.ensures.cause)
+
+pub returns-in_err-answered-clause-unchanged : goal.returns-in_err-answered-clause-unchanged
+returns-in_err-answered-clause-unchanged c =
+    let at = object_is_at c.self.inside.objects.entries c.args.name.now c.args.object c.self.view_is c.index_mut-register.result.now
+    c.requires.placed c.index_mut-register.ensures.value in
+    let p = err_from_is_err_and c.from_residual.result c.from_residual.ensures.1 in
+    rw p.1 (unchanged_at at c.in_err-answered.ensures.unchanged ∙ c.self.view_is)
 
 pub exchanged-self-inside-requires : goal.exchanged-self-inside-requires
 exchanged-self-inside-requires c =

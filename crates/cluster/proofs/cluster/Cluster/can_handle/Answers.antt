@@ -17,22 +17,16 @@ returns-then-len-place-clause-cause c =
     cause_found found (place_cause c.args.place)
     ∙ place_past c.in-Some.register.now.object c.args.place mail c.mail_view-mail.ensures past
 
-pub returns-clause-value : goal.returns-clause-value
-returns-clause-value c =
+pub returns : goal.returns
+returns c =
     let found = named_found c.self.inside.objects.entries c.args.name.now c.in-Some.register.now c.self.view_is c.in-Some.ensures.value in
     let object = c.in-Some.register.now.object in
     let m = c.at.result.now in
     let waits : slice_get object.mail c.args.place
     ≡ Some m = ap (λ (ms : List Message). slice_get ms c.args.place) (sym c.mail_view-mail.ensures) ∙ c.at.ensures in
     let is = c.is_handled.ensures c.args.self.now (sym (ap (λ (k : Cluster). k.servers) c.self.view_is)) in
-    read_found found (handled_at c.args.self.now c.args.place)
-    ∙ handled_is c.args.self.now object c.args.place m c.is_handled.result waits is
-
-pub returns-clause-cause : goal.returns-clause-cause
-returns-clause-cause c =
-    let found = named_found c.self.inside.objects.entries c.args.name.now c.in-Some.register.now c.self.view_is c.in-Some.ensures.value in
-    let object = c.in-Some.register.now.object in
-    let m = c.at.result.now in
-    let waits : slice_get object.mail c.args.place
-    ≡ Some m = ap (λ (ms : List Message). slice_get ms c.args.place) (sym c.mail_view-mail.ensures) ∙ c.at.ensures in
-    cause_found found (place_cause c.args.place) ∙ place_there object c.args.place m waits
+    record {
+      value = read_found found (handled_at c.args.self.now c.args.place)
+          ∙ handled_is c.args.self.now object c.args.place m c.is_handled.result waits is;
+      cause = cause_found found (place_cause c.args.place) ∙ place_there object c.args.place m waits;
+    }

@@ -4,15 +4,14 @@ use Rattle.cluster.proofs.FoundObjectLemmas.{named_found, read_found, cause_foun
 use Rattle.cluster.proofs.RequestRoomLemmas.{only_memory}
 use Rattle.cluster.proofs.cluster.Cluster.entries.Goals as goal
 
-pub returns-in-Some-clause-entries : goal.returns-in-Some-clause-entries
-returns-in-Some-clause-entries c =
+pub returns-in-Some : goal.returns-in-Some
+returns-in-Some c =
     let found = named_found c.self.inside.objects.entries c.args.name.now c.in-Some.register.now c.self.view_is c.in-Some.ensures.value in
-    if_ok c.entries.result (λ x e. read_found found (λ object. Some (entries object)) ∙ ap Some (sym e)) c.entries.ensures.entries
-
-pub returns-in-Some-clause-cause : goal.returns-in-Some-clause-cause
-returns-in-Some-clause-cause c =
-    let found = named_found c.self.inside.objects.entries c.args.name.now c.in-Some.register.now c.self.view_is c.in-Some.ensures.value in
-    only_memory c.entries.result (cause_found found (λ object. None)) c.entries.ensures.refused
+    record {
+      entries = if_ok c.entries.result (λ x e. read_found found (λ object. Some (entries object)) ∙ ap Some (sym e))
+          c.entries.ensures.entries;
+      cause = only_memory c.entries.result (cause_found found (λ object. None)) c.entries.ensures.refused;
+    }
 
 pub returns-in-None-clause-cause : goal.returns-in-None-clause-cause
 returns-in-None-clause-cause c = inl (none_found c.self.inside.objects.entries c.args.name.now c.self.view_is c.in-None.ensures.value _)

@@ -32,20 +32,16 @@ returns-in_err-may_retire-clause-cause c =
     exactly_refused c.from_residual.result _ c.from_residual.ensures.1
     (cause_at c.self.view_is at (λ now object. retire_cause now object c.args.position) ∙ c.in_err-may_retire.ensures.cause)
 
-pub unload-requires-clause-count : goal.unload-requires-clause-count
-unload-requires-clause-count c = let same = c.self.invariant.summed.servers in omega (arith, same, c.count.ensures)
-
-pub unload-requires-clause-part : goal.unload-requires-clause-part
-unload-requires-clause-part c server there =
+pub unload-requires : goal.unload-requires
+unload-requires c =
+    let servers = c.self.invariant.summed.servers in
     let at = at_place c.self.inside.objects.entries c.args.name.now c.in-Some.place c.index_mut-register.result.now c.in-Some.ensures.index
     c.index_mut-register.ensures.value in
-    part_loaded c.self.invariant at c.soundness.ensures.sound server there
-
-pub unload-requires-clause-within : goal.unload-requires-clause-within
-unload-requires-clause-within c server there =
-    let at = at_place c.self.inside.objects.entries c.args.name.now c.in-Some.place c.index_mut-register.result.now c.in-Some.ensures.index
-    c.index_mut-register.ensures.value in
-    load_within c.self.invariant at c.soundness.ensures.sound server there
+    record {
+      count = omega (arith, servers, c.count.ensures);
+      part = λ server there. part_loaded c.self.invariant at c.soundness.ensures.sound server there;
+      within = λ server there. load_within c.self.invariant at c.soundness.ensures.sound server there;
+    }
 
 pub retire-requires : goal.retire-requires
 retire-requires c =
@@ -57,8 +53,7 @@ pub overflow_sub-self : goal.overflow_sub-self
 overflow_sub-self c =
     let at = at_place c.self.inside.objects.entries c.args.name.now c.in-Some.place c.index_mut-register.result.now c.in-Some.ensures.index
     c.index_mut-register.ensures.value in
-    let part = part_freed c.self.invariant at c.soundness.ensures.sound c.in-Ok.ensures.freed in
-    omega (arith, part)
+    omega (arith, part_freed c.self.invariant at c.soundness.ensures.sound c.in-Ok.ensures.freed)
 
 pub invariant_of-self-in-Ok : goal.invariant_of-self-in-Ok
 invariant_of-self-in-Ok c =
@@ -69,33 +64,21 @@ invariant_of-self-in-Ok c =
     retire_counted c.self.invariant at c.soundness.ensures.sound c.in-Ok.ensures.step few c.in-Ok.ensures.freed
     c.unload.new.loads c.unload.ensures.count c.unload.ensures.freed
 
-pub returns-clause-step : goal.returns-clause-step
-returns-clause-step c =
-    let at = at_place c.self.inside.objects.entries c.args.name.now c.in-Some.place c.index_mut-register.result.now c.in-Some.ensures.index
-    c.index_mut-register.ensures.value in
-    stepped_at c.self.view_is at Step.Retire c.in-Ok.ensures.step
-
-pub returns-clause-may : goal.returns-clause-may
-returns-clause-may c =
-    let at = at_place c.self.inside.objects.entries c.args.name.now c.in-Some.place c.index_mut-register.result.now c.in-Some.ensures.index
-    c.index_mut-register.ensures.value in
-    may_at c.self.view_is at Step.Retire
-    (c.allowed_steps_may_be_made.ensures.retire c.args.position (c.self.inside.counter + 1) c.in-Ok.ensures.cause)
-
-pub returns-clause-freed : goal.returns-clause-freed
-returns-clause-freed c =
+pub returns : goal.returns
+returns c =
     let at = at_place c.self.inside.objects.entries c.args.name.now c.in-Some.place c.index_mut-register.result.now c.in-Some.ensures.index
     c.index_mut-register.ensures.value in
     let few : c.self.inside.counter + 1 ≤ MOST_STEPS =
     past_retired (c.self.inside.counter + 1) _ c.index_mut-register.result.now.object c.in-Ok.ensures.cause in
-    freed_exactly c.self.invariant at c.soundness.ensures.sound c.in-Ok.ensures.step few c.in-Ok.ensures.freed
-    c.self.view_is
-
-pub returns-clause-cause : goal.returns-clause-cause
-returns-clause-cause c =
-    let at = at_place c.self.inside.objects.entries c.args.name.now c.in-Some.place c.index_mut-register.result.now c.in-Some.ensures.index
-    c.index_mut-register.ensures.value in
-    cause_at c.self.view_is at (λ now object. retire_cause now object c.args.position) ∙ c.in-Ok.ensures.cause
+    record {
+      step = stepped_at c.self.view_is at Step.Retire c.in-Ok.ensures.step;
+      may = may_at c.self.view_is at Step.Retire
+          (c.allowed_steps_may_be_made.ensures.retire c.args.position (c.self.inside.counter + 1) c.in-Ok.ensures.cause);
+      freed = freed_exactly c.self.invariant at c.soundness.ensures.sound c.in-Ok.ensures.step few c.in-Ok.ensures.freed
+          c.self.view_is;
+      cause = cause_at c.self.view_is at (λ now object. retire_cause now object c.args.position) ∙ c.in-Ok.ensures.cause;
+      unchanged = tt;
+    }
 
 -- what the register refuses it would have refused before
 pub unreachable-requires : goal.unreachable-requires

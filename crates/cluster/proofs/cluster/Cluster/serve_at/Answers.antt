@@ -61,25 +61,18 @@ invariant_of-self-in_err-serve c =
     c.requires c.index_mut-register.ensures.value in
     refused_counted c.self.invariant at c.in_err-serve.ensures.unchanged
 
-pub returns-clause-step : goal.returns-clause-step
-returns-clause-step c =
+pub returns : goal.returns
+returns c =
     let at = object_is_at c.self.inside.objects.entries c.args.name.now c.args.object c.self.view_is c.index_mut-register.result.now
     c.requires c.index_mut-register.ensures.value in
-    stepped_at c.self.view_is at (Step.Serve c.args.place) c.in_ok-serve.ensures.step
-
-pub returns-clause-may : goal.returns-clause-may
-returns-clause-may c =
-    let at = object_is_at c.self.inside.objects.entries c.args.name.now c.args.object c.self.view_is c.index_mut-register.result.now
-    c.requires c.index_mut-register.ensures.value in
-    may_at c.self.view_is at (Step.Serve c.args.place)
-    (c.allowed_steps_may_be_made.ensures.acts (act.Serve c.args.place) (c.self.inside.counter + 1) tt c.in_ok-serve.ensures.cause)
-
-pub returns-clause-cause : goal.returns-clause-cause
-returns-clause-cause c =
-    let at = object_is_at c.self.inside.objects.entries c.args.name.now c.args.object c.self.view_is c.index_mut-register.result.now
-    c.requires c.index_mut-register.ensures.value in
-    own_cause_at c.self.view_is at (serving_cause c.args.self.now c.args.place)
-    ∙ c.in_ok-server.ensures.cause c.args.self.now (is_of c.self.invariant.kept c.self.view_is)
+    record {
+      step = stepped_at c.self.view_is at (Step.Serve c.args.place) c.in_ok-serve.ensures.step;
+      may = may_at c.self.view_is at (Step.Serve c.args.place)
+          (c.allowed_steps_may_be_made.ensures.acts (act.Serve c.args.place) (c.self.inside.counter + 1) tt c.in_ok-serve.ensures.cause);
+      cause = own_cause_at c.self.view_is at (serving_cause c.args.self.now c.args.place)
+          ∙ c.in_ok-server.ensures.cause c.args.self.now (is_of c.self.invariant.kept c.self.view_is);
+      unchanged = tt;
+    }
 
 pub returns-in_err-serve-clause-cause : goal.returns-in_err-serve-clause-cause
 returns-in_err-serve-clause-cause c =

@@ -7,8 +7,7 @@ pub at-requires : goal.at-requires
 at-requires c =
     let there : c.args.server < length c.self.inside.servers = subst (λ (k : Cluster). c.args.server < length k.servers)
     (sym c.self.view_is) c.requires in
-    let same = c.self.invariant.summed.servers in
-    omega (arith, there, same)
+    omega (arith, there, c.self.invariant.summed.servers)
 
 pub returns : goal.returns
 returns c =

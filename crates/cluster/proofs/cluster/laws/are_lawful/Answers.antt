@@ -2,7 +2,7 @@ use Rattle.std.proofs.Common.{◌≡◌, ◌<◌, length, get_or, take, rules, s
 use Rattle.std.specs.List.{AllByRecursion}
 use Rattle.std.proofs.lemmas.List.{take_more}
 use Rattle.layout.specs.Layout.{IsLawful, Layout}
-use Rattle.register.proofs.ListLemmas.{all_pushed}
+use Rattle.soundness.proofs.ListLemmas.{all_push}
 use Rattle.cluster.proofs.cluster.laws.are_lawful.Goals as goal
 
 pub loop-layout-preserved : goal.loop-layout-preserved
@@ -13,4 +13,4 @@ loop-layout-preserved c =
     let less : i < length ls = search rules in
     let is : l ≡ get_or ls i l = c.layout-item.is in
     subst (AllByRecursion IsLawful) (sym (take_more ls i l less))
-    (all_pushed IsLawful (take i ls) (get_or ls i l) c.loop-layout.invariant (subst IsLawful is c.k.ensures.lawful))
+    (all_push IsLawful (take i ls) (get_or ls i l) c.loop-layout.invariant (subst IsLawful is c.k.ensures.lawful))
