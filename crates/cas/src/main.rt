@@ -26,7 +26,7 @@ fn main(rt: HostRuntime) -> ExitCode {
     ExitCode::from(status)
 }
 
-/// The words after the program's name, and a buffered standard output.
+/// Returns the words after the program's name, and a buffered standard output.
 fn begun(rt: &HostRuntime) -> Result<(Vec<String>, BufWriter<Stdout>), Fault> {
     let mut arguments = env::args(rt).map_err(Fault::from_arguments)?;
     let _program = arguments.next();

@@ -1,26 +1,18 @@
 -- What `clap` reads from the words behind a command that it knows.
-use Rattle.std.proofs.Common.{◌≡◌, ◌∙◌, ℕ, zero, suc, ◌<◌, ◌≤◌, List, [], ◌∷◌, ◌++◌, length, Bool, true, false}
-use Rattle.std.proofs.Common.{Option, Some, None, codes, refl, ap, ap₂, append_assoc, append-nil, sym}
-use Rattle.std.proofs.Common.{arith, is_some, cond}
-use Rattle.std.specs.Prelude.{find, slice_get, fold, option_map, get_or, unwrap_or, ⊤, if◌then◌else◌, ◌||◌}
+use Rattle.std.proofs.Common.{◌≡◌, ◌∙◌, List, [], ◌∷◌, Bool, true, false}
+use Rattle.std.proofs.Common.{Option, Some, codes, refl, ap, ap₂, sym}
+use Rattle.std.proofs.Common.{is_some}
+use Rattle.std.specs.Prelude.{find, fold, option_map}
 use Rattle.std.specs.Option.{option_map_or}
-use Rattle.std.specs.Str.{bytes_eq, chars}
 use Rattle.clap.proofs.OnLiterals.{clap_on_literals}
 use Rattle.clap.proofs.WalkLemmas.{walk_stopped}
 use Rattle.clap.proofs.FaultLemmas.{stopped_fault}
-use Rattle.clap.specs.Faults.{entered_fault, fault_of, is_simple_and_free, level_fault, settle_fault}
+use Rattle.clap.specs.Faults.{entered_fault, fault_of, level_fault, settle_fault}
 use Rattle.clap.specs.Faults.{defaults_fault, check_fault, turn_fault, walk_fault}
-use Rattle.clap.specs.Kinds.{Kinds, or_else, range_kinds, values_kinds}
-use Rattle.clap.specs.declared.builder.value_parser.ValueParser.TheVariants as vp
-use Rattle.clap.specs.Lexer.{long_of, short_of, usize_max}
+use Rattle.clap.specs.Kinds.{Kinds, or_else}
 use Rattle.clap.specs.Simple.{App, Shape, built, entered, label_of, names_of, rows_at, subcommand_of}
-use Rattle.clap.specs.Walk.{Held, Outcome, Step, Text, Walk, answers_to, bundle_met, nothing_held}
-use Rattle.clap.specs.Walk.{rows_after, settled, finished, subcommand_or_other, walk, walk_from, walked}
-use Rattle.clap.specs.Walk.{all_of, first_of, positional, idle, next, trailing, subcommand, value, done, waits, plain}
-use Rattle.clap.specs.Walk.{refused, bundle, bundle_step, after_flag, short_or_plain, long_or_other, after_step}
-use Rattle.clap.specs.declared.error.kind.ErrorKind.TheVariants.{MissingRequiredArgument, TooFewValues, TooManyValues}
-use Rattle.clap.specs.declared.error.kind.ErrorKind.TheVariants.{UnknownArgument}
-use Rattle.std.proofs.lemmas.Bool.{le-ltb}
+use Rattle.clap.specs.Walk.{Text, Walk, answers_to, nothing_held}
+use Rattle.clap.specs.Walk.{rows_after, settled, finished, walk, walk_from, walked}
 use Rattle.commands.specs.CommandLine.{cas_form}
 
 -- the form as `clap` builds it

@@ -1,33 +1,20 @@
 -- What `clap` finds for the words after the program's name.
-use Rattle.std.proofs.Common.{◌≡◌, ◌≢◌, ◌⊎◌, ◌∙◌, ◌≤◌, ℕ, List, [], ◌∷◌, length, Bool, true, false, Option, Some}
-use Rattle.std.proofs.Common.{None, codes, refl, ap, ap₂, sym, subst, inl, inr, arith}
-use Rattle.std.specs.Prelude.{unwrap_or, get_or, option_map, Box, Result}
+use Rattle.std.proofs.Common.{◌≡◌, ◌⊎◌, ◌∙◌, ◌≤◌, List, [], ◌∷◌, length, Bool, true, false, Option, Some}
+use Rattle.std.proofs.Common.{None, codes, refl, ap, sym, subst, inl, inr, arith}
+use Rattle.std.specs.Prelude.{unwrap_or, get_or}
 use Rattle.std.specs.Str.{bytes_eq}
 use Rattle.std.proofs.lemmas.Slice.Eq.{bytes_eq-Decides}
 use Rattle.clap.proofs.OnLiterals.{clap_on_literals}
-use Rattle.clap.specs.Kinds.{Kinds, IsAmong, HasKind}
+use Rattle.clap.specs.Kinds.{Kinds}
 use Rattle.clap.specs.Lexer.{usize_max}
 use Rattle.clap.specs.Faults.{level_fault}
 use Rattle.clap.specs.Walk.{nothing_held}
-use Rattle.clap.proofs.WalkLemmas.{first_value-rows, raw_values-rows}
-use Rattle.clap.specs.Simple.{subcommand_rows}
-use Rattle.clap.specs.Words.{Row, Text, all_of, fault_of, first_of, first_value, kind_of, matched_of, raw_values}
-use Rattle.clap.specs.Words.{rows_of, subcommand_name_of, subcommand_of, subcommand_rows_of}
-use Rattle.clap.specs.declared.parser.matches.Found.{Found}
-use Rattle.clap.specs.declared.parser.matches.ArgMatches.{ArgMatches}
-use Rattle.clap.specs.declared.parser.matches.ArgMatches.TheViews.{out-ArgMatches, out-SubCommand}
-use Rattle.clap.specs.declared.parser.matches.SubCommand.{SubCommand}
-use Rattle.std.specs.Box.{box_value}
-use Rattle.clap.specs.declared.error.Error.{Error}
+use Rattle.clap.specs.Words.{Row, Text, all_of, fault_of, first_of}
+use Rattle.clap.specs.Words.{subcommand_of}
 use Rattle.clap.specs.declared.error.kind.ErrorKind.{ErrorKind}
-use Rattle.clap.specs.declared.error.kind.ErrorKind.TheVariants.{OutOfMemory}
-use Rattle.tag.specs.declared.refusal.Refusal.TheVariants.{NoMemory}
 use Rattle.commands.specs.CommandLine.{cas_form, marked_words}
 use Rattle.words.specs.Word.{Word}
-use Rattle.commands.specs.Request.{HasForm, IsFaultOf, ParsesTo}
-use Rattle.commands.specs.declared.request.Request.{Request}
-use Rattle.coding_commands.specs.declared.fault.Fault.{Fault}
-use Rattle.coding_commands.specs.declared.fault.Fault.TheVariants.{Refused, Usage}
+use Rattle.commands.specs.Request.{HasForm}
 use Rattle.commands.proofs.CommandArgumentLemmas.{decode-lacks, decode-rows, decode-takes, decode_shape}
 use Rattle.commands.proofs.CommandArgumentLemmas.{fragments-lacks, fragments-rows, fragments-strays, fragments-takes}
 use Rattle.commands.proofs.CommandArgumentLemmas.{fragments_shape, run-lacks, run-rows, run-strays, run-takes, run_shape}

@@ -17,7 +17,7 @@ use coding_commands::Fault;
 use std::alloc::{AllocError, Global};
 use tag::Refusal;
 
-/// The request that the words after the program's name spell.
+/// Returns the request that the words after the program's name spell.
 pub(crate) fn parse_request(alloc: Global, words: &[String]) -> Result<Request, Fault>
     ensures { ParsesTo (map string_bytes words.now) result }
 {
@@ -35,7 +35,8 @@ pub(crate) fn parse_request(alloc: Global, words: &[String]) -> Result<Request, 
     }
 }
 
-/// The words that are given to `clap`: `--` is put after the command, so that no later word is read as an option.
+/// Returns the words that are given to `clap`: `--` is put after the command, so that no later word is read as an
+/// option.
 fn marked(alloc: Global, words: &[String]) -> Result<Vec<&str>, AllocError>
     ensures { IfOk result (λ all. map (λ w. w.now) all.items ≡ marked_words (map string_bytes words.now)) }
 {
@@ -51,7 +52,7 @@ fn marked(alloc: Global, words: &[String]) -> Result<Vec<&str>, AllocError>
     Ok(all)
 }
 
-/// What `clap` finds in the words. `Usage` where they have the form of no request.
+/// Returns what `clap` finds in the words. Fails with `Usage` if they have the form of no request.
 fn read_words<'a>(alloc: Global, words: &'a [&'a str]) -> Result<ArgMatches<'a>, Fault>
     ensures found { IfOk result (λ m. subcommand_rows_of m
         ≡ subcommand_of cas_form (map (λ w. w.now) words.entry.now)) }

@@ -23,8 +23,8 @@ pub(crate) fn run_file<R: Files + AllocGlobal, O: Write, E: Write>(
     run_opened(rt.alloc(), name, fs::open(rt, name), out, err)
 }
 
-/// Plays the script that a file of this name gives once it is opened, and returns the exit status. Where it could not
-/// be opened, a text on `err` says so.
+/// Plays the script that a file of this name gives once it is opened, and returns the exit status. If it could not be
+/// opened, a text on `err` says so.
 pub fn run_opened<F: Read + Drop, O: Write, E: Write>(
     alloc: Global,
     name: &str,

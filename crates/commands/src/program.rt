@@ -15,10 +15,10 @@ use std::sync::Wait;
 use std::thread::Threads;
 use std::time::Clock;
 
-/// Carries out the words after the program's name, and returns the exit status: 0 where the line of the answer is
-/// written or the script of the file is played to its end, 1 for a refusal or lost output, 2 for words that spell no
-/// request and for a script that is bad or cannot be read. A soak ends with the status of its summary. Where the
-/// program ends early, a text on `err` says why.
+/// Carries out the words after the program's name, and returns the exit status: 0 if the line of the answer is written
+/// or the script of the file is played to its end, 1 for a refusal or lost output, 2 for words that spell no request
+/// and for a script that is bad or cannot be read. A soak ends with the status of its summary. If the program ends
+/// early, a text on `err` says why.
 pub fn run_words<R: Files + AllocGlobal + Threads + Wait + Clock + Sync, O: Write, E: Write>(
     rt: &R,
     words: &[String],
@@ -30,7 +30,7 @@ pub fn run_words<R: Files + AllocGlobal + Threads + Wait + Clock + Sync, O: Writ
     run_words_on(rt, words, out, err, false)
 }
 
-/// Carries out the words as `run_words` does. Where `err` is a terminal, a line there also shows how far a soak of two
+/// Carries out the words as `run_words` does. If `err` is a terminal, a line there also shows how far a soak of two
 /// seconds or more has come.
 pub fn run_words_on<R: Files + AllocGlobal + Threads + Wait + Clock + Sync, O: Write, E: Write>(
     rt: &R,

@@ -22,7 +22,7 @@ pub(crate) enum Request {
     Soak { plan: Plan },
 }
 
-/// The request `fragments K N HEX`.
+/// Returns the request `fragments K N HEX`.
 pub(crate) fn fragments_request(
     alloc: Global,
     k: &str,
@@ -34,7 +34,7 @@ pub(crate) fn fragments_request(
     coding(coding_commands::fragments_request(alloc, k, n, digits))
 }
 
-/// The request `decode K LEN POINT:HEX..`, where `words` are those from the first `POINT:HEX` on.
+/// Returns the request `decode K LEN POINT:HEX..`, where `words` are those from the first `POINT:HEX` on.
 pub(crate) fn decode_request(
     alloc: Global,
     k: &str,
@@ -46,7 +46,7 @@ pub(crate) fn decode_request(
     coding(coding_commands::decode_request(alloc, k, len, words))
 }
 
-/// The request `run FILE`.
+/// Returns the request `run FILE`.
 pub(crate) fn run_request(alloc: Global, file: &str) -> Result<Request, Fault>
     ensures { ParsesTo (codes "run" ∷ file.now ∷ []) result }
 {
@@ -54,7 +54,7 @@ pub(crate) fn run_request(alloc: Global, file: &str) -> Result<Request, Fault>
     Ok(Request::Run { file })
 }
 
-/// The request `soak CLIENTS CALLS MOVES CHOICES`.
+/// Returns the request `soak CLIENTS CALLS MOVES CHOICES`.
 pub(crate) fn soak_request(
     clients: &str,
     calls: &str,
@@ -73,7 +73,7 @@ pub(crate) fn soak_request(
     Ok(Request::Soak { plan })
 }
 
-/// A coding request as a request of the program.
+/// Returns a coding request as a request of the program.
 fn coding(read: Result<CodingRequest, Fault>) -> Result<Request, Fault>
     ensures { (words : List Word) → HasCodingForm words → ParsesToCoding words read → ParsesTo words result }
 {

@@ -13,9 +13,8 @@ use std::sync::Wait;
 use std::thread::Threads;
 use std::time::Clock;
 
-/// Runs a soak by this plan, prints its summary, and returns the exit status. Where a call is refused or a thread
-/// cannot be started, a text on `err` says so. Where `err` is a terminal, a line there shows how far a long soak has
-/// come.
+/// Runs a soak by this plan, prints its summary, and returns the exit status. If a call is refused or a thread cannot
+/// be started, a text on `err` says so. If `err` is a terminal, a line there shows how far a long soak has come.
 pub(crate) fn run_soak<R: AllocGlobal + Threads + Wait + Clock + Sync, O: Write, E: Write>(
     rt: &R,
     plan: Plan,

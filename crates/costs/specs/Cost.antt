@@ -20,7 +20,7 @@ use Rattle.record.specs.Records.{Object}
 use Rattle.register.specs.View.{bank_there, phases_at, value_at}
 use Rattle.costs.specs.declared.cost.Cost.{Cost}
 
--- how many bytes a fragment of the value has under this layout; 0 where the value or the layout is absent
+-- how many bytes a fragment of the value has under this layout; 0 if the value or the layout is absent
 abbrev pub fragment_of : Option (List ℕ) → Option Layout → ℕ
 fragment_of None layout = 0
 fragment_of (Some value) None = 0
@@ -30,16 +30,16 @@ fragment_of (Some value) (Some layout) = fragment_len layout.k (length value)
 abbrev pub fragment_at : Object → (call position : ℕ) → ℕ
 fragment_at object call position = fragment_of (value_at object call) (slice_get object.layouts position)
 
--- the bytes of a fragment, where this row of a bank is for this tag and a fragment came for it; otherwise 0
+-- the bytes of a fragment, if this row of a bank is for this tag and a fragment came for it; otherwise 0
 abbrev pub bytes_for : (fragment : ℕ) → Tag → Tag × Row → ℕ
 bytes_for fragment tag entry = if tag_eq entry.0 tag && is_some entry.1.arrival then fragment else 0
 
--- the bytes of a fragment, where one came to this bank for this tag, even if the bank dropped it since; otherwise 0
+-- the bytes of a fragment, if one came to this bank for this tag, even if the bank dropped it since; otherwise 0
 abbrev pub came_bytes : (fragment : ℕ) → Tag → Option Bank → ℕ
 came_bytes fragment tag None = 0
 came_bytes fragment tag (Some bank) = sum_by (bytes_for fragment tag) (map.entries bank.rows)
 
--- the bytes of a fragment, where one came to this member of this position for this tag; otherwise 0
+-- the bytes of a fragment, if one came to this member of this position for this tag; otherwise 0
 abbrev pub came_at : Object → (fragment : ℕ) → Tag → (position member : ℕ) → ℕ
 came_at object fragment tag position member = came_bytes fragment tag (bank_there object position member)
 
@@ -54,8 +54,8 @@ sent_by object call (Finalize tag) position members = 0
 sent_by object call (Fetch tag) position members = 0
 
 -- how many bytes this phase of the call of this number sends
-abbrev pub sent_in : Object → (call : ℕ) → Phase → ℕ
-sent_in object call phase = sent_by object call phase.kind phase.position phase.members
+abbrev pub sent_in_phase : Object → (call : ℕ) → Phase → ℕ
+sent_in_phase object call phase = sent_by object call phase.kind phase.position phase.members
 
 -- how many bytes of a fragment a reply has
 abbrev pub taken_bytes : Taken → ℕ
@@ -71,7 +71,7 @@ cost_of object call = record {
   phases = length (phases_at object call);
   requests = u64_saturate (sum_by (λ phase. phase.members) (phases_at object call));
   replies = u64_saturate (sum_by (λ phase. length phase.replies) (phases_at object call));
-  sent = u64_saturate (sum_by (sent_in object call) (phases_at object call));
+  sent = u64_saturate (sum_by (sent_in_phase object call) (phases_at object call));
   returned = u64_saturate (sum_by returned_in (phases_at object call));
 }
 

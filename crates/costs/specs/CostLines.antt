@@ -17,7 +17,7 @@ cost_text cost = in_words (
     ∷ codes "replies" ∷ decimal cost.replies ∷ codes "sent" ∷ decimal cost.sent
     ∷ codes "returned" ∷ decimal cost.returned ∷ [])
 
--- the number of steps from a call to its answer, or a dash where it has none
+-- the number of steps from a call to its answer, or a dash if it has none
 abbrev pub steps_text : (called : ℕ) → (answered : Option ℕ) → List ℕ
 steps_text called None = codes "-"
 steps_text called (Some answered) = decimal (answered - called)

@@ -33,7 +33,7 @@ impl Cost {
         returned: 0,
     };
 
-    /// The sum of two costs.
+    /// Returns the sum of two costs.
     pub fn plus(self, other: Cost) -> Cost
         ensures { result ≡ plus self other }
     {
@@ -47,7 +47,7 @@ impl Cost {
     }
 }
 
-/// What the call of this number cost so far; `Cost::NONE` where there is no such call.
+/// Returns what the call of this number cost so far; `Cost::NONE` if there is no such call.
 pub fn cost_of(register: &Register, call: CallId) -> Cost
     ensures { result ≡ cost_of register.now.object call }
 {

@@ -2,7 +2,7 @@
 ghost use Rattle.std.specs.Prelude.{◌≡◌, ◌<◌, Some, length, slice_get, sum_by};
 ghost use Rattle.record.specs.Accounts.{member_sum};
 ghost use Rattle.register.specs.View.{phases_at};
-ghost use Rattle.costs.specs.Cost.{bytes_for, came_at, fragment_at, returned_in, sent_in, taken_bytes};
+ghost use Rattle.costs.specs.Cost.{bytes_for, came_at, fragment_at, returned_in, sent_in_phase, taken_bytes};
 ghost use Rattle.std.specs.FinMap as map;
 ghost use Rattle.std.specs.Io.Iter.{u64_saturate};
 
@@ -11,7 +11,7 @@ use phase::{Phase, Taken};
 use register::Register;
 use tag::{CallId, Tag};
 
-/// The number of requests of the call: one to each member that a phase asks.
+/// Returns the number of requests of the call: one to each member that a phase asks.
 pub fn requests(register: &Register, call: CallId) -> u64
     ensures { result ≡ u64_saturate (sum_by (λ p. p.members) (phases_at register.now.object call)) }
 {
@@ -23,7 +23,7 @@ pub fn requests(register: &Register, call: CallId) -> u64
     total
 }
 
-/// The number of replies that the call took.
+/// Returns the number of replies that the call took.
 pub fn replies(register: &Register, call: CallId) -> u64
     ensures { result ≡ u64_saturate (sum_by (λ p. length p.replies) (phases_at register.now.object call)) }
 {
@@ -35,7 +35,7 @@ pub fn replies(register: &Register, call: CallId) -> u64
     total
 }
 
-/// The bytes of the fragments in the replies that the call took.
+/// Returns the bytes of the fragments in the replies that the call took.
 pub fn returned(register: &Register, call: CallId) -> u64
     ensures { result ≡ u64_saturate (sum_by returned_in (phases_at register.now.object call)) }
 {
@@ -89,20 +89,21 @@ fn bytes_of(replies: &[Taken]) -> u64
     total
 }
 
-/// The bytes of the fragments that the pre-writes of the call send.
+/// Returns the bytes of the fragments that the pre-writes of the call send.
 pub fn sent(register: &Register, call: CallId) -> u64
-    ensures { result ≡ u64_saturate (sum_by (sent_in register.now.object call) (phases_at register.now.object call)) }
+    ensures { result
+        ≡ u64_saturate (sum_by (sent_in_phase register.now.object call) (phases_at register.now.object call)) }
 {
     let mut total: u64 = 0;
     for index in 0..register.phase_count(call) {
         let phase = phase_at(register, call, index);
-        total = total.saturating_add(sent_in(register, call, phase));
+        total = total.saturating_add(sent_in_phase(register, call, phase));
     }
     total
 }
 
-fn sent_in(register: &Register, call: CallId, phase: &Phase) -> u64
-    ensures { result ≡ u64_saturate (sent_in register.now.object call phase.now) }
+fn sent_in_phase(register: &Register, call: CallId, phase: &Phase) -> u64
+    ensures { result ≡ u64_saturate (sent_in_phase register.now.object call phase.now) }
 {
     let position = phase.position();
     match phase.kind() {

@@ -26,7 +26,7 @@ pub record AreProcesses (entries : List Entry) (processes : List Process) : Type
   pub first : (i client before : ℕ) → slice_get processes i ≡ Some (process.Client client) → before < client
       → IsBusyAt entries processes i before
 
--- the later of two steps, the second of which may be absent; none where it is
+-- the later of two steps, the second of which may be absent; none if it is
 abbrev pub later : ℕ → Option ℕ → Option ℕ
 later since None = None
 later since (Some step) = Some (max step since)
@@ -49,7 +49,7 @@ TakesClient old entry new client =
     × (new ≡ slice_set old client (later since entry.answered)))
     ⊎ ((client ≡ length old) × (new ≡ old ++ entry.answered ∷ [])))
 
--- the call of this entry gets a client, or the nemesis where it is a move
+-- the call of this entry gets a client, or the nemesis if it is a move
 abbrev pub TakesProcess : List (Option ℕ) → Entry → List (Option ℕ) → Process → Type 0
 TakesProcess old entry new process.Nemesis = (entry.kind ≡ operation.Move) × (new ≡ old)
 TakesProcess old entry new (process.Client client) =

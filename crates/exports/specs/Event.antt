@@ -24,7 +24,7 @@ value_of_begin operation.Read value = None
 value_of_begin operation.Write value = value
 value_of_begin operation.Move value = value
 
--- the stage of a read or a write at its end: complete where it was answered, and open otherwise
+-- the stage of a read or a write at its end: complete if it was answered, and open otherwise
 abbrev pub stage_of_answer : Option ℕ → Stage
 stage_of_answer None = stage.Info
 stage_of_answer (Some step) = stage.Complete
@@ -35,7 +35,7 @@ stage_of_end operation.Read answered = stage_of_answer answered
 stage_of_end operation.Write answered = stage_of_answer answered
 stage_of_end operation.Move answered = stage.Info
 
--- the step of the event that ends a call: that of its answer, or `end` where it has none
+-- the step of the event that ends a call: that of its answer, or `end` if it has none
 abbrev pub step_of_end : (end : ℕ) → Option ℕ → ℕ
 step_of_end end None = end
 step_of_end end (Some step) = step
@@ -51,7 +51,7 @@ begin_event entry process = record {
   value = value_of_begin entry.kind entry.value;
 }
 
--- the event that ends the call of this entry: at its answer, or at the step `end` where it is open
+-- the event that ends the call of this entry: at its answer, or at the step `end` if it is open
 abbrev pub end_event : (end : ℕ) → Entry → Process → Event
 end_event end entry process = record {
   step = step_of_end end entry.answered;

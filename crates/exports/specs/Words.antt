@@ -5,7 +5,7 @@ use Rattle.words.specs.Hexadecimal.{hexadecimal_text}
 use Rattle.exports.specs.declared.event.Stage.{Stage}
 use Rattle.exports.specs.declared.event.Stage.TheVariants as stage
 
--- a value in hexadecimal between quotes, or this word where there is none
+-- a value in hexadecimal between quotes, or this word if there is none
 abbrev pub quoted_or : Option (List ℕ) → (none : List ℕ) → List ℕ
 quoted_or None none = none
 quoted_or (Some value) none = codes "\"" ++ hexadecimal_text value ++ codes "\""

@@ -7,7 +7,7 @@ use record::{Entry, Operation};
 use std::alloc::{AllocError, Global};
 use tag::Stamp;
 
-/// A process for each entry: a read or a write gets the first client that has no open call, and a move gets the
+/// Returns a process for each entry: a read or a write gets the first client that has no open call, and a move gets the
 /// nemesis.
 pub(crate) fn assign(alloc: Global, entries: &[Entry]) -> Result<Vec<Process>, AllocError>
     ensures { IfOk result (λ processes. AreProcesses entries.now processes.items) }

@@ -18,7 +18,7 @@ pub enum Process {
     Nemesis,
 }
 
-/// What an event says of its call.
+/// What an event says about its call.
 #[derive(Clone, Copy, Debug, PartialEq, Eq)]
 pub enum Stage {
     /// A read or a write begins.
@@ -40,13 +40,13 @@ pub struct Event {
     pub call: CallId,
     /// What the call does.
     pub kind: Operation,
-    /// What the event says of the call.
+    /// What the event says about the call.
     pub stage: Stage,
-    /// The value that the call writes, or that an answered read returned; none where a read begins.
+    /// The value that the call writes, or that an answered read returned; none if a read begins.
     pub value: Option<Bytes>,
 }
 
-/// The two events of each entry, in the order of their steps. A call that is open ends at the step `end`.
+/// Returns the two events of each entry, in the order of their steps. A call that is open ends at the step `end`.
 pub fn events(alloc: Global, entries: &[Entry], end: Stamp) -> Result<Vec<Event>, AllocError>
     ensures { IfOk result (λ events. IsHistory entries.now end events.items) }
 {

@@ -7,7 +7,7 @@ use bytes::Bytes;
 use std::fmt;
 use words::Hexadecimal;
 
-/// A value in hexadecimal between quotes, or the word `none` where there is none.
+/// A value in hexadecimal between quotes, or the word `none` if there is none.
 #[derive(Clone, Copy)]
 pub(crate) struct QuotedOr<'a> {
     pub(crate) value: &'a Option<Bytes>,

@@ -79,7 +79,7 @@ fn run<R: AllocGlobal + Files + Threads + Wait + Clock + Sync + Abort>(
     }
 }
 
-/// How much is written, flushes counted, where the writer takes so many calls and then fails so. Where that is not
+/// Returns how much is written, flushes counted, where the writer takes so many calls and then fails so. If that is not
 /// all, it is the first of it, and this is said.
 fn written<R: AllocGlobal + Files + Threads + Wait + Clock + Sync + Abort>(
     rt: &R,

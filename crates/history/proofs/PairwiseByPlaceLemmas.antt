@@ -1,5 +1,5 @@
 -- Facts of a list of calls by recursion, and the same by place.
-use Rattle.std.proofs.Common.{nat_eq, ◌≡◌, ◌≢◌, ℕ, zero, suc, ◌-◌, ◌<◌, ◌≤◌, false, List}
+use Rattle.std.proofs.Common.{nat_eq, ◌≡◌, ◌≢◌, ℕ, zero, suc, ◌<◌, ◌≤◌, false, List}
 use Rattle.std.proofs.Common.{[], ◌∷◌, length, get_or, IsSome, refl, eq-eqb, ap, ◌∙◌, sym, inl, inr, arith}
 use Rattle.std.specs.List.{AllByRecursion, IsDistinct}
 use Rattle.std.proofs.lemmas.Bool.{cases_lt, ne_eqb}

@@ -10,8 +10,8 @@ ghost use Rattle.history.specs.Check.{AreLawfulEntries, MayAllStand, must_stand,
 use record::{Entry, Operation};
 use tag::{CallId, Stamp};
 
-/// Whether the entries are lawful and `order`, a list of call numbers, is a sequence of them. Nothing is assumed of
-/// either, and no memory is allocated.
+/// Returns whether the entries are lawful and `order`, a list of call numbers, is a sequence of them. Both may be
+/// anything. No memory is allocated.
 ///
 /// The time grows with the length of the list times the number of calls that overlap one call. Apart from a few passes,
 /// it goes into the search for repeats, which looks back from each call over the calls that overlap it.
@@ -32,7 +32,7 @@ fn is_sequence(entries: &[Entry], order: &[CallId]) -> bool
         && is_register(entries, order)
 }
 
-/// Whether entry i, counted from 1, is that of call i, and each write and each answered read has a value.
+/// Returns whether entry i, counted from 1, is that of call i, and each write and each answered read has a value.
 fn are_lawful(entries: &[Entry]) -> bool
     ensures { IsTrue result ↔ AreLawfulEntries entries.now }
 {
@@ -50,7 +50,7 @@ fn is_lawful_as(entry: &Entry, call: CallId) -> bool
     entry.call == call && (!may_stand(entry) || entry.value.is_some())
 }
 
-/// Whether the list names only writes and answered reads.
+/// Returns whether the list names only writes and answered reads.
 fn may_all_stand(entries: &[Entry], order: &[CallId]) -> bool
     ensures { IsTrue result ↔ MayAllStand entries.now order.now }
 {
@@ -63,8 +63,8 @@ fn may_stand_at(entries: &[Entry], call: CallId) -> bool
     call > 0 && call <= entries.len() as u64 && may_stand(entry_at(entries, call))
 }
 
-/// Whether each call stands behind all calls that were answered before it was called. That is so where no answer lies
-/// before the greatest step at which an earlier element was called.
+/// Returns whether each call comes after all calls that were answered before it was called. That is so if no answer
+/// lies before the greatest step at which an earlier element was called.
 fn keeps_order(entries: &[Entry], order: &[CallId]) -> bool
     requires { MayAllStand entries.now order.now }
     ensures { IsTrue result ↔ KeepsOrder (entries_listed entries.now order.now) }
@@ -93,8 +93,8 @@ fn has_no_repeat(entries: &[Entry], order: &[CallId]) -> bool
     true
 }
 
-/// Whether the call at this place stands at no earlier place. The search goes back to the first element that was
-/// answered before this call was made: if the same call stood before that element, it would break the order.
+/// Returns whether the call at this place stands at no earlier place. The search goes back to the first element that
+/// was answered before this call was made: if the same call stood before that element, it would break the order.
 fn is_new(entries: &[Entry], order: &[CallId], place: usize) -> bool
     requires standing { MayAllStand entries.now order.now }
     requires in_order { KeepsOrder (entries_listed entries.now order.now) }
@@ -118,8 +118,8 @@ fn is_new(entries: &[Entry], order: &[CallId], place: usize) -> bool
     true
 }
 
-/// Whether the list has each answered read and each answered write. Since no call is repeated, it is enough to count
-/// them.
+/// Returns whether the list has each answered read and each answered write. Since no call is repeated, it is enough to
+/// count them.
 fn holds_answered(entries: &[Entry], order: &[CallId]) -> bool
     requires standing { MayAllStand entries.now order.now }
     requires distinct { IsDistinct nat_eq order.now }
@@ -129,14 +129,14 @@ fn holds_answered(entries: &[Entry], order: &[CallId]) -> bool
     answered_among(entries) == answered_in(entries, order)
 }
 
-/// The number of answered reads and writes among the entries.
+/// Returns the number of answered reads and writes among the entries.
 fn answered_among(entries: &[Entry]) -> usize
     ensures { result ≡ count_by must_stand entries.now }
 {
     entries.iter().filter(|entry| must_stand(entry)).count()
 }
 
-/// The number of answered reads and writes in the list.
+/// Returns the number of answered reads and writes in the list.
 fn answered_in(entries: &[Entry], order: &[CallId]) -> usize
     requires { MayAllStand entries.now order.now }
     ensures { result ≡ count_by must_stand (entries_listed entries.now order.now) }
@@ -150,7 +150,8 @@ fn answered_in(entries: &[Entry], order: &[CallId]) -> usize
     count
 }
 
-/// Whether each read of the list has the value of the nearest write before it, or the empty value where there is none.
+/// Returns whether each read of the list has the value of the nearest write before it, or the empty value if there is
+/// none.
 fn is_register(entries: &[Entry], order: &[CallId]) -> bool
     requires lawful { AreLawfulEntries entries.now }
     requires standing { MayAllStand entries.now order.now }
@@ -173,7 +174,7 @@ fn is_register(entries: &[Entry], order: &[CallId]) -> bool
     true
 }
 
-/// The entry of the call with this number, from 1.
+/// Returns the entry of the call with this number, from 1.
 fn entry_at(entries: &[Entry], call: CallId) -> &Entry
     requires some { 0 < call }
     requires within { call ≤ length entries.now }
@@ -182,7 +183,7 @@ fn entry_at(entries: &[Entry], call: CallId) -> &Entry
     &entries[(call - 1) as usize]
 }
 
-/// Whether the call may stand in a sequence: a write, or an answered read.
+/// Returns whether the call may stand in a sequence: a write, or an answered read.
 fn may_stand(entry: &Entry) -> bool
     ensures { IsTrue result ↔ MayStand entry.now }
 {
@@ -193,7 +194,7 @@ fn may_stand(entry: &Entry) -> bool
     }
 }
 
-/// Whether the call has to stand in each sequence: an answered read or write has to.
+/// Returns whether the call has to stand in each sequence: an answered read or write has to.
 fn must_stand(entry: &Entry) -> bool
     ensures { result ≡ must_stand entry.now }
 {
@@ -209,7 +210,7 @@ fn is_before(answered: Option<Stamp>, step: Stamp) -> bool
     }
 }
 
-/// The entry's value, which it must have.
+/// Returns the entry's value, which it must have.
 fn value_of(entry: &Entry) -> &[u8]
     requires { IsSome entry.now.value }
     ensures { entry.now.value ≡ Some result.now }

@@ -1,4 +1,4 @@
-//! Laws of the entries of a sound record: they are lawful, and the order that the tags define is a sequence of them.
+//! Laws about the entries of a sound record: they are lawful, and the order that the tags define is a sequence of them.
 ghost use Rattle.std.specs.Prelude.{ℕ, List};
 ghost use Rattle.atomicity.specs.Atomic.{IsSequence};
 ghost use Rattle.record.specs.Fragments.{Code, IsCode};
@@ -18,7 +18,7 @@ pub fn calls_are_in_turn()
         → AreCallsOf object calls → AreInCallOrder calls }
 {}
 
-/// A law: the entries of a sound record are lawful, as `check` demands, where the id of each call is its number.
+/// A law: the entries of a sound record are lawful, as `check` demands, if the id of each call is its number.
 pub fn entries_are_lawful()
     ensures { (fragment : Code) (object : Object) (last : ℕ) → IsCode fragment → IsSound fragment object last
         → HasNumbersAsIds object → AreLawfulEntries (entries object) }

@@ -1,5 +1,5 @@
-//! Certificates of one object's history. They check whether a list of calls is a sequence of the object's entries, and
-//! compute the list that the tags of its calls define.
+//! Certificates of one object's history: a check whether a list of calls is a sequence of the object's entries, and the
+//! computation of the list that the tags of its calls define.
 #![tactic(auto)]
 
 pub use certificate::check;

@@ -1,4 +1,4 @@
-//! What holds of each object: its history is atomic, and the tags of its calls define a sequence of it.
+//! What holds for each object: its history is atomic, and the tags of its calls define a sequence of it.
 //!
 //! Atomicity is that of Lynch's Distributed Algorithms (1996), chapter 13: the answered reads and writes, with some of
 //! the unanswered writes, follow one register in an order that keeps answer before call.
@@ -22,9 +22,9 @@ pub fn atomic(register: &Register)
     register.soundness();
 }
 
-/// The sequence that the tags define, as call numbers. It has the answered reads and writes, and those unanswered
-/// writes whose tag an answered read has. It is ordered by tag, then writes before reads, then by the step of the call.
-/// `check` accepts it.
+/// Returns the sequence that the tags define, as call numbers. It has the answered reads and writes, and those
+/// unanswered writes whose tag an answered read has. It is ordered by tag, then writes before reads, then by the step
+/// of the call. `check` accepts it.
 ///
 /// `NoMemory` is the only refusal. For n calls it makes some n log n comparisons, and needs room for n.
 pub fn sequence(alloc: Global, register: &Register) -> Result<Vec<CallId>, Refusal>
@@ -37,7 +37,7 @@ pub fn sequence(alloc: Global, register: &Register) -> Result<Vec<CallId>, Refus
     order_by_tags(alloc, &calls)
 }
 
-/// What the order by tags needs to know of each call, in the order of their numbers.
+/// Returns what the order by tags needs to know about each call, in the order of their numbers.
 fn tagged_calls(alloc: Global, register: &Register) -> Result<Vec<TaggedCall>, Refusal>
     ensures calls { IfOk result (λ calls. AreCallsOf register.now.object calls.items) }
     ensures refused { IfErr result (λ e. e ≡ NoMemory) }

@@ -27,7 +27,7 @@ name_text lane = concat (
     codes "<text x='8' y='" ∷ px_text (baseline_of lane) ∷ codes "'>call " ∷ decimal lane.entry.call
     ∷ codes " " ∷ word_of_operation lane.entry.kind ∷ codes "</text>\n" ∷ [])
 
--- the path of a bar: a mark at the step of the call, and a line to the answer, or to the right edge where it is open
+-- the path of a bar: a mark at the step of the call, and a line to the answer, or to the right edge if it is open
 abbrev pub path_text : Plan → Lane → List ℕ
 path_text plan lane = codes "M" ++ (px_text (x_of plan lane.entry.called)
     ++ (codes " " ++ (px_text (bar_top_of lane)

@@ -6,7 +6,7 @@ use Rattle.mail.specs.declared.message.Body.TheVariants as body
 use Rattle.mail.specs.declared.message.Message.{Message}
 use Rattle.picture.specs.declared.loss.Loss.{Loss}
 
--- the step at which the request was served, where the message is its reply; none where it is the request
+-- the step at which the request was served, if the message is its reply; none if it is the request
 abbrev pub served_at : Body → Option ℕ
 served_at (body.Request asked) = None
 served_at (body.Reply kind reply) = Some reply.step

@@ -14,7 +14,7 @@ x_of plan step =
 abbrev pub right_of : Plan → ℕ
 right_of plan = u64_saturate (LEFT + plan.width)
 
--- where the bar of a call ends: at the step of its answer, or at the right edge where the call is open
+-- where the bar of a call ends: at the step of its answer, or at the right edge if the call is open
 abbrev pub bar_end : Plan → Option ℕ → ℕ
 bar_end plan None = right_of plan
 bar_end plan (Some step) = x_of plan step

@@ -3,7 +3,7 @@
 use Rattle.std.specs.Prelude.{ℕ, ◌/◌, ◌%◌, ◌==◌, List, ◌++◌, codes, if◌then◌else◌}
 use Rattle.std.specs.Fmt.{decimal}
 
--- a length in pixels, with one decimal where it is not whole
+-- a length in pixels, with one decimal if it is not whole
 abbrev pub px_text : (tenths : ℕ) → List ℕ
 px_text tenths =
     if tenths % 10 == 0 then decimal (tenths / 10)

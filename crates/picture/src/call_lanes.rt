@@ -10,8 +10,7 @@ use record::Entry;
 use std::fmt;
 use tag::Stamp;
 
-/// A name and a bar for each call. The bar goes from the call's step to its answer, or to the right edge where it is
-/// open.
+/// A name and a bar for each call. The bar goes from the call's step to its answer, or to the right edge if it is open.
 #[derive(Clone, Copy)]
 pub(crate) struct CallLanes<'a>(pub(crate) &'a Plan);
 

@@ -4,8 +4,8 @@ use std::alloc::{AllocError, Global};
 use std::collections::BTreeSet;
 use tag::Stamp;
 
-/// For each tag of a bank, from the greatest down, the step at which its piece was dropped; none where it was not, or
-/// was never kept.
+/// For each tag of a bank, from the greatest down, the step at which its piece was dropped; none if it was not, or was
+/// never kept.
 #[derive(Drop)]
 pub(crate) struct Drops(Vec<Option<Stamp>>);
 
@@ -28,12 +28,12 @@ impl Drops {
         Ok(Drops(steps))
     }
 
-    /// The step for a tag, where `i` tags of the bank are below it.
+    /// Returns the step for a tag, where `i` tags of the bank are below it.
     pub(crate) fn step(&self, i: usize) -> Option<Stamp> {
         *self.0.get(self.0.len().checked_sub(i)?.checked_sub(1)?)?
     }
 
-    /// Whether a piece was dropped, other than that of the opening tag.
+    /// Returns whether a piece was dropped, other than that of the opening tag.
     pub(crate) fn any(&self) -> bool {
         for i in 1..self.0.len() {
             if self.step(i).is_some() {

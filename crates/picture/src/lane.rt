@@ -24,21 +24,21 @@ pub struct Lane {
 }
 
 impl Lane {
-    /// The baseline of the texts in the lane.
+    /// Returns the baseline of the texts in the lane.
     pub(crate) fn base(&self) -> Px
         ensures { result.0 ≡ baseline_of self.now }
     {
         Px(self.top).plus(BASELINE)
     }
 
-    /// The upper end of the mark with which the bar begins.
+    /// Returns the upper end of the mark with which the bar begins.
     pub(crate) fn bar_top(&self) -> Px
         ensures { result.0 ≡ bar_top_of self.now }
     {
         Px(self.top).plus(BAR_TOP)
     }
 
-    /// The lower edge of the bar.
+    /// Returns the lower edge of the bar.
     pub(crate) fn foot(&self) -> Px {
         Px(self.top).plus(FOOT)
     }

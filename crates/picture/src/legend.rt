@@ -42,7 +42,7 @@ const LETTER_BASE: u64 = 10;
 const KIND_WORD: u64 = 150;
 
 /// Draws the legend, in two lines, of which the first has its baseline at `y`. It explains the square and the hatching
-/// only where there are some.
+/// only if there are some.
 pub(crate) fn draw_legend<W: fmt::Write>(
     f: &mut fmt::Formatter<W>,
     plan: &Plan,

@@ -16,14 +16,14 @@ pub struct Loss {
     pub position: u32,
     /// The member's place in the layout of that position, from 0.
     pub member: u8,
-    /// The step at which the request was served, where the lost message is its reply; none where it is the request.
+    /// The step at which the request was served, if the lost message is its reply; none if it is the request.
     pub served: Option<Stamp>,
     /// The step at which the message was lost.
     pub step: Stamp,
 }
 
 impl Loss {
-    /// The loss of this message at this step.
+    /// Returns the loss of this message at this step.
     pub fn of(message: &Message, step: Stamp) -> Loss
         ensures { result ≡ loss_of message.now step }
     {

@@ -9,7 +9,7 @@ use tag::{CallId, Stamp};
 /// How many replies are drawn at most.
 pub(crate) const MOST_REPLIES: usize = 4000;
 
-/// How many calls, from the first on, have no more replies together than can be drawn.
+/// Returns how many calls, from the first on, have no more replies together than can be drawn.
 pub(crate) fn shown_calls(plan: &Plan, register: &Register) -> usize {
     let mut replies: usize = 0;
     for (index, lane) in plan.lanes.iter().enumerate() {

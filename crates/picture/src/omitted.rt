@@ -6,7 +6,7 @@ use crate::server_lanes::MOST_TAGS;
 use register::Register;
 use std::fmt;
 
-/// Draws a line that says what is not drawn, where the order has `ordered` calls. It is empty where all is drawn.
+/// Draws a line that says what is not drawn, where the order has `ordered` calls. It is empty if all is drawn.
 pub(crate) fn draw_omitted<W: fmt::Write>(
     f: &mut fmt::Formatter<W>,
     plan: &Plan,

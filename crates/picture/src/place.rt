@@ -14,14 +14,14 @@ pub(crate) struct Place {
     pub(crate) members: u8,
     /// The step at which the banks of the position were opened.
     pub(crate) opened: Stamp,
-    /// The step at which the position was retired; none where it was not.
+    /// The step at which the position was retired; none if it was not.
     pub(crate) retired: Option<Stamp>,
     /// For each member, when its pieces were dropped.
     pub(crate) drops: Vec<Drops>,
 }
 
 impl Place {
-    /// The lanes of a position from the line `top` down; none where there is no such position.
+    /// Returns the lanes of a position from the line `top` down; none if there is no such position.
     pub(crate) fn of(
         alloc: Global,
         register: &Register,

@@ -26,7 +26,7 @@ const WIDEST: u64 = 11_000;
 /// The least width of the time axis.
 const NARROWEST: u64 = 6_000;
 
-/// The width of one step, where there is room for it.
+/// The width of one step, if there is room for it.
 const STEP: u64 = 90;
 
 /// The height of a call's lane.
@@ -79,7 +79,8 @@ pub struct Plan {
 }
 
 impl Plan {
-    /// The plan for an object with these entries, each of which gets a lane. The only error is that memory is refused.
+    /// Makes the plan for an object with these entries, each of which gets a lane. The only error is that memory is
+    /// refused.
     pub fn new(alloc: Global, register: &Register, entries: &[Entry]) -> Result<Plan, AllocError>
         ensures { IfOk result (λ plan. map (λ lane. lane.entry) plan.lanes.items ≡ entries.now) }
     {
@@ -110,12 +111,12 @@ impl Plan {
         })
     }
 
-    /// The number of steps from the first to the last, and at least 1.
+    /// Returns the number of steps from the first to the last, and at least 1.
     pub(crate) fn span(&self) -> u64 {
         self.last.saturating_sub(self.first).max(1)
     }
 
-    /// Where a step is drawn.
+    /// Returns where a step is drawn.
     pub(crate) fn x(&self, step: Stamp) -> Px
         ensures { result.0 ≡ x_of self.now step }
     {
@@ -124,14 +125,14 @@ impl Plan {
         Px(LEFT.saturating_add(offset.saturating_mul(self.width) / span))
     }
 
-    /// The right edge of the time axis.
+    /// Returns the right edge of the time axis.
     pub(crate) fn right(&self) -> Px
         ensures { result.0 ≡ right_of self.now }
     {
         Px(LEFT.saturating_add(self.width))
     }
 
-    /// Where the bar of a call ends: at the step of its answer, or at the right edge where the call is open.
+    /// Returns where the bar of a call ends: at the step of its answer, or at the right edge if the call is open.
     pub(crate) fn end_x(&self, answered: Option<Stamp>) -> Px
         ensures { result.0 ≡ bar_end self.now answered }
     {
@@ -141,12 +142,12 @@ impl Plan {
         }
     }
 
-    /// The width between two steps.
+    /// Returns the width between two steps.
     pub(crate) fn wide(&self, from: Stamp, to: Stamp) -> Px {
         Px(self.x(to).0.saturating_sub(self.x(from).0))
     }
 
-    /// The lower edge of the bar of a call.
+    /// Returns the lower edge of the bar of a call.
     pub(crate) fn call_foot(&self, call: CallId) -> Px {
         match self.lanes.get(call.saturating_sub(1) as usize) {
             Some(lane) => lane.foot(),
@@ -154,7 +155,7 @@ impl Plan {
         }
     }
 
-    /// The middle of the lane of a server, from top to bottom.
+    /// Returns the middle of the lane of a server, from top to bottom.
     pub(crate) fn server_y(&self, position: u32, member: u8) -> Px {
         match self.positions.get(position as usize) {
             Some(place) => Px(down(place.top, u64::from(member), SERVER)).plus(SERVER / 2),
@@ -162,29 +163,29 @@ impl Plan {
         }
     }
 
-    /// The width of the page.
+    /// Returns the width of the page.
     pub(crate) fn page(&self) -> Px {
         self.right().plus(RIGHT)
     }
 
-    /// The baseline of the first row of the order.
+    /// Returns the baseline of the first row of the order.
     pub(crate) fn order_y(&self) -> Px {
         Px(self.bottom).plus(ORDER_GAP)
     }
 
-    /// How many of `calls` calls are shown in the order.
+    /// Returns how many of `calls` calls are shown in the order.
     pub(crate) fn ordered(&self, calls: usize) -> usize {
         calls.min(self.columns().saturating_mul(MOST_ROWS) as usize)
     }
 
-    /// The baseline of the legend's first line, below the order of `calls` calls.
+    /// Returns the baseline of the legend's first line, below the order of `calls` calls.
     pub(crate) fn legend_y(&self, calls: usize) -> Px {
         let rows = (self.ordered(calls) as u64).div_ceil(self.columns()).max(1);
         self.order_y()
             .plus(rows.saturating_mul(ROW).saturating_add(LEGEND_GAP))
     }
 
-    /// The width of a phase, which goes to the right edge of the time axis where it is open.
+    /// Returns the width of a phase, which goes to the right edge of the time axis if it is open.
     pub(crate) fn phase_width(&self, phase: &Phase) -> Px {
         match phase.steps() {
             (start, Some(end)) => self.wide(start, end),
@@ -192,7 +193,7 @@ impl Plan {
         }
     }
 
-    /// How many calls of the order fit into one row.
+    /// Returns how many calls of the order fit into one row.
     pub(crate) fn columns(&self) -> u64
         ensures { 0 < result }
     {

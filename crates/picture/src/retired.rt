@@ -45,7 +45,7 @@ fn draw_retired_place<W: fmt::Write>(
     )
 }
 
-/// Whether a position was retired. Positions are retired in order, so it looks at the first.
+/// Returns whether a position was retired. Positions are retired in order, so it looks at the first.
 pub(crate) fn has_retired(plan: &Plan) -> bool {
     match plan.positions.first() {
         Some(place) => place.retired.is_some(),

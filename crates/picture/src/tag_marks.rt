@@ -15,7 +15,7 @@ const DROP_HEIGHT: u64 = 70;
 const FINALIZED_TOP: u64 = 40;
 
 /// Draws when a tag came to a bank, whether its piece is still there, when that was dropped, and when the tag was
-/// finalized. The piece was dropped at the step `dropped`; none where it was not, or was never kept.
+/// finalized. The piece was dropped at the step `dropped`; none if it was not, or was never kept.
 pub(crate) fn draw_tag<W: fmt::Write>(
     f: &mut fmt::Formatter<W>,
     plan: &Plan,

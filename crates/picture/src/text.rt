@@ -85,7 +85,7 @@ impl fmt::Display for KindText {
     }
 }
 
-/// The letter for what a phase asks, which is drawn where its word has no room.
+/// Returns the letter for what a phase asks, which is drawn if its word has no room.
 pub(crate) fn kind_letter(kind: Kind) -> &'static str {
     match kind {
         Kind::Next => "n",

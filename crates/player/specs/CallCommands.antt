@@ -13,7 +13,7 @@ use Rattle.player.specs.Report.{done, called}
 use Rattle.player.specs.ClusterCommands.{layout_number}
 use Rattle.player.specs.Steps.{IsGrowth}
 
--- the report of the next call of the object of this name; none where no object has it
+-- the report of the next call of the object of this name; none if no object has it
 abbrev pub next_call : Cluster → (name : List ℕ) → Option Report
 next_call cluster name = option_map called (if_named cluster name (λ object. Some (suc (length object.calls))))
 
@@ -58,7 +58,7 @@ Posts old name call new report =
     (object_cause old name (λ object. post_cause (next old) object call))
     (Some done) new report
 
--- the report of the receipt that the call of this number would get now; none where there is no such call
+-- the report of the receipt that the call of this number would get now; none if there is no such call
 abbrev pub next_receipt : Cluster → (name : List ℕ) → (call : ℕ) → Option Report
 next_receipt cluster name call =
     option_map of.Answered

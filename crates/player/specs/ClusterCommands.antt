@@ -36,7 +36,7 @@ AddsLayout old k members new report =
 abbrev pub layout_number : (number : ℕ) → ℕ
 layout_number number = min number (2 ^ 32 - 1)
 
--- an object of this name is created with the layout of this number; its banks keep `delta` finalized versions beside
+-- an object of this name is created with the layout of this number; its banks keep `delta` finalized versions besides
 -- the newest
 abbrev pub MakesObject : Cluster → (name : List ℕ) → (layout : ℕ) → (delta : Option ℕ) → Cluster → Report → Type 0
 MakesObject old name layout delta new report = IsGrowth old (created old name (layout_number layout) delta)

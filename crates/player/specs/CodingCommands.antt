@@ -20,7 +20,7 @@ use Rattle.player.specs.declared.report.Report.{Report}
 use Rattle.player.specs.Report.{done}
 use Rattle.player.specs.Steps.{IsRefusedCommand, IsGrowth}
 
--- the first cause, or the later one where the first is none
+-- the first cause, or the later one if the first is none
 abbrev pub first_cause_of : Option Refusal → Option Refusal → Option Refusal
 first_cause_of None later = later
 first_cause_of (Some refusal) later = Some refusal

@@ -17,7 +17,7 @@ Serves old name place new report =
     IsGrowth old (with_step old name (Step.Serve place)) (object_cause old name (serving_cause old place))
     (Some done) new report
 
--- the report of what the call would do with the reply at this place; none where no object has this name
+-- the report of what the call would do with the reply at this place; none if no object has this name
 abbrev pub next_take : Cluster → (name : List ℕ) → (place : ℕ) → Option Report
 next_take cluster name place =
     option_map took (if_named cluster name (λ object. Some (took_at object place)))

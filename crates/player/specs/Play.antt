@@ -31,7 +31,7 @@ Prints old new Is Bad (Err stop.Bad) = Bad × Keeps old new
 Prints old new Is Bad (Err stop.NoMemory) = (text : List ℕ) × Is text
 Prints old new Is Bad (Err stop.OutputLost) = (text : List ℕ) × Is text
 
--- the text is the line of a report of which `Is` holds
+-- the text is the line of a report for which `Is` holds
 abbrev pub Tells : (Report → Type 0) → (text : List ℕ) → Type 0
 Tells Is text = (report : Report) × Is report × (text ≡ line_of (report_text report))
 

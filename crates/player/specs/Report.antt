@@ -1,5 +1,5 @@
 -- The contracts that docs/trusted.md lists do not depend on this file; other contracts and proofs do.
--- What is reported of a command that may change the cluster.
+-- What is reported about a command that may change the cluster.
 use Rattle.std.specs.Prelude.{ℕ, List, Result, Ok, Err}
 use Rattle.tag.specs.declared.refusal.Refusal.{Refusal}
 use Rattle.phase.specs.declared.phase.Took.{Took}

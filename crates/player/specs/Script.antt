@@ -39,7 +39,7 @@ pub record IsPlayedTo (all front : List (List ℕ)) (line : List ℕ) (state : O
   pub parted : all ≡ front ++ line ∷ rest
   pub played : PlaysLines front state text
 
--- the script is all that the reader gives, where that is known
+-- the script is all that the reader gives, if that is known
 abbrev pub IsScriptOf : (remaining : Written) → (script : List ℕ) → Type 0
 IsScriptOf remaining script = IfSome remaining (λ known. script ≡ known)
 
@@ -141,13 +141,13 @@ exit_status_of_end NoMemory = 1
 exit_status_of_end (BadLine number) = 2
 exit_status_of_end OutputLost = 1
 
--- the exit status, and what was done: 0 where the whole script is played, and otherwise that of the early end
+-- the exit status, and what was done: 0 if the whole script is played, and otherwise that of the early end
 abbrev pub Runs : (remaining old new : Written) → (status : ℕ) → Type 0
 Runs remaining old new status =
     ((status ≡ 0) × PlaysScript remaining old new)
     ⊎ ((end : End) × (status ≡ exit_status_of_end end) × RunEndsBy remaining old new end)
 
--- the exit status where the script cannot be read, for an error of this kind
+-- the exit status if the script cannot be read, for an error of this kind
 abbrev pub unread_status : ErrorKind → ℕ
 unread_status OutOfMemory = 1
 unread_status _ = 2

@@ -37,7 +37,7 @@ IsShown cause told text =
     ((cause ≡ None) × (told ≡ Some text))
     ⊎ ((refusal : Refusal) × (cause ≡ Some refusal) × (text ≡ refusal_line refusal))
 
--- NoObject where no object has this name, and no other refusal
+-- NoObject if no object has this name, and no other refusal
 abbrev pub unknown_object : Cluster → (name : List ℕ) → Option Refusal
 unknown_object cluster name = object_cause cluster name (λ object. None)
 

@@ -66,7 +66,7 @@ pub(crate) fn retire(cluster: &mut Cluster, name: &str, position: u64) -> Report
     Report::of_retire(cluster.retire(name, position))
 }
 
-/// A number as that of a layout. One that no layout can have becomes the number of a layout that is not there.
+/// Returns a number as that of a layout. One that no layout can have becomes the number of a layout that is not there.
 pub(crate) fn layout_id(number: u64) -> LayoutId
     ensures { result ≡ layout_number number }
 {

@@ -1,4 +1,4 @@
-//! What is reported of a command that may change the cluster.
+//! What is reported about a command that may change the cluster.
 ghost use Rattle.std.specs.Prelude.{◌≡◌, Some};
 ghost use Rattle.player.specs.Report.{report_text};
 
@@ -9,7 +9,7 @@ use register::Receipt;
 use std::fmt;
 use tag::{CallId, Refusal};
 
-/// What is reported of a command that may change the cluster. It prints as one line, without its line feed.
+/// What is reported about a command that may change the cluster. It prints as one line, without its line feed.
 #[derive(Drop)]
 pub enum Report {
     /// What the command did, or why it was refused.
@@ -22,14 +22,14 @@ impl Report {
     ghost use Rattle.player.specs.Report.{report_of, done, added_layout, called, took, freed, refused, whole_report};
     ghost use Rattle.player.specs.declared.report.Report.TheVariants as report;
 
-    /// The report of a refused command.
+    /// Returns the report of a refused command.
     pub(crate) fn refused(refusal: Refusal) -> Report
         ensures { result ≡ refused refusal }
     {
         Report::Did(Outcome::Refused(refusal))
     }
 
-    /// The report of a step that returns nothing.
+    /// Returns the report of a step that returns nothing.
     pub(crate) fn of_step(made: Result<(), Refusal>) -> Report
         ensures { result ≡ report_of (λ _. done) made }
     {
@@ -39,7 +39,7 @@ impl Report {
         }
     }
 
-    /// The report of a step that adds a layout.
+    /// Returns the report of a step that adds a layout.
     pub(crate) fn of_layout(added: Result<u32, Refusal>) -> Report
         ensures { result ≡ report_of added_layout added }
     {
@@ -49,7 +49,7 @@ impl Report {
         }
     }
 
-    /// The report of a step that begins a call.
+    /// Returns the report of a step that begins a call.
     pub(crate) fn of_call(begun: Result<CallId, Refusal>) -> Report
         ensures { result ≡ report_of called begun }
     {
@@ -59,7 +59,7 @@ impl Report {
         }
     }
 
-    /// The report of a step that takes a reply.
+    /// Returns the report of a step that takes a reply.
     pub(crate) fn of_take(taken: Result<Took, Refusal>) -> Report
         ensures { result ≡ report_of took taken }
     {
@@ -69,7 +69,7 @@ impl Report {
         }
     }
 
-    /// The report of a step that frees bytes.
+    /// Returns the report of a step that frees bytes.
     pub(crate) fn of_retire(retired: Result<u64, Refusal>) -> Report
         ensures { result ≡ report_of freed retired }
     {
@@ -79,7 +79,7 @@ impl Report {
         }
     }
 
-    /// The report of a step that answers a call.
+    /// Returns the report of a step that answers a call.
     pub(crate) fn of_answer(answered: Result<Receipt, Refusal>) -> Report
         ensures { result ≡ report_of report.Answered answered }
     {
@@ -89,7 +89,7 @@ impl Report {
         }
     }
 
-    /// The report of a whole call.
+    /// Returns the report of a whole call.
     pub(crate) fn of_whole(answered: Result<Receipt, NotAnswered>) -> Report
         ensures { result ≡ whole_report answered }
     {

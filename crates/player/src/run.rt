@@ -33,10 +33,10 @@ pub enum End {
 /// Plays the script that the reader gives, and returns the exit status. The whole script is read before its first
 /// command is carried out. What a command prints is written and flushed before the next command is carried out.
 ///
-/// The status is 0 at the end of the script. It is 1 where output cannot be written, and where memory is refused for
-/// the script, for a line of it or for output. It is 2 where the script cannot be read, and where a line is bad, which
-/// ends the run. A line on `err` says why: `cannot read NAME`, `line L: bad` with the lines counted from 1,
-/// `refused 1 NoMemory`, or `cannot write the output`.
+/// The status is 0 at the end of the script. It is 1 if output cannot be written, and if memory is refused for the
+/// script, for a line of it or for output. It is 2 if the script cannot be read, and if a line is bad, which ends the
+/// run. A line on `err` says why: `cannot read NAME`, `line L: bad` with the lines counted from 1, `refused 1
+/// NoMemory`, or `cannot write the output`.
 pub fn run_script<R: Read, O: Write, E: Write>(
     alloc: Global,
     name: &str,
@@ -52,8 +52,8 @@ pub fn run_script<R: Read, O: Write, E: Write>(
     }
 }
 
-/// Prints on `err` why the script of this name cannot be read, and returns the exit status: 1 where memory is refused,
-/// and otherwise 2.
+/// Prints on `err` why the script of this name cannot be read, and returns the exit status: 1 if memory is refused, and
+/// otherwise 2.
 pub fn report_unread<E: Write>(error: &io::Error, name: &str, err: &mut E) -> u8
     ensures { result ≡ unread_status (error_kind error.now) }
 {
@@ -63,7 +63,7 @@ pub fn report_unread<E: Write>(error: &io::Error, name: &str, err: &mut E) -> u8
     }
 }
 
-/// Prints on `err` why the run of the script of this name ended early, and returns the exit status: 2 where the script
+/// Prints on `err` why the run of the script of this name ended early, and returns the exit status: 2 if the script
 /// cannot be read or a line is bad, and otherwise 1. A write that fails is ignored.
 pub fn report_end<E: Write>(end: End, name: &str, err: &mut E) -> u8
     ensures { result ≡ exit_status_of_end end }
@@ -104,7 +104,8 @@ fn play_script<R: Read, O: Write>(alloc: Global, reader: &mut R, out: &mut O) ->
     play_lines(alloc, &lines, out)
 }
 
-/// All bytes that the reader gives. `NoRoom` where memory is refused for them, and `Unread` for any other error.
+/// Returns all bytes that the reader gives. Fails with `NoRoom` if memory is refused for them, and with `Unread` for
+/// any other error.
 pub fn read_script<R: Read>(alloc: Global, reader: &mut R) -> Result<Vec<u8>, End>
     ensures { MatchResult result (λ text. IsScriptOf (R.remaining reader.old) text.items)
         (λ end. IsUnread end ⊎ (end ≡ NoRoom)) }
@@ -129,8 +130,8 @@ fn play_lines<O: Write>(alloc: Global, lines: &[&[u8]], out: &mut O) -> Result<(
     Ok(())
 }
 
-/// Plays the line of this number, counted from 1, over the cluster that the lines before it made; none before the first
-/// command. With it a caller sees the cluster between two lines. A bad line leaves the cluster unchanged.
+/// Plays the line of this number, counted from 1, over the cluster that the lines before it made, or over none before
+/// the first command. So a caller can see the cluster between two lines. A bad line leaves the cluster unchanged.
 pub fn play_line<O: Write>(
     alloc: Global,
     cluster: &mut Option<Cluster>,

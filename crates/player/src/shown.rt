@@ -1,4 +1,4 @@
-//! The commands that only show something. Each prints what it reads of the cluster at once.
+//! The commands that only show something. Each prints what it reads from the cluster at once.
 ghost use Rattle.std.specs.Prelude.{◌≡◌, Some, IfOk, is_some};
 ghost use Rattle.std.specs.List.{list_all};
 ghost use Rattle.tag.specs.Refusal.{IsExactlyByCause};
@@ -52,7 +52,7 @@ pub(crate) fn mail<W: Write>(cluster: &Cluster, name: &str, out: &mut W) -> Resu
     }
 }
 
-/// Prints the bank of a member at a position. `Bad` where the object is there and has no such bank.
+/// Prints the bank of a member at a position. Fails with `Bad` if the object is there and has no such bank.
 pub(crate) fn bank<W: Write>(
     cluster: &Cluster,
     name: &str,
@@ -116,7 +116,8 @@ pub(crate) fn sequence_of<W: Write>(
     }
 }
 
-/// Prints whether these calls are a register sequence. `Bad` where the object is there and one of the calls is not.
+/// Prints whether these calls are a register sequence. Fails with `Bad` if the object is there and one of the calls is
+/// not.
 pub(crate) fn check_of<W: Write>(
     cluster: &Cluster,
     name: &str,

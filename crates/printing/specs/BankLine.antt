@@ -12,7 +12,7 @@ use Rattle.bank.specs.Pointer.{status_of}
 use Rattle.printing.specs.Vocabulary.{word_of_label, word_of_status}
 use Rattle.printing.specs.Words.{in_words, text_or_dash}
 
--- a tag, its label, and the length in bytes of its piece, or a dash where there is no piece
+-- a tag, its label, and the length in bytes of its piece, or a dash if there is no piece
 abbrev pub row_text : Tag → Row → List ℕ
 row_text tag row =
     in_words

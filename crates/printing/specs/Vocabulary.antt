@@ -39,7 +39,7 @@ word_of_want want.Again = codes "again"
 word_of_want want.Answer = codes "answer"
 word_of_want want.Done = codes "done"
 
--- the word for what a bank knows of the next position
+-- the word for what a bank knows about the next position
 abbrev pub word_of_status : Status → List ℕ
 word_of_status status.Unset = codes "none"
 word_of_status status.Pending = codes "pending"

@@ -9,7 +9,7 @@ use std::fmt;
 use tag::Tag;
 
 /// The line of a bank: `next S`, and then `; NUMBER.CALL LABEL LEN` for each tag in rising order. LEN is the number of
-/// bytes of the piece, or `-` where there is no piece.
+/// bytes of the piece, or `-` if there is no piece.
 #[derive(Clone, Copy)]
 pub struct BankLine<'a>(pub &'a Bank);
 

@@ -1,4 +1,4 @@
-//! Values that may be absent: each prints as itself, or as `-` where it is absent.
+//! Values that may be absent: each prints as itself, or as `-` if it is absent.
 ghost use Rattle.std.specs.Prelude.{Some};
 ghost use Rattle.std.specs.Fmt.{decimal};
 ghost use Rattle.tag.specs.Tag.{tag_text};

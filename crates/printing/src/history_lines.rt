@@ -8,7 +8,7 @@ use record::Entry;
 use std::fmt;
 
 /// A line for each entry, in order: `C KIND CALLED ANSWERED VALUE`. ANSWERED is `-` for an open call, and VALUE is `-`
-/// where there is none.
+/// if there is none.
 #[derive(Clone, Copy)]
 pub struct HistoryLines<'a>(pub &'a [Entry]);
 

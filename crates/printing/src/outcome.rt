@@ -7,7 +7,7 @@ use phase::Took;
 use std::fmt;
 use tag::{CallId, Refusal};
 
-/// What a command did, where it shows nothing. It prints as one line.
+/// What a command did, if it shows nothing. It prints as one line.
 #[derive(Clone, Copy, Debug, PartialEq, Eq)]
 pub enum Outcome {
     /// `ok`

@@ -5,7 +5,7 @@ ghost use Rattle.printing.specs.SequenceLine.{sequence_text};
 use std::fmt;
 use tag::CallId;
 
-/// The line of a sequence: the numbers of the calls, separated by spaces, or `-` where there is none.
+/// The line of a sequence: the numbers of the calls, separated by spaces, or `-` if there is none.
 #[derive(Clone, Copy)]
 pub struct SequenceLine<'a>(pub &'a [CallId]);
 

@@ -7,7 +7,7 @@ use bank::{Kind, Label, Status};
 use phase::Took;
 use record::{Operation, Want};
 
-/// The word for what a phase asks.
+/// Returns the word for what a phase asks.
 pub fn kind_word(kind: Kind) -> &'static str
     ensures { result.now ≡ word_of_kind kind }
 {
@@ -21,7 +21,7 @@ pub fn kind_word(kind: Kind) -> &'static str
     }
 }
 
-/// The word for what a call does.
+/// Returns the word for what a call does.
 pub fn operation_word(operation: Operation) -> &'static str
     ensures { result.now ≡ word_of_operation operation }
 {
@@ -32,7 +32,7 @@ pub fn operation_word(operation: Operation) -> &'static str
     }
 }
 
-/// The word for what a call wants next.
+/// Returns the word for what a call wants next.
 pub fn want_word(want: Want) -> &'static str
     ensures { result.now ≡ word_of_want want }
 {
@@ -47,7 +47,7 @@ pub fn want_word(want: Want) -> &'static str
     }
 }
 
-/// The word for what a bank knows of the next position.
+/// Returns the word for what a bank knows about the next position.
 pub fn status_word(status: Status) -> &'static str
     ensures { result.now ≡ word_of_status status }
 {
@@ -58,7 +58,7 @@ pub fn status_word(status: Status) -> &'static str
     }
 }
 
-/// The word for the label that a bank gives a tag.
+/// Returns the word for the label that a bank gives a tag.
 pub fn label_word(label: Label) -> &'static str
     ensures { result.now ≡ word_of_label label }
 {
@@ -68,7 +68,7 @@ pub fn label_word(label: Label) -> &'static str
     }
 }
 
-/// The word for what a call did with a reply.
+/// Returns the word for what a call did with a reply.
 pub fn took_word(took: Took) -> &'static str
     ensures { result.now ≡ word_of_took took }
 {

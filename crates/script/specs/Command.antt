@@ -12,7 +12,7 @@ use Rattle.script.specs.declared.command.Command.TheVariants as of
 use Rattle.script.specs.declared.error.LineError.{LineError}
 use Rattle.script.specs.declared.error.LineError.TheVariants.{Bad, NoMemory}
 
--- the first word is this text, and `Rest` holds of the words after it
+-- the first word is this text, and `Rest` holds for the words after it
 abbrev pub Says : Word → (List Word → Type 0) → List Word → Type 0
 Says text Rest [] = ⊥
 Says text Rest (word ∷ words) = (word ≡ text) × Rest words

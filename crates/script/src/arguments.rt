@@ -1,5 +1,5 @@
 //! The words of a command after those that name it. Each function reads all the words that it is given. It fails with
-//! `Bad` where they have another form, and with `NoMemory` where memory is refused for their numbers or bytes.
+//! `Bad` if they have another form, and with `NoMemory` if memory is refused for their numbers or bytes.
 ghost use Rattle.std.specs.Prelude.{◌≡◌, ◌⊎◌, ℕ, List, Option, IfErr, IfOk, map};
 ghost use Rattle.script.specs.Arguments.{AreName, AreNameAndBytes, AreNameAndNumber, AreNameAndNumbers};
 ghost use Rattle.script.specs.Arguments.{AreNameAndTurns, AreNameAndTwoNumbers, AreNameBytesAndTurns};

@@ -1,8 +1,8 @@
 //! The commands that may change the cluster.
 use bytes::Bytes;
 
-/// A command that may change the cluster, if it comes after the first one. Each number is the one on the line, even
-/// where there is nothing of that number. A name is a word of any length.
+/// A command that may change the cluster, if it comes after the first one. Each number is the one on the line, even if
+/// there is nothing of that number. A name is a word of any length.
 #[derive(Drop)]
 pub enum Change<'a> {
     /// `layout K M0 M1 ..`: adds a layout with threshold `k` and these members in order, of which there is at least
@@ -11,8 +11,7 @@ pub enum Change<'a> {
         k: u64,
         members: Vec<u64>,
     },
-    /// `object NAME ID [DELTA]`: creates an object with a layout. Its banks keep every piece where the line has no
-    /// delta.
+    /// `object NAME ID [DELTA]`: creates an object with a layout. Its banks keep every piece if the line has no delta.
     Object {
         name: &'a str,
         layout: u64,
@@ -105,24 +104,24 @@ pub enum Change<'a> {
     Deliver {
         name: &'a str,
     },
-    /// `read NAME [TURNS]`: makes a whole read; 100,000 turns where the line gives none.
+    /// `read NAME [TURNS]`: makes a whole read; 100,000 turns if the line gives none.
     Read {
         name: &'a str,
         turns: u64,
     },
-    /// `write NAME HEX [TURNS]`: makes a whole write; 100,000 turns where the line gives none.
+    /// `write NAME HEX [TURNS]`: makes a whole write; 100,000 turns if the line gives none.
     Write {
         name: &'a str,
         value: Bytes,
         turns: u64,
     },
-    /// `move NAME ID [TURNS]`: makes a whole move to a layout; 100,000 turns where the line gives none.
+    /// `move NAME ID [TURNS]`: makes a whole move to a layout; 100,000 turns if the line gives none.
     Move {
         name: &'a str,
         layout: u64,
         turns: u64,
     },
-    /// `resume NAME C [TURNS]`: continues an open call to its answer; 100,000 turns where the line gives none.
+    /// `resume NAME C [TURNS]`: continues an open call to its answer; 100,000 turns if the line gives none.
     Resume {
         name: &'a str,
         call: u64,

@@ -8,8 +8,8 @@ use crate::error::LineError;
 use crate::{call_commands, cluster_commands, mail_commands, object_commands};
 use std::alloc::Global;
 
-/// A command of a script. Each number is the one on the line, even where there is nothing of that number. A name is a
-/// word of any length.
+/// A command of a script. Each number is the one on the line, even if there is nothing of that number. A name is a word
+/// of any length.
 #[derive(Drop)]
 pub enum Command<'a> {
     /// `servers S`: makes the cluster, with this many servers.
@@ -51,7 +51,7 @@ pub enum Command<'a> {
     },
 }
 
-/// The command that the words of a line spell. It fails with `Bad` where they spell none, and with `NoMemory` where
+/// Returns the command that the words of a line spell. It fails with `Bad` if they spell none, and with `NoMemory` if
 /// memory is refused for the command's bytes or numbers.
 pub fn parse_command<'a>(alloc: Global, words: &[&'a str]) -> Result<Command<'a>, LineError>
     ensures { ParsesToCommand (map (λ w. w.now) words.now) result }

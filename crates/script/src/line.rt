@@ -15,11 +15,11 @@ pub enum Line<'a> {
     Command(Command<'a>),
 }
 
-/// What a line says. The line is given without its end. Only spaces separate words. A skipped line may have any bytes
-/// and needs no memory.
+/// Returns what a line says. The line is given without its end. Only spaces separate words. A skipped line may have any
+/// bytes and needs no memory.
 ///
-/// Any other line fails with `Bad` where it has a byte above 0x7f or its words spell no command, and with `NoMemory`
-/// where memory is refused for its words or for the lists of the command.
+/// Any other line fails with `Bad` if it has a byte above 0x7f or its words spell no command, and with `NoMemory` if
+/// memory is refused for its words or for the lists of the command.
 pub fn parse_line(alloc: Global, line: &[u8]) -> Result<Line<'_>, LineError>
     ensures { IsReadingOfLine line.now result }
 {
@@ -45,7 +45,7 @@ fn is_skipped(line: &[u8]) -> bool
     }
 }
 
-/// The first byte of the first word; none where the line has no word.
+/// Returns the first byte of the first word; none if the line has no word.
 fn first_of_words(line: &[u8]) -> Option<u8>
     ensures { result ≡ find (λ b. not (is_space b)) line.now }
 {

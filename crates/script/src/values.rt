@@ -1,5 +1,5 @@
-//! What one word spells, or several words. Each function fails with `Bad` where they have another form, and with
-//! `NoMemory` where memory is refused for their numbers or bytes.
+//! What one word spells, or several words. Each function fails with `Bad` if they have another form, and with
+//! `NoMemory` if memory is refused for their numbers or bytes.
 ghost use Rattle.std.specs.Prelude.{◌≡◌, ◌⊎◌, ℕ, List, Option, IfErr, IfOk, map};
 ghost use Rattle.words.specs.Hexadecimal.{IsHexadecimal};
 ghost use Rattle.words.specs.Number.{IsNumber};
@@ -11,7 +11,7 @@ use bytes::Bytes;
 use std::alloc::Global;
 use words::{parse_bytes, parse_number};
 
-/// The turns of a whole call where a line does not give them.
+/// The turns of a whole call if a line does not give them.
 const DEFAULT_TURNS: u64 = 100_000;
 
 pub(crate) fn number(word: &str) -> Result<u64, LineError>

@@ -30,7 +30,7 @@ impl Draft {
         }
     }
 
-    /// Whether there is no line.
+    /// Returns whether there is no line.
     pub(crate) fn is_empty(&self) -> bool {
         self.name.is_none() && self.action.is_none() && self.out.is_empty() && self.err.is_empty()
     }
@@ -71,7 +71,7 @@ impl Draft {
         Ok(())
     }
 
-    /// The row behind its beginning. It ends at this line, with this status.
+    /// Returns the row behind its beginning. It ends at this line, with this status.
     pub(crate) fn finish(self, beginning: &Draft, line: usize, status: u8) -> Result<Row> {
         let name = self.name.context("a row without a name")?;
         let action = self.action.context("a row that does nothing")?;

@@ -21,7 +21,7 @@ pub(crate) enum Line<'a> {
     Status(u8),
 }
 
-/// What this line says, where it is a line of a table. One space parts the mark from the rest.
+/// Returns what this line says, if it is a line of a table. One space parts the mark from the rest.
 pub(crate) fn parse_line(line: &str) -> Option<Line<'_>> {
     if line.is_empty() || line.starts_with('#') {
         return Some(Line::Skipped);

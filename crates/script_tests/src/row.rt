@@ -24,7 +24,7 @@ pub(crate) struct Row {
     pub(crate) expected: Run,
 }
 
-/// The words of a command line, parted by one space each. `''` is an empty word.
+/// Returns the words of a command line, parted by one space each. `''` is an empty word.
 pub(crate) fn words_of(alloc: Global, text: &str) -> Result<Vec<String>, AllocError> {
     let mut words = Vec::new(alloc);
     if text.is_empty() {

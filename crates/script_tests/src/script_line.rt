@@ -30,7 +30,7 @@ fn add_escaped(script: &mut Vec<u8>, text: &str) -> Result<()> {
     Ok(())
 }
 
-/// The byte of the two digits in front, and what stands behind them.
+/// Returns the byte of the two digits in front, and what stands behind them.
 fn hexadecimal(text: &str) -> Result<(u8, &str)> {
     let (digits, rest) = text.split_at_checked(2).context("a byte of two digits")?;
     Ok((u8::from_str_radix(digits, 16)?, rest))

@@ -16,7 +16,7 @@ struct Reading {
     draft: Draft,
 }
 
-/// The rows of a table. It has one at least.
+/// Returns the rows of a table. It has one at least.
 pub(crate) fn parse_table(alloc: Global, text: &str) -> Result<Vec<Row>>
     ensures { IfOk result (λ rows. 0 < length rows.items) }
 {

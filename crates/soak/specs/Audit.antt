@@ -14,7 +14,7 @@ use Rattle.cluster.specs.Causes.{object_cause}
 use Rattle.cluster.specs.Cluster.{Cluster, named}
 use Rattle.tag.specs.declared.refusal.Refusal.{Refusal}
 
--- how many bytes a bank stores where its member is this server, and 0 where it is not or there is no bank
+-- how many bytes a bank stores if its member is this server, and 0 if it is not or there is no bank
 abbrev pub bytes_if : (server : ℕ) → (member : Option ℕ) → Option Bank → ℕ
 bytes_if server None bank = 0
 bytes_if server (Some member) None = 0
@@ -25,12 +25,12 @@ abbrev pub bank_bytes_at : Object → (server position member : ℕ) → ℕ
 bank_bytes_at object server position member =
     bytes_if server (slice_get (layout_at object position).members member) (bank_there object position member)
 
--- the number that is read of an object; 0 where there is no object
+-- the number that is read from an object; 0 if there is no object
 abbrev pub of_object : Option State → (Object → ℕ) → ℕ
 of_object None read = 0
 of_object (Some state) read = read state.object
 
--- the sum of what is read of the objects `a` and `b`
+-- the sum of what is read from the objects `a` and `b`
 abbrev pub of_both : Cluster → (Object → ℕ) → ℕ
 of_both cluster read =
     of_object (named cluster.objects (codes "a")) read + of_object (named cluster.objects (codes "b")) read
@@ -51,6 +51,6 @@ AreAdded cluster one other =
     × (all.stored_all cluster ≡ member_sum (λ s. of.stored one s + of.stored other s) 0 (length cluster.servers))
     × (all.waiting_bytes cluster ≡ of.mailed one + of.mailed other)
 
--- `NoObject` where no object has the name `a`, or none has the name `b`
+-- `NoObject` if no object has the name `a`, or none has the name `b`
 abbrev pub missing_cause : Cluster → Option Refusal
 missing_cause cluster = object_cause cluster (codes "a") (λ _. object_cause cluster (codes "b") (λ _. None))

@@ -13,14 +13,14 @@ use Rattle.cluster.specs.Cluster.{Cluster, named}
 use Rattle.soak.specs.Audit.{AreAccounted}
 use Rattle.soak.specs.declared.summary.Summary.{Summary}
 
--- the entries of an object; no entries where there is no object
-abbrev pub entries_in : Option State → List Entry
-entries_in None = []
-entries_in (Some state) = entries state.object
+-- the entries of an object; no entries if there is no object
+abbrev pub entries_if_any : Option State → List Entry
+entries_if_any None = []
+entries_if_any (Some state) = entries state.object
 
 -- the entries of the object of this name
 abbrev pub entries_of : Cluster → (name : List ℕ) → List Entry
-entries_of cluster name = entries_in (named cluster.objects name)
+entries_of cluster name = entries_if_any (named cluster.objects name)
 
 -- whether what a call does is a move
 abbrev pub is_move_operation : Operation → Bool
@@ -64,6 +64,6 @@ summary_text s = line (codes "calls") (decimal s.calls) ++ 10 ∷ line (codes "r
     ++ 10 ∷ line (codes "moves") (decimal s.moves) ++ 10 ∷ line (codes "check") (truth s.check)
     ++ 10 ∷ line (codes "accounts") (truth s.accounts)
 
--- the exit status: 0 where there are as many calls as receipts and both truth values hold, and otherwise 1
+-- the exit status: 0 if there are as many calls as receipts and both truth values hold, and otherwise 1
 abbrev pub exit_status_of_summary : Summary → ℕ
 exit_status_of_summary s = if (s.calls == s.receipts) && (s.check && s.accounts) then 0 else 1

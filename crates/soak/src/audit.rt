@@ -11,8 +11,8 @@ use cluster::Cluster;
 use register::Register;
 use tag::{MOST_MEMBERS, MOST_POSITIONS, Refusal};
 
-/// Whether the accounts of a cluster equal the sums over the banks and the mail of its objects `a` and `b`, which are
-/// added up here. `NoObject` where one of the objects is not there.
+/// Returns whether the accounts of a cluster equal the sums over the banks and the mail of its objects `a` and `b`,
+/// which are added up here. Is refused with `NoObject` if one of the objects is not there.
 pub fn are_accounted(cluster: &Cluster) -> Result<bool, Refusal>
     ensures accounts { IfOk result (λ b. IsTrue b ↔ AreAccounted cluster.now) }
     ensures cause { IsExactlyByCause (missing_cause cluster.now) result }

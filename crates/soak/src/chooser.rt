@@ -15,7 +15,7 @@ pub struct Congruential {
 }
 
 impl Congruential {
-    /// A chooser whose state begins at the sum of the two numbers, modulo 2^64.
+    /// Makes a chooser whose state begins at the sum of the two numbers, modulo 2^64.
     pub fn new(choices: u64, apart: u64) -> Congruential
         ensures { result.state ≡ (choices + apart) % 2 ^ 64 }
     {

@@ -33,17 +33,17 @@ impl Counts {
         self.ended.fetch_add(1, Ordering::SeqCst);
     }
 
-    /// How many calls the clients have made.
+    /// Returns how many calls the clients have made.
     pub(crate) fn calls(&self) -> u64 {
         self.calls.load(Ordering::SeqCst)
     }
 
-    /// How many moves the administrator has made.
+    /// Returns how many moves the administrator has made.
     pub(crate) fn moves(&self) -> u64 {
         self.moves.load(Ordering::SeqCst)
     }
 
-    /// How many threads have ended or could not be started.
+    /// Returns how many threads have ended or could not be started.
     pub(crate) fn ended(&self) -> u64 {
         self.ended.load(Ordering::SeqCst)
     }

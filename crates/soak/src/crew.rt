@@ -18,7 +18,7 @@ use std::thread::{Promise, PromisedHandle, Scope, Threads};
 use std::time::Clock;
 use tag::Refusal;
 
-/// The promise of a client's thread: where it returns a seat, this many calls were made with it.
+/// The promise of a client's thread: if it returns a seat, this many calls were made with it.
 #[derive(Clone, Copy)]
 pub(crate) struct CallsMade(pub(crate) u64);
 
@@ -29,7 +29,7 @@ impl<L: StoreName> Promise<Ended<L>> for CallsMade {
     ghost kept_by = { λ promise ended. IfOk ended (λ seat. HasMade L.first promise.0 seat) };
 }
 
-/// The promise of the administrator's thread: where it returns the administrator, this many moves were made.
+/// The promise of the administrator's thread: if it returns the administrator, this many moves were made.
 #[derive(Clone, Copy)]
 pub(crate) struct MovesMade(pub(crate) u64);
 

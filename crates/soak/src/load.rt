@@ -32,7 +32,7 @@ pub struct Load {
     pub late: u32,
 }
 
-/// How many calls were made, and how many nanoseconds they took. A time is 0 where its clock could not be read.
+/// How many calls were made, and how many nanoseconds they took. A time is 0 if its clock could not be read.
 #[derive(Clone, Copy, Debug, PartialEq, Eq)]
 pub struct Timing {
     /// How many receipts the closed store has.
@@ -44,10 +44,10 @@ pub struct Timing {
 }
 
 /// Opens a store of five servers, any three of which give a value back, without workers, and measures the calls of a
-/// load. It returns a timing only where the closed store has a receipt for each call.
+/// load. It returns a timing only if the closed store has a receipt for each call.
 ///
-/// `Full` above `MOST_SEATS` clients, `NotNow` where there are fewer receipts, `NoMemory` also where a thread cannot be
-/// started, and else the refusal of a call.
+/// Is refused with `Full` if there are more than `MOST_SEATS` clients, with `NotNow` if there are fewer receipts, and
+/// otherwise with the refusal of a call. It is also refused with `NoMemory` if a thread cannot be started.
 pub fn run_load<R: Threads + Wait + Clock + CpuClock + Sync>(
     rt: &R,
     alloc: Global,

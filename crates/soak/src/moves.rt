@@ -16,15 +16,15 @@ use tag::Refusal;
 /// The greatest number of turns of each call and each move.
 pub(crate) const MOST_TURNS: u64 = 1_000_000;
 
-/// The name of the object that the move of this number moves: `a` and `b` in turn.
+/// Returns the name of the object that the move of this number moves: `a` and `b` in turn.
 pub fn object_moved(number: u64) -> &'static str
     ensures { result.now ≡ object_moved number }
 {
     if number % 2 == 0 { "a" } else { "b" }
 }
 
-/// The number of the layout to which the move of this number leads. Each object passes through the three layouts in a
-/// cycle.
+/// Returns the number of the layout to which the move of this number leads. Each object passes through the three
+/// layouts in a cycle.
 pub fn layout_after(number: u64) -> LayoutId
     ensures layout { result ≡ layout_after number }
     ensures there { result < 3 }

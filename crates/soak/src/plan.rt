@@ -26,7 +26,7 @@ pub struct Plan {
 }
 
 impl Plan {
-    /// The plan of these numbers; none where there is no client, or a number is above its limit.
+    /// Makes the plan of these numbers, or returns none if there is no client, or a number is above its limit.
     pub fn new(clients: u64, calls: u64, moves: u64, choices: u64) -> Option<Plan>
         ensures { MatchOption result (¬ (IsWithin clients calls moves))
             (λ plan. IsWithin clients calls moves

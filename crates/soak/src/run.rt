@@ -25,11 +25,10 @@ const WORKERS: usize = 2;
 /// ended, and sums it up. Each client has then made all its calls, each with a receipt, and the summary is of a cluster
 /// whose reads and writes are those that the clients' seats recorded, each once.
 ///
-/// Where there is a screen, a line there shows how far a soak of two seconds or more has come. It is cleared at the
-/// end.
+/// If there is a screen, a line there shows how far a soak of two seconds or more has come. It is cleared at the end.
 ///
-/// Where a call, a move or the close is refused, that refusal is returned. `NoMemory` also where a thread cannot be
-/// started.
+/// If a call, a move or the close is refused, that refusal is returned. It is also refused with `NoMemory` if a thread
+/// cannot be started.
 pub fn run_plan<R: Threads + Wait + Clock + Sync, E: Write>(
     rt: &R,
     alloc: Global,

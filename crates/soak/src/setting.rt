@@ -10,8 +10,8 @@ use tag::Refusal;
 
 const SERVERS: u8 = 5;
 
-/// A cluster of five servers, all up, with three layouts and two objects. The layouts have 4, 5 and 3 of the servers,
-/// with a k of 2, 3 and 1. The objects `a` and `b` have the first layout. `NoMemory` is the only refusal.
+/// Makes a cluster of five servers, all up, with three layouts and two objects. The layouts have 4, 5 and 3 of the
+/// servers, with a k of 2, 3 and 1. The objects `a` and `b` have the first layout. `NoMemory` is the only refusal.
 pub fn make_setting(alloc: Global) -> Result<Cluster, Refusal>
     ensures cluster { IfOk result (λ cluster. cluster ≡ setting) }
     ensures refused { IfErr result (λ r. r ≡ NoMemory) }

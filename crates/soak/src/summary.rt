@@ -40,8 +40,8 @@ struct Seen {
 }
 
 impl Summary {
-    /// Sums up and checks the cluster of a closed store, whose seats have this many receipts. `NoObject` where there is
-    /// no object `a` or `b`; else `NoMemory` is the only refusal.
+    /// Sums up and checks the cluster of a closed store, whose seats have this many receipts. Is refused with
+    /// `NoObject` if there is no object `a` or `b`. Otherwise `NoMemory` is the only refusal.
     pub fn of(alloc: Global, cluster: &Cluster, receipts: u64) -> Result<Summary, Refusal>
         ensures summary { IfOk result (λ s. IsSummaryOf cluster.now receipts s) }
         ensures cause { IsByCause (missing_cause cluster.now) result }
@@ -59,7 +59,7 @@ impl Summary {
         })
     }
 
-    /// The exit status: 0 where there are as many calls as receipts and both checks hold, and otherwise 1.
+    /// Returns the exit status: 0 if there are as many calls as receipts and both checks hold, and otherwise 1.
     pub fn status(&self) -> u8
         ensures { result ≡ exit_status_of_summary self.now }
     {

@@ -8,7 +8,7 @@ use std::sync::Wait;
 use std::thread::Threads;
 use std::time::Clock;
 
-/// The history of an object after a soak in which one client makes twelve calls, and no object moves.
+/// Returns the history of an object after a soak in which one client makes twelve calls, and no object moves.
 fn history_of<R: Threads + Wait + Clock + Abort + Sync>(
     rt: &R,
     alloc: Global,

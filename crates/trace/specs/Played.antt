@@ -9,7 +9,7 @@ use Rattle.player.specs.Script.{EndsAt, RunEndsBy, EndsLine, IsScriptOf, PlaysLi
 use Rattle.trace.specs.declared.fault.Fault.{Fault}
 use Rattle.trace.specs.declared.fault.Fault.TheVariants as fault
 
--- playing the lines of the script leads to this cluster, or to none where no line made one
+-- playing the lines of the script leads to this cluster, or to none if no line made one
 abbrev pub LeadsThrough : (script : List ℕ) → Option Cluster → Type 0
 LeadsThrough script cluster = (text : List ℕ) × PlaysLines (lines script) cluster text
 

@@ -30,7 +30,7 @@ abbrev pub ShowsOfFile : Form → (name : Word) → (old new : Option (List ℕ)
 ShowsOfFile asked name old new result =
     GivesNoFile old new result ⊎ ((given : Option (List ℕ)) × Carries given asked name old new result)
 
--- this is the exit status of a result of which `Is` holds
+-- this is the exit status of a result for which `Is` holds
 abbrev pub IsStatusOf : (Result Unit Fault → Type 0) → (status : ℕ) → Type 0
 IsStatusOf Is status =
     ((status ≡ 0) × (Is (Ok tt))) ⊎ ((why : Fault) × (status ≡ exit_status_of_fault why) × Is (Err why))

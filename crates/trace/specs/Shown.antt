@@ -1,5 +1,5 @@
 -- The contracts that docs/trusted.md lists do not depend on this file; other contracts and proofs do.
--- What the program writes of an object.
+-- What the program writes about an object.
 use Rattle.std.specs.Prelude.{◌≡◌, ◌⊎◌, ℕ, ◌+◌, ◌-◌, ◌^◌, min, ⊤, List, Option, Some, None, Result, Ok, Err}
 use Rattle.std.specs.Io.KnownBytes.{Appends, Keeps}
 use Rattle.tag.specs.declared.refusal.Refusal.{Refusal}
@@ -22,7 +22,7 @@ use Rattle.trace.specs.declared.request.Form.TheVariants as form
 abbrev pub behind : State → ℕ
 behind state = min (state.last + 1) (2 ^ 64 - 1)
 
--- what is written is the object in this form; nothing is claimed of a picture
+-- what is written is the object in this form; nothing is claimed about a picture
 abbrev pub ShowsObject : Form → State → (old new : Option (List ℕ)) → Type 0
 ShowsObject form.Picture state old new = ⊤
 ShowsObject form.Edn state old new =
@@ -39,7 +39,7 @@ IsWant why = why ≡ fault.Refused NoMemory
 abbrev pub IsLoss : Fault → Type 0
 IsLoss why = IsWant why ⊎ (why ≡ fault.OutputLost)
 
--- the refusal where no object has this name; none where one has it
+-- the refusal if no object has this name; none if one has it
 abbrev pub absence : Option Cluster → (name : List ℕ) → Option Refusal
 absence None name = Some NoObject
 absence (Some cluster) name = object_cause cluster name (λ object. None)

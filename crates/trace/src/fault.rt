@@ -32,7 +32,7 @@ const USAGE: &str = "usage: trace picture SCRIPT NAME\n       \
     trace costs SCRIPT NAME";
 
 impl Fault {
-    /// Why the program's arguments could not be read: one is not UTF-8, or memory is refused.
+    /// Returns why the program's arguments could not be read: one is not UTF-8, or memory is refused.
     pub fn from_arguments(error: io::Error) -> Fault
         ensures memory { error_kind error ≡ ErrorKind.OutOfMemory → result ≡ fault.Refused NoMemory }
         ensures text { error_kind error ≢ ErrorKind.OutOfMemory → result ≡ fault.NotText }
@@ -43,7 +43,7 @@ impl Fault {
         }
     }
 
-    /// Why output is lost: memory was refused to a write, or a write failed for another reason.
+    /// Returns why output is lost: memory was refused to a write, or a write failed for another reason.
     pub fn from_output(error: io::Error) -> Fault
         ensures memory { error_kind error ≡ ErrorKind.OutOfMemory → result ≡ fault.Refused NoMemory }
         ensures other { error_kind error ≢ ErrorKind.OutOfMemory → result ≡ fault.OutputLost }

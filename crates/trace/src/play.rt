@@ -19,7 +19,7 @@ use words::split_lines;
 /// What a script leaves behind.
 #[derive(Drop)]
 pub struct Played {
-    /// The cluster; none where the script has no command.
+    /// The cluster; none if the script has no command.
     pub cluster: Option<Cluster>,
     /// The messages of the shown object that the script loses.
     pub losses: Vec<Loss>,

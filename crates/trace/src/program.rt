@@ -12,9 +12,9 @@ use std::io::{ErrorKind, Read, Write};
 use std::rt::Files;
 use std::{fs, io};
 
-/// Carries out the words after the program's name, and returns the exit status: 0 where what they ask for is written, 1
-/// for a refusal or lost output, 2 for words that spell no request and for a script that is bad or cannot be read.
-/// Where the status is not 0, a text on `err` says why, and the object is not shown.
+/// Carries out the words after the program's name, and returns the exit status: 0 if what they ask for is written, 1
+/// for a refusal or lost output, 2 for words that spell no request and for a script that is bad or cannot be read. If
+/// the status is not 0, a text on `err` says why, and the object is not shown.
 pub fn run_words<R: Files + AllocGlobal, O: Write, E: Write>(
     rt: &R,
     words: &[String],

@@ -26,7 +26,7 @@ pub struct Request<'a> {
     pub name: &'a str,
 }
 
-/// The request that the words after the program's name spell; none where they spell none.
+/// Returns the request that the words after the program's name spell; none if they spell none.
 pub fn parse_request(words: &[String]) -> Option<Request<'_>>
     ensures { SpellsOrNone (map string_bytes words.entry.now) result }
 {

@@ -1,4 +1,4 @@
-//! What the program writes of an object.
+//! What the program writes about an object.
 ghost use Rattle.std.specs.Prelude.{◌≡◌, ℕ, List, Some, IfErr, OnOk, MatchResult};
 ghost use Rattle.std.specs.Io.KnownBytes.{Appends};
 ghost use Rattle.record.specs.Journals.{entries};
@@ -19,8 +19,8 @@ use std::fmt::Display;
 use std::io::Write;
 use tag::Refusal;
 
-/// Writes the requested object in the requested form and flushes it. `NoObject` where no object has the name. With any
-/// other error memory is refused or the output is lost, and part of the text may have been written.
+/// Writes the requested object in the requested form and flushes it. Fails with `NoObject` if no object has the name.
+/// With any other error memory is refused or the output is lost, and part of the text may have been written.
 pub fn show<O: Write>(
     alloc: Global,
     played: &Played,

@@ -14,7 +14,7 @@ const EIGHT_CALLS: Load = Load {
     late: 10,
 };
 
-/// Makes eight calls, and prints how many they are. Answers whether they were made.
+/// Makes eight calls, and prints how many they are. Returns whether they were made.
 pub(crate) fn play<R: Threads + Wait + Clock + CpuClock + Sync>(
     rt: &R,
     host: &HostRuntime,
@@ -23,8 +23,8 @@ pub(crate) fn play<R: Threads + Wait + Clock + CpuClock + Sync>(
 }
 
 /// Makes the calls that the words after the program's name ask, and prints how many they are, and on standard error the
-/// nanoseconds that they took: by the clock, and of the processors. Answers the exit status: 1 where a call is refused
-/// or output is lost, 2 for other words.
+/// nanoseconds that they took: by the clock, and of the processors. Returns the exit status: 1 if a call is refused or
+/// output is lost, 2 for other words.
 pub(crate) fn measure<R: Threads + Wait + Clock + CpuClock + Sync>(
     rt: &R,
     host: &HostRuntime,
@@ -58,7 +58,7 @@ fn make_calls<R: Threads + Wait + Clock + CpuClock + Sync>(
     }
 }
 
-/// What the words after the program's name ask.
+/// Returns what the words after the program's name ask.
 fn asked(host: &HostRuntime) -> Option<Load> {
     Some(Load {
         clients: u32::try_from(number(host, 1)?).ok()?,
@@ -68,7 +68,7 @@ fn asked(host: &HostRuntime) -> Option<Load> {
     })
 }
 
-/// The number that a word spells.
+/// Returns the number that a word spells.
 fn number(host: &HostRuntime, place: usize) -> Option<u64> {
     let mut digits = [0u8; 20];
     let length = host.arg(place, &mut digits).ok()?;

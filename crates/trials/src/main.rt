@@ -1,6 +1,6 @@
-//! Trials of the store and of the coding pool, which other programs start. Without words it plays two stories that are
-//! made good where memory is refused, of which `faults/sweep` refuses each request for memory in turn, and makes eight
-//! calls. With words it makes calls and says what they cost: `bench/steps` prints that.
+//! Trials of the store and of the coding pool, which other programs start. Without words the program plays two stories
+//! and makes eight calls. Each story goes on if memory is refused: `faults/sweep` refuses each request for memory in
+//! turn. With words the program makes calls and says what they cost, for `bench/steps`.
 #![tactic(auto)]
 
 mod load;

@@ -1,4 +1,4 @@
-//! The pieces of one value, made by the caller alone and then by one worker, made again where memory is refused.
+//! The pieces of one value, made by the caller alone and then by one worker. They are made again if memory is refused.
 use crate::printing_gate::PrintingGate;
 use bytes::Bytes;
 use coding_pool::{Gate, NoGate, encode_all};
@@ -13,14 +13,14 @@ const TRIES: u32 = 3;
 
 const VALUE: &[u8] = b"hello";
 
-/// Prints the pieces as the caller makes them, and then as one worker does, with what it tells its gate. Answers
+/// Prints the pieces as the caller makes them, and then as one worker does, with what it tells its gate. Returns
 /// whether both were made.
 pub(crate) fn play<R: Threads + Wait + Sync>(rt: &R, host: &HostRuntime) -> bool {
     insist(rt, host, 0, &NoGate) && insist(rt, host, 1, &PrintingGate { host })
 }
 
-/// Prints the four pieces, of which any two give the value back, as so many workers make them. Where that is refused it
-/// says so, and tries again. Answers whether they were made.
+/// Prints the four pieces, of which any two give the value back, as so many workers make them. If that is refused it
+/// says so, and tries again. Returns whether they were made.
 fn insist<G: Gate, R: Threads + Wait + Sync>(
     rt: &R,
     host: &HostRuntime,

@@ -1,4 +1,4 @@
-//! One write and one read through a store of threads with one seat and no workers, made good where memory is refused
+//! One write and one read through a store of threads with one seat and no workers, made again if memory is refused
 //! once.
 ghost use Rattle.std.specs.Prelude.{◌≡◌, ◌+◌};
 
@@ -20,7 +20,7 @@ const ENOUGH_TURNS: u64 = 100_000;
 const HELLO: &[u8] = b"hello";
 
 /// Plays the story, and prints the receipts of the close. A store that could not be opened or closed for want of memory
-/// is played again from its beginning. Answers whether it came to its end.
+/// is played again from its beginning. Returns whether it came to its end.
 pub(crate) fn play<R: Threads + Wait + Sync>(rt: &R, host: &HostRuntime) -> bool {
     let receipts = match play_once(rt, host.alloc()) {
         Err(Refusal::NoMemory) => play_once(rt, host.alloc()),
@@ -36,10 +36,10 @@ fn play_once<R: Threads + Wait + Sync>(rt: &R, alloc: Global) -> Result<u64, Ref
     play_named::<Brand, R>(rt, alloc, Blank::new(2), four_servers(alloc)?)
 }
 
-/// Opens a store over a cluster, writes and reads, and closes it. Answers the receipts of the close.
+/// Opens a store over a cluster, writes and reads, and closes it. Returns the receipts of the close.
 ///
-/// `NoMemory` where the store could not be opened or closed, or memory was refused twice to one call; `WrongCode` where
-/// what was read is not what was written.
+/// Is refused with `NoMemory` if the store could not be opened or closed, or memory was refused twice to one call; with
+/// `WrongCode` if what was read is not what was written.
 fn play_named<L: StoreName, R: Threads + Wait + Sync>(
     rt: &R,
     alloc: Global,

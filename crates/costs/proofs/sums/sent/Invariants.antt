@@ -1,5 +1,5 @@
 use Rattle.std.proofs.Common.{◌≡◌, take, sum_by}
-use Rattle.costs.specs.Cost.{sent_in}
+use Rattle.costs.specs.Cost.{sent_in_phase}
 use Rattle.std.specs.Io.Iter.{u64_saturate}
 use Rattle.register.specs.View.{phases_at}
 use Rattle.costs.proofs.sums.sent.Given as goal
@@ -7,4 +7,4 @@ use Rattle.costs.proofs.sums.sent.Given as goal
 -- the sum over the phases so far
 abbrev pub invariant-loop-index : goal.invariant-loop-index
 invariant-loop-index l =
-    l.total ≡ u64_saturate (sum_by (sent_in l.register.object l.call) (take l.index (phases_at l.register.object l.call)))
+    l.total ≡ u64_saturate (sum_by (sent_in_phase l.register.object l.call) (take l.index (phases_at l.register.object l.call)))
