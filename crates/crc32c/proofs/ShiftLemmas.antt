@@ -7,7 +7,7 @@ use Rattle.std.proofs.lemmas.Nat.{xor_shr, xor_lt, div-add-mod'}
 use Rattle.std.proofs.lemmas.Nat.Bits.{bit_at-lt}
 use Rattle.gf256.proofs.AdditiveFunctionLemmas.{IsAdditive, IsAdditive-xor, IsAdditive-bit_times, IsAdditive-same}
 use Rattle.gf256.proofs.AdditiveFunctionLemmas.{IsAdditive-compose, eq-xor_zero}
-use Rattle.crc32c.specs.Crc32c.{modulus, shifted, shifted_by, after_byte}
+use Rattle.crc32c.specs.Crc32c.{castagnoli, shifted, shifted_by, after_byte}
 
 pub zero_xor : (a : ℕ) → bit_xor 0 a ≡ a
 zero_xor a = xor_comm 0 a ∙ xor_zero_r a
@@ -17,7 +17,7 @@ half = record { at_sum = λ a b. xor_shr a b 1 }
 
 IsAdditive-shifted : IsAdditive shifted
 unfolding shifted
-IsAdditive-shifted = IsAdditive-xor (λ a. a / 2) (λ a. bit_at a 0 * modulus) half (IsAdditive-bit_times 0 modulus)
+IsAdditive-shifted = IsAdditive-xor (λ a. a / 2) (λ a. bit_at a 0 * castagnoli) half (IsAdditive-bit_times 0 castagnoli)
 
 pub IsAdditive-shifted_by : (n : ℕ) → IsAdditive (shifted_by n)
 unfolding shifted_by
@@ -31,7 +31,7 @@ unfolding shifted
 shifted_even x =
     let even : bit_at (x * 2) 0 ≡ 0 = omega arith in
     let left : x * 2 / 2 ≡ x = omega arith in
-    ap₂ bit_xor left (ap (λ (b : ℕ). b * modulus) even ∙ zero-mul modulus) ∙ xor_zero_r x
+    ap₂ bit_xor left (ap (λ (b : ℕ). b * castagnoli) even ∙ zero-mul castagnoli) ∙ xor_zero_r x
 
 one_more : (n y x : ℕ) → shifted_by n y ≡ x * 2 → shifted_by (suc n) y ≡ x
 unfolding shifted_by
@@ -73,21 +73,21 @@ after_byte_split s b =
 
 -- ---- a state that is shifted to zero is zero
 
-bits_times_lt : (x : ℕ) → x < 2 → x * modulus < 2 ^ 32
+bits_times_lt : (x : ℕ) → x < 2 → x * castagnoli < 2 ^ 32
 bits_times_lt zero h = omega arith
 bits_times_lt (suc zero) h = omega arith
 bits_times_lt (suc (suc x)) h = absurd (omega arith)
 
 shifted_lt : (s : ℕ) → s < 2 ^ 32 → shifted s < 2 ^ 32
 unfolding shifted
-shifted_lt s h = xor_lt 32 (s / 2) (bit_at s 0 * modulus) (omega arith) (bits_times_lt (bit_at s 0) (bit_at-lt s 0))
+shifted_lt s h = xor_lt 32 (s / 2) (bit_at s 0 * castagnoli) (omega arith) (bits_times_lt (bit_at s 0) (bit_at-lt s 0))
 
 pub shifted_by_lt : (n s : ℕ) → s < 2 ^ 32 → shifted_by n s < 2 ^ 32
 unfolding shifted_by
 shifted_by_lt zero s h = h
 shifted_by_lt (suc n) s h = shifted_lt (shifted_by n s) (shifted_by_lt n s h)
 
-low_is_zero : (x half s : ℕ) → x < 2 → half < 2 ^ 31 → half ≡ x * modulus → s ≡ half * 2 + x → s ≡ 0
+low_is_zero : (x half s : ℕ) → x < 2 → half < 2 ^ 31 → half ≡ x * castagnoli → s ≡ half * 2 + x → s ≡ 0
 low_is_zero zero half s hx hh e is = omega arith
 low_is_zero (suc zero) half s hx hh e is = absurd (omega arith)
 low_is_zero (suc (suc x)) half s hx hh e is = absurd (omega arith)
@@ -95,7 +95,7 @@ low_is_zero (suc (suc x)) half s hx hh e is = absurd (omega arith)
 shifted_zero : (s : ℕ) → s < 2 ^ 32 → shifted s ≡ 0 → s ≡ 0
 unfolding shifted
 shifted_zero s h e =
-    low_is_zero (bit_at s 0) (s / 2) s (bit_at-lt s 0) (omega arith) (eq-xor_zero (s / 2) (bit_at s 0 * modulus) e) (omega arith)
+    low_is_zero (bit_at s 0) (s / 2) s (bit_at-lt s 0) (omega arith) (eq-xor_zero (s / 2) (bit_at s 0 * castagnoli) e) (omega arith)
 
 pub shifted_by_zero : (n s : ℕ) → s < 2 ^ 32 → shifted_by n s ≡ 0 → s ≡ 0
 unfolding shifted_by

@@ -5,12 +5,12 @@ use Rattle.std.specs.Int.{bit_at}
 use Rattle.std.specs.List.{fold}
 
 -- the modulus without its term x^32: Castagnoli's polynomial, 0x1EDC6F41 with its bits in the other order
-abbrev pub modulus : ℕ
-modulus = 0x82F63B78
+abbrev pub castagnoli : ℕ
+castagnoli = 0x82F63B78
 
 -- the remainder of a state times x by the modulus
 unfoldable pub shifted : ℕ → ℕ
-shifted state = bit_xor (state / 2) (bit_at state 0 * modulus)
+shifted state = bit_xor (state / 2) (bit_at state 0 * castagnoli)
 
 -- the remainder of a state times x^n
 unfoldable pub shifted_by : ℕ → ℕ → ℕ

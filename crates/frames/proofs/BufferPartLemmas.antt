@@ -1,13 +1,14 @@
 -- Reads to a part of a buffer.
 use Rattle.std.proofs.Common.{◌≡◌, ℕ, ◌+◌, List, ◌++◌, length, take, drop, Option, Some, None, Result, Ok, Err}
-use Rattle.std.proofs.Common.{sym, ap, subst, ◌∙◌, append_assoc, drop_at}
+use Rattle.std.proofs.Common.{sym, ap, subst, ◌∙◌, append_assoc, arith, drop_at}
 use Rattle.std.proofs.Math.Seq.{take-add}
 use lib.Seq.{take-append-le}
 use Rattle.std.specs.Prelude.{IfOk}
 use Rattle.std.specs.Io.{ReadsAtMost}
 use Rattle.std.specs.Io.KnownBytes.{Consumes, Keeps, ReadConsumes}
 
-Consumes_then : (a b c : Option (List ℕ)) (xs ys : List ℕ) → Consumes a b xs → Consumes b c ys → Consumes a c (xs ++ ys)
+-- two reads one after another
+pub Consumes_then : (a b c : Option (List ℕ)) (xs ys : List ℕ) → Consumes a b xs → Consumes b c ys → Consumes a c (xs ++ ys)
 Consumes_then None b c xs ys p q = tt
 Consumes_then (Some us) None c xs ys p q = absurd p
 Consumes_then (Some us) (Some bs) None xs ys p q = absurd q
@@ -33,3 +34,10 @@ pub filled_more : (a b c : Option (List ℕ)) (buf next : List ℕ) (filled coun
 filled_more a b c buf next filled count same p q =
     subst (Consumes a c) (sym (take-add filled count next))
     (Consumes_then a b c (take filled next) (take count (drop filled next)) (subst (Consumes a b) (sym same) p) q)
+
+-- a read to a part of a buffer that gave nothing
+pub filled_no_more : (a b c : Option (List ℕ)) (buf next : List ℕ) (filled count : ℕ) → count ≡ 0 → take filled next ≡ take filled buf
+    → Consumes a b (take filled buf) → Consumes b c (take count (drop filled next)) → Consumes a c (take filled next)
+filled_no_more a b c buf next filled count none same p q =
+    let e : filled + count ≡ filled = omega arith in
+    subst (λ (n : ℕ). Consumes a c (take n next)) e (filled_more a b c buf next filled count same p q)

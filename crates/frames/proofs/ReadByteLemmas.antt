@@ -10,7 +10,7 @@ use Rattle.frames.specs.declared.error.FrameError.{FrameError}
 use Rattle.frames.specs.declared.error.FrameError.TheVariants as errors
 use Rattle.frames.specs.Reading.{Parsed, GivesAs, Returns, byte_at, expected_at, line_end_at, bytes_at}
 use Rattle.frames.proofs.ReadPartLemmas.{bytes_again}
-use Rattle.frames.proofs.ReadSequenceLemmas.{Left, Between_as, then_ok, then_err, fails, succeeds, GivesAs_err}
+use Rattle.frames.proofs.ReadSequenceLemmas.{Left, Between_as, then_ok, then_err, fails, succeeds}
 use Rattle.words.specs.Parts.{and_then}
 
 -- ---- one byte
@@ -60,47 +60,25 @@ pub line_end_then : (old mid new : Left) (byte : ℕ) (r : Result ℕ FrameError
 unfolding line_end_at
 line_end_then old mid new byte r p q = then_ok (expected_at 13 NoLineEnd) (λ cr. expected_at 10 NoLineEnd cr.1) old mid new byte r p q
 
--- ---- many bytes
+-- ---- many bytes, in a buffer of that length
 
-bytes_ended : {X : Type 0} (see : X → List ℕ) (n : ℕ) (old mid new : Left) (front : List ℕ) → length front < n
-    → Consumes old mid front → Consumes mid new [] → IsAtEnd new → GivesAs see (bytes_at n) old new (fails X (errors.Fault UnexpectedEnd))
+-- the input ended before the buffer was full
+pub bytes_cut : {X : Type 0} (see : X → List ℕ) (n count : ℕ) (old new : Left) (buf : List ℕ) → count < n
+    → Consumes old new (take count buf) → IsAtEnd new → GivesAs see (bytes_at n) old new (fails X (errors.Fault UnexpectedEnd))
 unfolding bytes_at
-bytes_ended see n None mid new front lt p q r = tt
-bytes_ended see n (Some xs) None new front lt p q r = absurd p
-bytes_ended see n (Some xs) (Some ms) None front lt p q r = absurd q
-bytes_ended see n (Some xs) (Some ms) (Some ys) front lt p q r =
-    let e : xs ≡ front ++ [] = p ∙ ap (λ (t : List ℕ). front ++ t) (q ∙ r) in
-    let len : length xs ≡ length front + 0 = ap (λ (t : List ℕ). length t) e ∙ length-append front [] in
-    cond-true (ltb (length xs) n) _ _ (lt-ltb _ _ (omega arith)) ∙ ap (λ (l : List ℕ). Err (UnexpectedEnd, l)) (sym r)
+bytes_cut see n count None new buf lt p end = tt
+bytes_cut see n count (Some xs) None buf lt p end = absurd p
+bytes_cut see n count (Some xs) (Some ys) buf lt p end =
+    let e : xs ≡ take count buf ++ [] = p ∙ ap (λ (t : List ℕ). take count buf ++ t) end in
+    let len : length xs ≡ length (take count buf) + 0 = ap (λ (t : List ℕ). length t) e ∙ length-append (take count buf) [] in
+    cond-true (ltb (length xs) n) _ _ (lt-ltb _ _ (omega (arith, length-take count buf)))
+    ∙ ap (λ (l : List ℕ). Err (UnexpectedEnd, l)) (sym end)
 
-bytes_done : {X : Type 0} (n : ℕ) (old new : Left) (buf : List ℕ) (x : X) → length buf ≡ n → Consumes old new buf
-    → GivesAs (λ (_ : X). buf) (bytes_at n) old new (succeeds x)
-bytes_done n None new buf x len p = tt
-bytes_done n (Some xs) None buf x len p = absurd p
-bytes_done n (Some xs) (Some ys) buf x len p =
-    ap (bytes_at n) p ∙ ap (λ (k : ℕ). bytes_at k (buf ++ ys)) (sym len) ∙ bytes_again buf ys
-
--- a read that got nothing, before the buffer was full
-pub bytes_cut : {X : Type 0} (see : X → List ℕ) (old mid new : Left) (buf part : List ℕ) (filled count n : ℕ) → length buf ≡ n
-    → filled < length buf → count ≡ 0 → Consumes old mid (take filled buf) → Consumes mid new (take count part)
-    → (count ≡ 0 → IsAtEnd new) → GivesAs see (bytes_at n) old new (fails X (errors.Fault UnexpectedEnd))
-bytes_cut see old mid new buf part filled count n len lt none p q end =
-    let short : length (take filled buf) < n = omega (arith, length-take filled buf) in
-    bytes_ended see n old mid new (take filled buf) short p (subst (λ (k : ℕ). Consumes mid new (take k part)) none q) (end none)
-
--- a buffer that is full
-pub bytes_filled : {X : Type 0} (n : ℕ) (old new : Left) (buf : List ℕ) (filled : ℕ) (x : X) → length buf ≡ n → length buf ≤ filled
-    → Consumes old new (take filled buf) → GivesAs (λ (_ : X). buf) (bytes_at n) old new (succeeds x)
-bytes_filled n old new buf filled x len full p = bytes_done n old new buf x len (subst (Consumes old new) (take_all filled buf full) p)
-
--- ---- so many bytes, into a buffer of that length
-
-pub bytes_same_err : {X Z : Type 0} (view : X → List ℕ) (see : Z → List ℕ) (m n : ℕ) (old new : Left) (e : FrameError) → m ≡ n
-    → GivesAs view (bytes_at m) old new (fails X e) → GivesAs see (bytes_at n) old new (fails Z e)
-bytes_same_err {Z = Z} view see m n old new e is p =
-    subst (λ (k : ℕ). GivesAs see (bytes_at k) old new (fails Z e)) is (GivesAs_err view see (bytes_at m) old new e p)
-
-pub bytes_same : {X Z : Type 0} (see : Z → List ℕ) (m n : ℕ) (old new : Left) (buf : List ℕ) (x : X) (z : Z) → m ≡ n → buf ≡ see z
-    → GivesAs (λ (_ : X). buf) (bytes_at m) old new (succeeds x) → GivesAs see (bytes_at n) old new (succeeds z)
-bytes_same see m n old new buf x z is same p =
-    Between_as old new (λ xs ys a. ap (λ (k : ℕ). bytes_at k xs) (sym is) ∙ a ∙ ap (λ (b : List ℕ). Ok (b, ys)) same) p
+-- the buffer is full
+pub bytes_filled : {X : Type 0} (see : X → List ℕ) (n count : ℕ) (old new : Left) (buf : List ℕ) (x : X) → length buf ≡ n → n ≤ count
+    → buf ≡ see x → Consumes old new (take count buf) → GivesAs see (bytes_at n) old new (succeeds x)
+bytes_filled see n count None new buf x len full is p = tt
+bytes_filled see n count (Some xs) None buf x len full is p = absurd p
+bytes_filled see n count (Some xs) (Some ys) buf x len full is p =
+    ap (bytes_at n) (subst (λ (b : List ℕ). xs ≡ b ++ ys) (take_all count buf (omega arith)) p)
+    ∙ ap (λ (k : ℕ). bytes_at k (buf ++ ys)) (sym len) ∙ bytes_again buf ys ∙ ap (λ (b : List ℕ). Ok (b, ys)) is

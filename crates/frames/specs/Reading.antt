@@ -81,7 +81,8 @@ frame_at [] = Ok (None, [])
 frame_at (byte ∷ rest) =
     if byte == 42 then and_then (array_at rest) (λ strings. Ok (Some strings.0, strings.1)) else Err (BadType, rest)
 
--- If it is known what a reader had left, it is known what it has left now, and this holds of the two.
+-- If it is known what a reader had left, it is known what it has left now, and the given relation holds between the
+-- two.
 abbrev pub Between : (List ℕ → List ℕ → Type 0) → Option (List ℕ) → Option (List ℕ) → Type 0
 Between P None new = ⊤
 Between P (Some xs) None = ⊥

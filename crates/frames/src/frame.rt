@@ -51,7 +51,7 @@ impl Frame {
         Frame { strings }
     }
 
-    /// The strings, in order.
+    /// Returns the strings, in order.
     pub fn strings(&self) -> &[Bytes]
         ensures strings { result.now ≡ self.now }
         ensures lawful { IsFrame self.now }
@@ -59,7 +59,7 @@ impl Frame {
         &self.strings
     }
 
-    /// The strings, in order.
+    /// Returns the strings, in order.
     pub fn into_strings(self) -> Vec<Bytes>
         ensures strings { result.items ≡ self }
         ensures lawful { IsFrame self }

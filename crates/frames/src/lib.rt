@@ -2,6 +2,7 @@
 #![tactic(auto)]
 
 pub use error::{Fault, FrameError};
+pub use filling::{read_full, read_some};
 pub use frame::{Frame, frames_are_read_back, limits_are_these};
 pub use limits::{LONGEST_STRING, MOST_STRINGS};
 pub use output::write_bytes;
@@ -9,6 +10,7 @@ pub use reading::read_frame;
 pub use writing::write_frame;
 
 mod error;
+mod filling;
 mod frame;
 mod input;
 mod limits;

@@ -7,7 +7,7 @@ use crate::input::{read_byte, read_expected};
 use std::io::Read;
 use words::{first_digit, with_digit};
 
-/// A number up to `most`, which is below 2^32, and CR LF. The fault `above` at a greater number.
+/// Reads a number up to `most`, which is below 2^32, and CR LF. Fails with the fault `above` at a greater number.
 pub(crate) fn read_number<R: Read>(
     reader: &mut R,
     most: u32,

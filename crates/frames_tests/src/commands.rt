@@ -35,7 +35,7 @@ fn text<R: Abort>(rt: &R, alloc: Global, text: &[u8]) -> Bytes {
     Bytes::from_vec(copied).expect(rt, "memory")
 }
 
-/// The frame of `SET photo`, made of its strings.
+/// Returns the frame of `SET photo`, made of its strings.
 pub(crate) fn set<R: Abort>(rt: &R, alloc: Global) -> Frame {
     let mut strings = Vec::new(alloc);
     strings.push(text(rt, alloc, b"SET")).expect(rt, "memory");

@@ -8,8 +8,8 @@ use Rattle.std.proofs.lemmas.Bool.{cases_lt, cases_eq, true≢false}
 use Rattle.std.proofs.lemmas.List.{get_or_append_left, get_or-drop, get_or_push, take-append-le}
 use Rattle.std.proofs.lemmas.Slice.Eq.{bytes_eq-Decides}
 use Rattle.frames.specs.Frame.{IsFrame, header, line_end, string_bytes, frame_bytes}
-use Rattle.node_log.specs.Entry.{digest_of, head_of, entry_bytes, IsHead, length_in}
-use Rattle.node_log.specs.Reading.{HasEntry, body_length, IsEnd}
+use Rattle.node_log.specs.Entry.{digest_of, head_of, log_entry_bytes, IsHead, length_in}
+use Rattle.node_log.specs.Reading.{HasLogEntry, body_length, IsEnd}
 use Rattle.node_log.specs.Laws.{CutIsEnd}
 use Rattle.node_log.proofs.HeadLemmas.{front, length-head, head_is_head, length_in_head}
 use Rattle.node_log.proofs.EntryLemmas.{parts, frame_short}
@@ -48,13 +48,13 @@ has_bytes strings = omega arith
 
 -- ---- the first byte and the last one of a body
 
-first_byte : (bytes : List ℕ) (strings : List (List ℕ)) (rest : List ℕ) → IsFrame strings → bytes ≡ entry_bytes strings ++ rest
+first_byte : (bytes : List ℕ) (strings : List (List ℕ)) (rest : List ℕ) → IsFrame strings → bytes ≡ log_entry_bytes strings ++ rest
     → get_or bytes 16 0 ≡ 42
 first_byte bytes strings rest lawful is =
     let p = parts bytes strings rest lawful is in
     sym (get_or-drop 16 bytes 0 0) ∙ ap (λ (t : List ℕ). get_or t 0 0) p.behind
 
-last_byte : (bytes : List ℕ) (strings : List (List ℕ)) (rest : List ℕ) → IsFrame strings → bytes ≡ entry_bytes strings ++ rest
+last_byte : (bytes : List ℕ) (strings : List (List ℕ)) (rest : List ℕ) → IsFrame strings → bytes ≡ log_entry_bytes strings ++ rest
     → get_or bytes (16 + (body_length bytes - 1)) 0 ≡ 10
 last_byte bytes strings rest lawful is =
     let p = parts bytes strings rest lawful is in
@@ -86,15 +86,15 @@ head_or_not head =
 ends_in_head : (front : List ℕ) (n : ℕ) → length front < 16 → IsEnd (front ++ replicate n 0)
 ends_in_head front n short =
     let bytes = front ++ replicate n 0 in
-    let none : HasEntry (front ++ replicate n 0) → ⊥ =
-    λ (has : HasEntry (front ++ replicate n 0)).
+    let none : HasLogEntry (front ++ replicate n 0) → ⊥ =
+    λ (has : HasLogEntry (front ++ replicate n 0)).
     let star = first_byte bytes has.0 has.1 has.2 has.3 in
     let zero = zeros_put_behind front n 16 (omega arith) 16 (omega arith) in omega arith in
     ⊎_elim (λ is. (none, inr (is, zeros_put_behind front n (16 + (body_length bytes - 1)) (omega arith))))
     (λ no. (none, inl (no, zeros_put_behind front n 15 (omega arith))))
     (head_or_not (take 16 bytes))
 
-ends_in_body : (strings : List (List ℕ)) (begin back : List ℕ) (n : ℕ) → IsFrame strings → entry_bytes strings ≡ begin ++ back
+ends_in_body : (strings : List (List ℕ)) (begin back : List ℕ) (n : ℕ) → IsFrame strings → log_entry_bytes strings ≡ begin ++ back
     → 0 < length back → 16 ≤ length begin → IsEnd (begin ++ replicate n 0)
 ends_in_body strings begin back n lawful is some long =
     let bytes = begin ++ replicate n 0 in
@@ -109,8 +109,8 @@ ends_in_body strings begin back n lawful is some long =
     let some_body = has_bytes strings in
     let fits : length begin ≤ 16 + (body_length (begin ++ replicate n 0) - 1) =
     omega (arith, ap length is, length-append begin back, length-append head body, length-head body) in
-    let none : HasEntry (begin ++ replicate n 0) → ⊥ =
-    λ (has : HasEntry (begin ++ replicate n 0)).
+    let none : HasLogEntry (begin ++ replicate n 0) → ⊥ =
+    λ (has : HasLogEntry (begin ++ replicate n 0)).
     let line = last_byte bytes has.0 has.1 has.2 has.3 in
     let zero = zeros_put_behind begin n (16 + (body_length bytes - 1)) fits (16 + (body_length bytes - 1)) (omega arith) in
     omega arith in
@@ -126,5 +126,5 @@ cut_entry strings begin back n lawful is some =
     (λ long. ends_in_body strings begin back n lawful is (some_bytes back some) long)
     (cases_lt (length begin) 16)
 
-pub no_end : (strings : List (List ℕ)) (rest : List ℕ) → IsFrame strings → IsEnd (entry_bytes strings ++ rest) → ⊥
+pub no_end : (strings : List (List ℕ)) (rest : List ℕ) → IsFrame strings → IsEnd (log_entry_bytes strings ++ rest) → ⊥
 no_end strings rest lawful end = end.0 (strings, rest, lawful, refl)

@@ -10,8 +10,8 @@ use Rattle.frames.specs.Reading.{frame_at}
 use Rattle.frames.specs.declared.error.Fault.{Fault}
 use Rattle.frames.proofs.ReadPartLemmas.{ok_is}
 use Rattle.frames.proofs.FrameRoundTripLemmas.{one_frame, frame_again}
-use Rattle.node_log.specs.Entry.{digest_of, head_of, digest_in, entry_bytes, IsHead}
-use Rattle.node_log.specs.Reading.{HasHead, behind_head, body_length, body_at, IsDamaged, HasEntry, IsNoBody}
+use Rattle.node_log.specs.Entry.{digest_of, head_of, digest_in, log_entry_bytes, IsHead}
+use Rattle.node_log.specs.Reading.{HasHead, behind_head, body_length, body_at, IsDamaged, HasLogEntry, IsNoBody}
 use Rattle.node_log.specs.Laws.{BeginsOneEntry}
 use Rattle.node_log.specs.declared.error.Damage.{Damage}
 use Rattle.node_log.specs.declared.error.Damage.TheVariants.{WrongHead, WrongDigest, NoFrame}
@@ -62,7 +62,7 @@ pub record EntryParts (bytes : List ℕ) (strings : List (List ℕ)) (rest : Lis
   pub behind : behind_head bytes ≡ frame_bytes strings ++ rest
   pub body : body_at bytes ≡ frame_bytes strings
 
-pub parts : (bytes : List ℕ) (strings : List (List ℕ)) (rest : List ℕ) → IsFrame strings → bytes ≡ entry_bytes strings ++ rest
+pub parts : (bytes : List ℕ) (strings : List (List ℕ)) (rest : List ℕ) → IsFrame strings → bytes ≡ log_entry_bytes strings ++ rest
     → EntryParts bytes strings rest
 parts bytes strings rest lawful is =
     let body = frame_bytes strings in
@@ -83,7 +83,7 @@ parts bytes strings rest lawful is =
 
 -- nothing is damaged where an entry stands
 pub not_damaged : (strings : List (List ℕ)) (rest : List ℕ) → IsFrame strings → (damage : Damage)
-    → IsDamaged (entry_bytes strings ++ rest) damage → ⊥
+    → IsDamaged (log_entry_bytes strings ++ rest) damage → ⊥
 not_damaged strings rest lawful WrongHead damaged = damaged.0 (parts _ strings rest lawful refl).has_head
 not_damaged strings rest lawful WrongDigest damaged =
     let p = parts _ strings rest lawful refl in
@@ -99,13 +99,20 @@ one_entry e f x y is_e is_f same =
     one_frame e f x y is_e is_f (sym p.behind ∙ q.behind)
 
 -- where an entry stands, a head and the body stand too
-pub entry_is_whole : (bytes : List ℕ) → HasEntry bytes → HasHead bytes × (16 + body_length bytes ≤ length bytes)
+pub entry_is_whole : (bytes : List ℕ) → HasLogEntry bytes → HasHead bytes × (16 + body_length bytes ≤ length bytes)
 entry_is_whole bytes p =
     let (strings, rest, lawful, is) = p in
     let q = parts bytes strings rest lawful is in
     let body = frame_bytes strings in (
       q.has_head,
-      omega (arith, q.long, ap length is, length-append (entry_bytes strings) rest, length-append (head_of body) body, length-head body),
+      omega (
+        arith,
+        q.long,
+        ap length is,
+        length-append (log_entry_bytes strings) rest,
+        length-append (head_of body) body,
+        length-head body,
+      ),
     )
 
 -- ---- bytes that are no frame

@@ -4,8 +4,8 @@ use Rattle.std.proofs.Common.{Option, Some, None, Result, Ok, Err, refl, sym, ap
 use Rattle.std.specs.Io.KnownBytes.{Consumes, IsAtEnd, prepend_known}
 use Rattle.std.proofs.lemmas.List.{get_or_past, get_or-append_right, get_or-append-add, length-take}
 use Rattle.frames.specs.Frame.{IsFrame}
-use Rattle.node_log.specs.Entry.{IsHead, length_in, digest_in, digest_of, head_of, entry_bytes}
-use Rattle.node_log.specs.Reading.{HasEntry, HasHead, behind_head, body_length, body_at, AreZerosFrom, StopsInBody}
+use Rattle.node_log.specs.Entry.{IsHead, length_in, digest_in, digest_of, head_of, log_entry_bytes}
+use Rattle.node_log.specs.Reading.{HasLogEntry, HasHead, behind_head, body_length, body_at, AreZerosFrom, StopsInBody}
 use Rattle.node_log.specs.Reading.{IsEnd, IsDamaged, HadLeft, ReadsEntry, ReadsThis}
 use Rattle.node_log.specs.Parts.{IsBodyOf, IsDamagedBody, EndsOrIsDamaged}
 use Rattle.node_log.specs.declared.error.Damage.{Damage}
@@ -22,7 +22,7 @@ Read = Result (Option (List (List ℕ))) LogError
 
 -- ---- bytes that end early
 
-no_entry_in : (bytes : List ℕ) → (HasHead bytes → length bytes < 16 + body_length bytes) → HasEntry bytes → ⊥
+no_entry_in : (bytes : List ℕ) → (HasHead bytes → length bytes < 16 + body_length bytes) → HasLogEntry bytes → ⊥
 no_entry_in bytes short has =
     let p = entry_is_whole bytes has in
     let q = short p.0 in
@@ -126,7 +126,7 @@ whole_of head body ys is long =
     }
 
 no_entry_of : (head body ys : List ℕ) (damage : Damage) → Whole head body ys → IsDamagedBody head body damage
-    → HasEntry (head ++ (body ++ ys)) → ⊥
+    → HasLogEntry (head ++ (body ++ ys)) → ⊥
 no_entry_of head body ys WrongHead whole wrong has = absurd wrong
 no_entry_of head body ys WrongDigest whole wrong has =
     let (strings, rest, lawful, is) = has in
@@ -204,11 +204,11 @@ read_on (Some xs) (Some ys) new head r took made = subst (λ (t : List ℕ). Rea
 -- ---- an entry that stands at the front
 
 pub reads_this : (old new : Known) (r : Read) → ReadsEntry old new r → (strings : List (List ℕ)) (rest : List ℕ) → IsFrame strings
-    → old ≡ Some (entry_bytes strings ++ rest) → ReadsThis strings rest new r
+    → old ≡ Some (log_entry_bytes strings ++ rest) → ReadsThis strings rest new r
 reads_this old new r made strings rest lawful is =
     here new r (subst (λ (o : Known). ReadsEntry o new r) is made)
   where
-    here : (new : Known) (r : Read) → ReadsEntry (Some (entry_bytes strings ++ rest)) new r → ReadsThis strings rest new r
+    here : (new : Known) (r : Read) → ReadsEntry (Some (log_entry_bytes strings ++ rest)) new r → ReadsThis strings rest new r
     here None (Ok (Some found)) made = absurd made.1
     here (Some ys) (Ok (Some found)) made =
         let same = one_entry strings found rest ys lawful made.0 made.1 in

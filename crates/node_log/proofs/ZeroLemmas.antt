@@ -1,13 +1,13 @@
 -- Bytes that are zeros, and readers that have nothing else left.
-use Rattle.std.proofs.Common.{◌≡◌, ◌↔◌, ℕ, zero, suc, ◌+◌, ◌-◌, ◌≤◌, List, [], ◌∷◌, ◌++◌, length, take, drop, get_or, replicate}
-use Rattle.std.proofs.Common.{Option, Some, None, refl, sym, ap, ◌∙◌, subst, append_assoc, append-nil, arith, ⊎_elim}
+use Rattle.std.proofs.Common.{◌≡◌, ◌↔◌, ℕ, zero, suc, ◌+◌, ◌-◌, ◌≤◌, List, [], ◌∷◌, ◌++◌, length, drop, get_or, replicate}
+use Rattle.std.proofs.Common.{Option, Some, None, refl, sym, ap, ◌∙◌, subst, append-nil, arith, ⊎_elim}
 use Rattle.std.proofs.Common.{IsTrue, Bool, true, false, eqb}
 use Rattle.std.specs.List.{list_all}
 use Rattle.std.specs.Io.KnownBytes.{Consumes, IsAtEnd}
 use Rattle.std.proofs.lemmas.Bool.{and_parts, and_from, eqb-true, eq-eqb, cases_lt, true≢false}
 use Rattle.std.proofs.lemmas.List.{get_or_past, get_or-append_right, get_or_append_left, get_or-append-add, get_or-drop}
 use Rattle.std.proofs.lemmas.List.{get_or-replicate, length-replicate}
-use Rattle.frames.proofs.BufferPartLemmas.{filled_more}
+use Rattle.frames.proofs.BufferPartLemmas.{Consumes_then}
 use Rattle.node_log.specs.Reading.{AreZerosFrom, HadLeft}
 
 -- what a reader has left, where that is known
@@ -93,16 +93,10 @@ pub zeros_none : (old : Known) → ZerosSoFar old old
 zeros_none None = ([], (λ i h. get_or_past [] i 0 (omega arith)), tt)
 zeros_none (Some xs) = ([], (λ i h. get_or_past [] i 0 (omega arith)), refl)
 
-took_then : (a b c : Known) (xs ys : List ℕ) → Consumes a b xs → Consumes b c ys → Consumes a c (xs ++ ys)
-took_then None b c xs ys p q = tt
-took_then (Some us) None c xs ys p q = absurd p
-took_then (Some us) (Some bs) None xs ys p q = absurd q
-took_then (Some us) (Some bs) (Some cs) xs ys p q = p ∙ ap (λ (t : List ℕ). xs ++ t) q ∙ sym (append_assoc xs ys cs)
-
 pub zeros_more : (old mid new : Known) (part : List ℕ) → ZerosSoFar old mid → Consumes mid new part → AreZerosFrom 0 part
     → ZerosSoFar old new
 zeros_more old mid new part p took zeros =
-    (p.0 ++ part, zeros_of_both p.0 part p.1 zeros, took_then old mid new p.0 part p.2 took)
+    (p.0 ++ part, zeros_of_both p.0 part p.1 zeros, Consumes_then old mid new p.0 part p.2 took)
 
 pub only_zeros : (old mid new : Known) (part : List ℕ) → ZerosSoFar old mid → Consumes mid new part → part ≡ [] → IsAtEnd new
     → HadLeft (λ bytes. IsTrue true ↔ AreZerosFrom 0 bytes) old
@@ -131,10 +125,3 @@ pub other_rest : (old : Known) (only : Bool) (part : List ℕ) → only ≡ fals
 other_rest None only part wrong p = tt
 other_rest (Some xs) only part wrong p =
     λ zeros. true≢false (sym (p.1 (zeros_behind_part (length part - 1) part xs (omega arith) zeros)) ∙ wrong)
-
--- a read to a part of a buffer that gave nothing
-pub filled_no_more : (a b c : Known) (buf next : List ℕ) (filled count : ℕ) → count ≡ 0 → take filled next ≡ take filled buf
-    → Consumes a b (take filled buf) → Consumes b c (take count (drop filled next)) → Consumes a c (take filled next)
-filled_no_more a b c buf next filled count none same p q =
-    let e : filled + count ≡ filled = omega arith in
-    subst (λ (n : ℕ). Consumes a c (take n next)) e (filled_more a b c buf next filled count same p q)

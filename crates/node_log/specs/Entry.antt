@@ -20,8 +20,8 @@ abbrev pub head_of : List ℕ → List ℕ
 head_of body = described body ++ digest_of (described body)
 
 -- the bytes of an entry: the head of its body, and the body, which is the frame of its strings
-abbrev pub entry_bytes : List (List ℕ) → List ℕ
-entry_bytes strings = head_of (frame_bytes strings) ++ frame_bytes strings
+abbrev pub log_entry_bytes : List (List ℕ) → List ℕ
+log_entry_bytes strings = head_of (frame_bytes strings) ++ frame_bytes strings
 
 -- these are the bytes of a head: there are 16, and the last four are the digest of the others
 pub record IsHead (head : List ℕ) : Type 0 where

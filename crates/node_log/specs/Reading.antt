@@ -4,15 +4,16 @@ use Rattle.std.specs.Prelude.{◌≡◌, ◌≢◌, ◌⊎◌, ◌≤◌, ◌+�
 use Rattle.std.specs.Prelude.{Option, Some, None, Result, Ok, Err, ⊤}
 use Rattle.std.specs.Io.KnownBytes.{Consumes}
 use Rattle.frames.specs.Frame.{IsFrame, frame_bytes}
-use Rattle.node_log.specs.Entry.{IsHead, length_in, digest_in, digest_of, entry_bytes}
+use Rattle.node_log.specs.Entry.{IsHead, length_in, digest_in, digest_of, log_entry_bytes}
 use Rattle.node_log.specs.declared.error.Damage.{Damage}
 use Rattle.node_log.specs.declared.error.Damage.TheVariants.{WrongHead, WrongDigest, NoFrame}
 use Rattle.node_log.specs.declared.error.LogError.{LogError}
 use Rattle.node_log.specs.declared.error.LogError.TheVariants as errors
 
 -- an entry stands at the front
-abbrev pub HasEntry : List ℕ → Type 0
-HasEntry bytes = (strings : List (List ℕ)) × (rest : List ℕ) × IsFrame strings × (bytes ≡ entry_bytes strings ++ rest)
+abbrev pub HasLogEntry : List ℕ → Type 0
+HasLogEntry bytes =
+    (strings : List (List ℕ)) × (rest : List ℕ) × IsFrame strings × (bytes ≡ log_entry_bytes strings ++ rest)
 
 -- the first 16 bytes are a head
 abbrev pub HasHead : List ℕ → Type 0
@@ -46,7 +47,7 @@ StopsInBody bytes = AreZerosFrom (16 + (body_length bytes - 1)) bytes
 -- Its last byte is missing or zero, as is all behind it. Where that byte belongs is known from a head alone.
 abbrev pub IsEnd : List ℕ → Type 0
 IsEnd bytes =
-    (HasEntry bytes → ⊥) × (((HasHead bytes → ⊥) × StopsInHead bytes) ⊎ (HasHead bytes × StopsInBody bytes))
+    (HasLogEntry bytes → ⊥) × (((HasHead bytes → ⊥) × StopsInHead bytes) ⊎ (HasHead bytes × StopsInBody bytes))
 
 -- these bytes are the frame of no strings
 abbrev pub IsNoBody : List ℕ → Type 0
@@ -61,15 +62,15 @@ IsDamaged bytes NoFrame =
     HasHead bytes × (digest_of (body_at bytes) ≡ digest_in (take 16 bytes)) × IsNoBody (body_at bytes)
     × (StopsInBody bytes → ⊥)
 
--- If it is known what a reader had left, this holds of it.
+-- If it is known what a reader had left, this holds for it.
 abbrev pub HadLeft : (List ℕ → Type 0) → Option (List ℕ) → Type 0
 HadLeft P None = ⊤
 HadLeft P (Some bytes) = P bytes
 
--- What was read: an entry that stood at the front, and nothing else was taken; or none, at the end of the log; or
--- damage. Where memory was refused or the reader failed, nothing is said.
+-- What was read: an entry with which the bytes began, and nothing else was taken; or none, at the end of the log; or
+-- damage. If memory was refused or the reader failed, this says nothing.
 abbrev pub ReadsEntry : Option (List ℕ) → Option (List ℕ) → Result (Option (List (List ℕ))) LogError → Type 0
-ReadsEntry old new (Ok (Some strings)) = IsFrame strings × Consumes old new (entry_bytes strings)
+ReadsEntry old new (Ok (Some strings)) = IsFrame strings × Consumes old new (log_entry_bytes strings)
 ReadsEntry old new (Ok None) = HadLeft IsEnd old
 ReadsEntry old new (Err (errors.Damaged damage)) = HadLeft (λ bytes. IsDamaged bytes damage) old
 ReadsEntry old new (Err errors.NoMemory) = ⊤

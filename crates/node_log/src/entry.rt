@@ -1,7 +1,7 @@
 //! One entry of a log.
 ghost use Rattle.std.specs.Prelude.{◌≡◌, MatchResult, OnOk, length};
 ghost use Rattle.frames.specs.Frame.{IsFrame, frame_bytes};
-ghost use Rattle.node_log.specs.Entry.{head_of, entry_bytes, sealed, IsEntry, IsNoEntry};
+ghost use Rattle.node_log.specs.Entry.{head_of, log_entry_bytes, sealed, IsEntry, IsNoEntry};
 
 use crate::head::{HEAD_LENGTH, head_of};
 use bytes::Bytes;

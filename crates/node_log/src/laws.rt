@@ -1,10 +1,10 @@
-//! What holds of every entry.
+//! What holds for every entry.
 ghost use Rattle.node_log.specs.Laws.{EntryIsRead, CutIsEnd, BeginsOneEntry};
 
 use frames::frames_are_read_back;
 
-/// A law: an entry that is written is read back, and exactly the bytes behind it are left; an entry that is cut short
-/// is the end of the log; and where two entries begin the same bytes, they are the same entry.
+/// A law: an entry that is written is read back, and exactly the bytes after it are left; an entry that is cut short is
+/// the end of the log; and if the same bytes begin with two entries, these are the same entry.
 pub fn entries_are_read_back()
     ensures written { EntryIsRead }
     ensures cut { CutIsEnd }

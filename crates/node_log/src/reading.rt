@@ -2,15 +2,15 @@
 ghost use Rattle.std.specs.Prelude.{◌≡◌, ◌++◌, ℕ, List, Some, length, MatchResult};
 ghost use Rattle.std.specs.Io.KnownBytes.{prepend_known};
 ghost use Rattle.frames.specs.Frame.{IsFrame, frame_bytes};
-ghost use Rattle.node_log.specs.Entry.{IsHead, length_in, entry_bytes};
+ghost use Rattle.node_log.specs.Entry.{IsHead, length_in, log_entry_bytes};
 ghost use Rattle.node_log.specs.Reading.{ReadsEntry, ReadsThis};
 ghost use Rattle.node_log.specs.Parts.{IsBodyOf, IsNoBodyFor, IsNoFrameFor, EndsOrIsDamaged};
 
 use crate::entry::Entry;
 use crate::error::{Damage, LogError};
 use crate::head::{HEAD_LENGTH, has_digest, length_in};
-use crate::input::{are_zeros, has_only_zeros, read_full};
-use frames::{Frame, FrameError, read_frame};
+use crate::input::{are_zeros, has_only_zeros};
+use frames::{Frame, FrameError, read_frame, read_full};
 use std::alloc::Global;
 use std::io::Read;
 
@@ -25,7 +25,7 @@ pub fn read_entry<R: Read>(alloc: Global, reader: &mut R) -> Result<Option<Entry
     ensures read { ReadsEntry (R.remaining reader.old) (R.remaining reader.new) result }
     // An entry that stands at the front is read, unless memory is refused or the reader fails.
     ensures only { (strings : List (List ℕ)) (rest : List ℕ) → IsFrame strings
-        → R.remaining reader.old ≡ Some (entry_bytes strings ++ rest)
+        → R.remaining reader.old ≡ Some (log_entry_bytes strings ++ rest)
         → ReadsThis strings rest (R.remaining reader.new) result }
 {
     read_next(alloc, reader)

@@ -19,7 +19,7 @@ fn text<R: Abort>(rt: &R, alloc: Global, text: &[u8]) -> Bytes {
     Bytes::copy_from_slice(alloc, text).expect(rt, "memory")
 }
 
-/// The entry of `SET photo hello`, made of its strings.
+/// Returns the entry of `SET photo hello`, made of its strings.
 pub(crate) fn set<R: Abort>(rt: &R, alloc: Global) -> Entry {
     let mut strings = Vec::new(alloc);
     strings.push(text(rt, alloc, b"SET")).expect(rt, "memory");
@@ -28,7 +28,7 @@ pub(crate) fn set<R: Abort>(rt: &R, alloc: Global) -> Entry {
     Entry::new(alloc, strings).expect(rt, "an entry")
 }
 
-/// Whether the strings are `SET`, `photo` and `hello`.
+/// Returns whether the strings are `SET`, `photo` and `hello`.
 pub(crate) fn is_set(strings: &[Bytes]) -> bool {
     match strings {
         [name, key, value] => {

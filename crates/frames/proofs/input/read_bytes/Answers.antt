@@ -1,31 +1,22 @@
-use Rattle.std.proofs.Common.{◌≡◌, List, ℕ, length, sym, ap, ◌∙◌, arith, Vec, Global}
+use Rattle.std.proofs.Common.{ℕ, List, Vec, Global, arith, sym, length, ◌≡◌}
 use Rattle.std.proofs.lemmas.List.{take_at}
-use Rattle.std.proofs.lemmas.Result.{err_from_is_err_and}
-use Rattle.frames.proofs.ReadByteLemmas.{bytes_same_err, bytes_same}
+use Rattle.frames.proofs.ReadByteLemmas.{bytes_cut, bytes_filled}
 use Rattle.frames.proofs.input.read_bytes.Goals as goal
 
 -- the bytes of a vector
 abbrev items : Vec ℕ Global → List ℕ
 items bytes = bytes.items
 
-pub returns-in_err-read_full-clause-exact : goal.returns-in_err-read_full-clause-exact
-returns-in_err-read_full-clause-exact g c =
-    let p = err_from_is_err_and c.from_residual-in_err-read_full.result c.from_residual-in_err-read_full.ensures.1 in
-    let long : length c.deref_mut.result.now ≡ c.args.len = omega (arith, c.deref_mut.ensures.len, c.in_ok-bytes.ensures.len) in
-    rw (p.1, p.2) (bytes_same_err (λ (_ : Unit {0}). c.read_full.new.buf) items (length c.deref_mut.result.now) c.args.len _ _
-    c.in_err-read_full.field-0.0 long c.in_err-read_full.ensures.exact)
+pub returns-then-count-len-clause-exact : goal.returns-then-count-len-clause-exact
+returns-then-count-len-clause-exact g c =
+    bytes_cut items c.args.len c.in-Ok.count _ _ c.read_full.new.buf
+    (omega (arith, c.if-count-len.true, c.len.ensures, c.in_ok-bytes.ensures.len)) c.in-Ok.ensures.bytes
+    (c.in-Ok.ensures.end (omega (arith, c.if-count-len.true, c.len.ensures, c.in-Ok.ensures.same, c.deref_mut.ensures.len)))
 
-pub returns-clause-length : goal.returns-clause-length
-returns-clause-length g c =
-    let long : length c.read_full.new.buf ≡ c.in_ok-bytes.bytes.len =
-    omega (arith, c.in_ok-read_full.ensures.same, c.deref_mut.ensures.len) in
-    ap (λ (l : List ℕ). length l) (take_at c.read_full.new.buf _ c.in_ok-bytes.bytes.len long)
-    ∙ omega (arith, c.in_ok-read_full.ensures.same, c.deref_mut.ensures.len, c.in_ok-bytes.ensures.len)
-
-pub returns-clause-exact : goal.returns-clause-exact
-returns-clause-exact g c =
-    let all : length c.read_full.new.buf ≡ c.in_ok-bytes.bytes.len =
-    omega (arith, c.in_ok-read_full.ensures.same, c.deref_mut.ensures.len) in
-    let long : length c.deref_mut.result.now ≡ c.args.len = omega (arith, c.deref_mut.ensures.len, c.in_ok-bytes.ensures.len) in
-    bytes_same (λ (b : List ℕ). b) (length c.deref_mut.result.now) c.args.len _ _ c.read_full.new.buf c.in_ok-read_full.field-0 _ long
-    (sym (take_at c.read_full.new.buf _ c.in_ok-bytes.bytes.len all)) c.in_ok-read_full.ensures.exact
+pub returns-else-count-len-clause-exact : goal.returns-else-count-len-clause-exact
+returns-else-count-len-clause-exact g c =
+    let all : length c.read_full.new.buf ≡ c.in_ok-bytes.bytes.len = omega (arith, c.in-Ok.ensures.same, c.deref_mut.ensures.len) in
+    bytes_filled (λ (b : List ℕ). b) c.args.len c.in-Ok.count _ _ c.read_full.new.buf _
+    (omega (arith, all, c.in_ok-bytes.ensures.len))
+    (omega (arith, c.if-count-len.false, c.len.ensures, c.in_ok-bytes.ensures.len))
+    (sym (take_at c.read_full.new.buf _ c.in_ok-bytes.bytes.len all)) c.in-Ok.ensures.bytes

@@ -1,7 +1,6 @@
 use Rattle.std.proofs.Common.{arith, rules}
-use Rattle.frames.proofs.BufferPartLemmas.{filled_more}
-use Rattle.node_log.proofs.ZeroLemmas.{filled_no_more}
-use Rattle.node_log.proofs.input.read_full.Goals as goal
+use Rattle.frames.proofs.BufferPartLemmas.{filled_more, filled_no_more}
+use Rattle.frames.proofs.filling.read_full.Goals as goal
 
 pub returns-in-Ok-eq0-clause-bytes : goal.returns-in-Ok-eq0-clause-bytes
 returns-in-Ok-eq0-clause-bytes g c =

@@ -1,7 +1,7 @@
 use Rattle.std.proofs.Common.{arith, length-take-le}
 use borrow.Rule.Slice.PartMut.{take_put}
 use Rattle.frames.proofs.BufferPartLemmas.{read_in_place}
-use Rattle.frames.proofs.input.read_at.Goals as goal
+use Rattle.frames.proofs.filling.read_at.Goals as goal
 
 pub returns-clause-front : goal.returns-clause-front
 returns-clause-front g c = take_put _ _ c.args.buf.now _ (omega (arith, c.requires))

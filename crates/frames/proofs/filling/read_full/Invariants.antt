@@ -1,7 +1,7 @@
 -- What is filled was read.
 use Rattle.std.proofs.Common.{◌≡◌, ◌≤◌, ◌-◌, length, take}
 use Rattle.std.specs.Io.KnownBytes.{Consumes}
-use Rattle.node_log.proofs.input.read_full.Given as goal
+use Rattle.frames.proofs.filling.read_full.Given as goal
 
 abbrev pub invariant-loop-filled : goal.invariant-loop-filled
 invariant-loop-filled g l = (length l.buf ≡ length l.fn.buf) × (l.filled ≤ length l.buf)

@@ -1,7 +1,0 @@
--- A read that a signal interrupts takes no byte.
-use Rattle.std.proofs.Common.{◌≡◌, length}
-use Rattle.std.specs.Io.KnownBytes.{Keeps}
-use Rattle.node_log.proofs.input.read_some.Given as goal
-
-abbrev pub invariant-loop : goal.invariant-loop
-invariant-loop g l = (length l.buf ≡ length l.fn.buf) × Keeps (g.R.Read.remaining l.fn.reader) (g.R.Read.remaining l.reader)
