@@ -1,4 +1,4 @@
-//! What gives a node's calls their ids.
+//! The source of the ids of a node's calls.
 ghost use Rattle.std.specs.Prelude.{◌≡◌, ◌+◌, ◌<◌, ◌^◌, IsTrue, nat_lt, suc, if◌then◌else◌};
 ghost use Rattle.call_ids.specs.CallId.{IdsDiffer, next_given_id, after_given, with_next_epoch};
 
@@ -10,8 +10,8 @@ const EPOCHS: u32 = 1 << 24;
 
 const IDS: u64 = 1 << 32;
 
-/// Gives the calls of one node their ids. The count of an epoch begins at 0 and is not kept anywhere else, so a node
-/// begins an epoch each time it starts, and its log keeps how many it began.
+/// The source of the ids of one node's calls. The count of an epoch begins at 0 and is not kept anywhere else. So a
+/// node begins an epoch each time it starts, and its log keeps how many epochs it began.
 #[derive(Debug, Drop)]
 pub struct CallIds {
     node: u8,
@@ -33,7 +33,7 @@ impl Model for CallIds {
 }
 
 impl CallIds {
-    /// Those of the node of this number, before its first epoch.
+    /// Makes the source of ids of the node with this number, before its first epoch.
     pub fn new(node: u8) -> CallIds
         ensures { result ≡ record { node = node; epoch = 0; given = 0 } }
     {
@@ -44,14 +44,14 @@ impl CallIds {
         }
     }
 
-    /// The number of epochs that were begun, below 2^24.
+    /// Returns the number of epochs that were begun, below 2^24.
     pub fn epoch(&self) -> u32
         ensures { result ≡ self.now.epoch }
     {
         self.epoch
     }
 
-    /// Begins the next epoch, and returns whether there was one more. Where there was none, nothing changes.
+    /// Begins the next epoch, and returns whether there was one. If there was none, nothing changes.
     pub fn begin_epoch(&mut self) -> bool
         ensures more { result ≡ nat_lt (suc self.old.epoch) (2 ^ 24) }
         ensures begun { self.new ≡ with_next_epoch self.old }
@@ -64,7 +64,8 @@ impl CallIds {
         true
     }
 
-    /// The next id, which differs from all that were given before. None where the epoch has given all of its 2^32 ids.
+    /// Gives the next id, which differs from all that were given before. Returns none if the epoch has given all of its
+    /// 2^32 ids.
     pub fn next_id(&mut self) -> Option<CallId>
         ensures id { result ≡ next_given_id self.old }
         ensures given { self.new ≡ after_given self.old }
@@ -78,7 +79,7 @@ impl CallIds {
     }
 }
 
-/// A law: two ids are the same only where they are of one node, one epoch and one count.
+/// A law: two ids are the same only if they are of one node, one epoch and one count.
 pub fn call_ids_differ()
     ensures { IdsDiffer }
 {}

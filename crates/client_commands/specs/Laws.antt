@@ -1,5 +1,5 @@
 -- The contracts that docs/trusted.md lists do not depend on this file; other contracts and proofs do.
--- What holds of all errors and of all answers.
+-- What holds for all errors and for all answers.
 use Rattle.std.specs.Prelude.{ℕ, ◌^◌, ◌<◌, List, ◌∷◌, Bool, IsTrue, nat_le, ◌&&◌, ⊤}
 use Rattle.std.specs.List.{list_all}
 use Rattle.frames.specs.Frame.{IsShort, IsFrame}

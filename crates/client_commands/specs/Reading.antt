@@ -76,7 +76,7 @@ command_from of.Command arguments = Ok ask.ListCommands
 command_from of.Client arguments = client_from arguments
 command_from of.Quit arguments = Ok ask.Quit
 
--- the command of this name, where there is one
+-- the command of this name, if there is one
 abbrev pub command_named : Option CommandName → Strings → Found
 command_named None arguments = Err UnknownCommand
 command_named (Some name) arguments = command_from name arguments

@@ -20,7 +20,7 @@ pub(crate) fn take_first(strings: &mut Vec<Bytes>) -> Bytes
     strings.remove(0)
 }
 
-/// The only argument.
+/// Returns the only argument.
 pub(crate) fn only_argument(
     name: CommandName,
     mut arguments: Vec<Bytes>,
@@ -33,7 +33,7 @@ pub(crate) fn only_argument(
     Ok(take_first(&mut arguments))
 }
 
-/// The two arguments of a `SET`.
+/// Returns the two arguments of a `SET`.
 pub(crate) fn name_and_value(mut arguments: Vec<Bytes>) -> Result<(Bytes, Bytes), CommandFault>
     ensures { result ≡ name_and_value arguments.items }
 {
@@ -48,7 +48,7 @@ pub(crate) fn name_and_value(mut arguments: Vec<Bytes>) -> Result<(Bytes, Bytes)
     Ok((name, value))
 }
 
-/// This name, unless it is too long.
+/// Returns this name, unless it is too long.
 pub(crate) fn checked_name(name: Bytes) -> Result<Bytes, CommandFault>
     ensures { result ≡ checked_name name }
 {
@@ -58,7 +58,7 @@ pub(crate) fn checked_name(name: Bytes) -> Result<Bytes, CommandFault>
     Ok(name)
 }
 
-/// This value, unless it is too long.
+/// Returns this value, unless it is too long.
 pub(crate) fn checked_value(value: Bytes) -> Result<Bytes, CommandFault>
     ensures { result ≡ checked_value value }
 {

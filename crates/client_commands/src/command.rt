@@ -46,7 +46,7 @@ pub enum CommandName {
 }
 
 impl CommandName {
-    /// The name in small letters.
+    /// Returns the name in small letters.
     pub fn text(self) -> &'static str
         ensures { result.now ≡ command_text self }
     {

@@ -12,7 +12,7 @@ use layout::Layout;
 use string_parts::{checked_layout, read_number};
 use tag::{LONGEST_NAME, MOST_MEMBERS};
 
-/// The layout of a `MOVE`, whose arguments are a name, a k and the nodes.
+/// Returns the layout of a `MOVE`, whose arguments are a name, a k and the nodes.
 #[tactic(auto, unfolding(crate::specs::Layouts::layout_from))]
 pub(crate) fn read_layout(arguments: &[Bytes]) -> Result<Layout, CommandFault>
     ensures some { IfOk result (λ _. 0 < length arguments.now) }

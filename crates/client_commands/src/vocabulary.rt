@@ -4,14 +4,14 @@ ghost use Rattle.client_commands.specs.Words.{is_word, name_of_word};
 
 use crate::command::CommandName;
 
-/// Whether the word is this text, where capital and small letters of ASCII count as the same.
+/// Returns whether the word is this text, where capital and small letters of ASCII count as the same.
 pub(crate) fn is_word(word: &[u8], text: &[u8]) -> bool
     ensures { result ≡ is_word word.now text.now }
 {
     word.eq_ignore_ascii_case(text)
 }
 
-/// The command that a word names.
+/// Returns the command that a word names.
 #[tactic(auto, unfolding(crate::specs::Words::name_of_word))]
 pub(crate) fn name_of(word: &[u8]) -> Option<CommandName>
     ensures { result ≡ name_of_word word.now }

@@ -28,7 +28,7 @@ fn frame_of<R: Abort>(rt: &R, alloc: Global, strings: &[&[u8]]) -> Frame {
     Frame::new(list).expect(rt, "a frame")
 }
 
-/// What the frame of these strings asks.
+/// Returns what the frame of these strings asks.
 pub(crate) fn asked_by<R: Abort>(
     rt: &R,
     alloc: Global,

@@ -13,9 +13,6 @@ use Rattle.cluster_file.specs.Settings.{order_of, word_of, setting_from, order_f
 use Rattle.cluster_file.specs.Reading.{unless_at, setting_at}
 use Rattle.cluster_file.specs.Written.{said}
 
-abbrev setting_of : Setting → Option Setting
-setting_of s = Some s
-
 -- one name after another
 tried : (t : Bool) (word name : Word) (s found : Setting) (more : Option Setting) → bytes_eq word name ≡ t
     → cond t (Some s) more ≡ Some found → name ≡ word_of s → (more ≡ Some found → word ≡ word_of found) → word ≡ word_of found

@@ -1,5 +1,5 @@
 -- The contracts that docs/trusted.md lists do not depend on this file; other contracts and proofs do.
--- What holds of every file.
+-- What holds for every file.
 use Rattle.std.specs.Prelude.{◌≡◌, ℕ, List}
 use Rattle.layout.specs.Layout.{IsLawful as IsLawfulLayout}
 use Rattle.placement.specs.Placement.{placed}

@@ -7,7 +7,7 @@ ghost use Rattle.cluster_file.specs.Gives.{shown};
 use crate::file::{DIGEST_LENGTH, Fixed};
 use sha2::{Digest, Sha256};
 
-/// The first 16 bytes of the SHA-256 digest of k, n and the mover, as a byte each, the delta, and the nodes.
+/// Returns the first 16 bytes of the SHA-256 digest of k, n and the mover, as a byte each, the delta, and the nodes.
 pub(crate) fn fixed_digest(fixed: &Fixed) -> [u8; DIGEST_LENGTH]
     ensures { result ≡ fixed_digest (shown fixed.now) }
 {

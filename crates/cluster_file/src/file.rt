@@ -68,14 +68,15 @@ impl ClusterFile {
         &self.fixed.nodes
     }
 
-    /// The number of members of the layout that a name has before any move: from 1 to the number of nodes.
+    /// Returns the number of members of the layout that a name has before any move: from 1 to the number of nodes.
     pub fn n(&self) -> u8
         ensures { result ≡ self.now.fixed.n }
     {
         self.fixed.n
     }
 
-    /// The number of fragments that give a value back, from 1 to n, in the layout that a name has before any move.
+    /// Returns the number of fragments that give a value back, from 1 to n, in the layout that a name has before any
+    /// move.
     pub fn k(&self) -> u8
         ensures { result ≡ self.now.fixed.k }
     {
@@ -96,7 +97,7 @@ impl ClusterFile {
         self.fixed.mover
     }
 
-    /// The nodes that joined later, in order.
+    /// Returns the nodes that joined later, in order.
     pub fn later(&self) -> &[u8]
         ensures { result.now ≡ self.now.later }
     {
@@ -110,7 +111,7 @@ impl ClusterFile {
         has(&self.fixed.nodes, number) || has(&self.later, number)
     }
 
-    /// The number of ticks after which a call without an answer is given up, from 1.
+    /// Returns the number of ticks after which a call without an answer is given up, from 1.
     pub fn ticks(&self) -> u32
         ensures { result ≡ self.now.ticks }
     {

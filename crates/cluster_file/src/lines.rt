@@ -22,7 +22,7 @@ pub(crate) struct Line<'a> {
     pub values: Vec<&'a [u8]>,
 }
 
-/// The lines that have a word among these texts, of which the first one is line 1.
+/// Returns the lines that have a word among these texts, of which the first one is line 1.
 pub(crate) fn lines_of<'a>(alloc: Global, texts: &[&'a [u8]]) -> Result<Vec<Line<'a>>, AllocError>
     ensures { IfOk result (λ lines. map seen lines.items ≡ lines_from 1 (map (λ text. text.now) texts.now)) }
 {

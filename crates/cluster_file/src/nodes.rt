@@ -12,7 +12,8 @@ use crate::number::{Range, number_of};
 use arrayvec::ArrayVec;
 use tag::MOST_SERVERS;
 
-/// The nodes that these words write, where the words follow the first one of a line. None of them is among the others.
+/// Returns the nodes that these words write, where the words follow the first one of a line. None of them is among the
+/// others.
 pub(crate) fn nodes_of(
     words: &[&[u8]],
     line: u64,
@@ -48,14 +49,14 @@ fn next_node(word: &[u8], line: u64, others: &[u8], listed: &[u8]) -> Result<u8,
     }
 }
 
-/// Whether the node is in the list.
+/// Returns whether the node is in the list.
 pub(crate) fn has(nodes: &[u8], node: u8) -> bool
     ensures { result ≡ has nodes.now node }
 {
     nodes.iter().any(|other| *other == node)
 }
 
-/// The number of a byte that a word writes.
+/// Returns the number of a byte that a word writes.
 pub(crate) fn byte_of(word: &[u8]) -> Result<u8, Fault>
     ensures { result ≡ number_from of_a_byte word.now }
 {

@@ -15,7 +15,7 @@ pub(crate) struct Range {
     pub outside: Fault,
 }
 
-/// The number in this range that a word writes.
+/// Returns the number in this range that a word writes.
 #[tactic(auto, unfolding(crate::specs::Numbers::number_from))]
 pub(crate) fn number_of(word: &[u8], range: Range) -> Result<u32, Fault>
     ensures least { IfOk result (λ number. range.least ≤ number) }

@@ -28,7 +28,7 @@ use std::alloc::Global;
 use tag::MOST_SERVERS;
 use words::split_lines;
 
-/// The file that a text writes.
+/// Returns the file that a text writes.
 ///
 /// A `Fault` is the first one from top to bottom and, in a line, from left to right. `NoMemory` if there is no memory
 /// for the lists of lines and words.

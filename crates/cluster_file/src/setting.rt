@@ -33,7 +33,7 @@ impl Setting {
         self as u8
     }
 
-    /// The word that names the setting.
+    /// Returns the word that names the setting.
     pub fn word(self) -> &'static str
         ensures { result.now ≡ word_of self }
     {
@@ -89,7 +89,7 @@ fn setting_of(word: &[u8]) -> Option<Setting>
     }
 }
 
-/// What is wrong with the first word of a line where this setting is due.
+/// Returns what is wrong with the first word of a line where this setting is due.
 pub(crate) fn due_fault(due: Setting, word: &[u8]) -> Option<Fault>
     ensures { result ≡ due_fault due word.now }
 {

@@ -11,7 +11,7 @@ use crate::nodes::{byte_of, has};
 use crate::number::{Range, number_of};
 use crate::setting::is_text;
 
-/// What a word writes, or the fault at its place.
+/// Returns what a word writes, or the fault at its place.
 pub(crate) fn placed_at<T>(line: u64, word: u64, found: Result<T, Fault>) -> Result<T, FileFault>
     ensures { result ≡ placed_at line word found }
 {
@@ -21,7 +21,7 @@ pub(crate) fn placed_at<T>(line: u64, word: u64, found: Result<T, Fault>) -> Res
     }
 }
 
-/// The first value of a line.
+/// Returns the first value of a line.
 pub(crate) fn first_value<'a>(line: &Line<'a>) -> Result<&'a [u8], FileFault>
     ensures { Sees (λ value. value.now) result
         (first_value line.now.number (map (λ value. value.now) line.now.values.items)) }
@@ -51,7 +51,7 @@ fn without_second<T: Drop>(line: &Line<'_>, value: T) -> Result<T, FileFault>
     }
 }
 
-/// The one value of a line, a number in this range.
+/// Returns the one value of a line, a number in this range.
 #[tactic(auto, unfolding(crate::specs::Reading::value_of_line))]
 pub(crate) fn number_in(line: &Line<'_>, range: Range) -> Result<u32, FileFault>
     ensures { result ≡ value_of_line (number_from range) (seen line.now) }
@@ -61,7 +61,7 @@ pub(crate) fn number_in(line: &Line<'_>, range: Range) -> Result<u32, FileFault>
     without_second(line, number)
 }
 
-/// The one value of a line, a bound delta or `none`.
+/// Returns the one value of a line, a bound delta or `none`.
 #[tactic(auto, unfolding(crate::specs::Reading::value_of_line))]
 pub(crate) fn delta_in(line: &Line<'_>) -> Result<Option<u32>, FileFault>
     ensures { result ≡ value_of_line delta_from (seen line.now) }
@@ -71,7 +71,7 @@ pub(crate) fn delta_in(line: &Line<'_>) -> Result<Option<u32>, FileFault>
     without_second(line, delta)
 }
 
-/// The one value of a line, one of these nodes.
+/// Returns the one value of a line, one of these nodes.
 #[tactic(auto, unfolding(crate::specs::Reading::value_of_line))]
 pub(crate) fn mover_in(line: &Line<'_>, nodes: &[u8]) -> Result<u8, FileFault>
     ensures { result ≡ value_of_line (mover_from nodes.now) (seen line.now) }

@@ -19,7 +19,7 @@ pub struct Connections {
 }
 
 impl Connections {
-    /// A table without connections.
+    /// Makes a table without connections.
     pub fn new(alloc: Global) -> Connections
         ensures { result.by_number.entries ≡ [] }
     {
@@ -29,7 +29,7 @@ impl Connections {
         }
     }
 
-    /// How many connections there are.
+    /// Returns how many connections there are.
     pub fn count(&self) -> usize
         ensures { result ≡ index_map_len self.now.by_number }
     {

@@ -1,10 +1,5 @@
 -- The requests of a phase with the pieces of a call's value.
-use Rattle.std.proofs.Common.{◌≡◌, ℕ, zero, suc, ◌+◌, ◌<◌, List, [], ◌∷◌, ◌++◌, length, map, slice_get, Option, Some, sym, ap, ◌∙◌, refl}
-use Rattle.std.proofs.Common.{arith}
-use Rattle.std.specs.List.{AllByRecursion}
-use Rattle.std.proofs.lemmas.Option.{same_Some}
-use Rattle.piece.specs.declared.piece.Piece.{Piece}
-use Rattle.encoder.specs.Coded.{Coding}
+use Rattle.std.proofs.Common.{◌≡◌, ℕ, suc, List, [], ◌∷◌, ap, ◌∙◌, refl}
 use Rattle.encoder.specs.Fragment.{fragment}
 use Rattle.layout.specs.Layout.{Layout}
 use Rattle.bank.specs.declared.kind.Kind.{Kind}
@@ -14,11 +9,8 @@ use Rattle.mail.specs.declared.message.Body.TheVariants as body
 use Rattle.mail.specs.declared.message.Message.{Message}
 use Rattle.record.specs.Sending.{fragment_piece, request_to, requests}
 use Rattle.call.specs.Call.{OpenCall as Machine}
-use Rattle.call.specs.Pieces.{piece_from, HavePieceOf}
-use Rattle.local_object.specs.declared.letter.Letter.{Letter}
+use Rattle.call.specs.Pieces.{piece_from}
 use Rattle.local_object.specs.Coding.{phase_coding, call_value}
-use Rattle.local_object.specs.Letters.{letter_in}
-use Rattle.local_object.specs.Local.{Place}
 
 pub request_same : (kind : Kind) (layout : Layout) (call : Machine) (member : ℕ)
     → request_to kind (piece_from (phase_coding kind layout call) member)

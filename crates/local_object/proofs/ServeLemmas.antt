@@ -11,7 +11,8 @@ use Rattle.mail.specs.Message.{body_kind}
 use Rattle.mail.specs.declared.message.Body.{Body}
 use Rattle.mail.specs.declared.message.Body.TheVariants as body
 use Rattle.local_object.specs.declared.letter.Letter.{Letter}
-use Rattle.local_object.specs.Doing.{IsDone, has_member, is_member, is_request, is_served, names_node, serve_events}
+use Rattle.local_object.specs.Doing.{IsDone, has_member, is_member, is_served, names_node, serve_events}
+use Rattle.mail.specs.Message.{is_request}
 use Rattle.local_object.specs.Events.{LocalEvent, learnt_from, next_in_body, served_here}
 use Rattle.local_object.specs.Local.{LocalObject, Place, bank_here, layout_here, layout_in, with_heard, heard_place, with_bank_here}
 use Rattle.local_object.specs.May.{IsAddressed}

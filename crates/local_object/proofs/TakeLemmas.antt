@@ -9,7 +9,8 @@ use Rattle.network.specs.Worlds.{open_call, with_open}
 use Rattle.std.proofs.Common.{List, ◌∷◌, ◌++◌, subst}
 use Rattle.local_object.specs.declared.letter.Letter.{Letter}
 use Rattle.local_object.specs.declared.progress.Ended.{Ended}
-use Rattle.local_object.specs.Doing.{is_request, is_taken}
+use Rattle.local_object.specs.Doing.{is_taken}
+use Rattle.mail.specs.Message.{is_request}
 use Rattle.local_object.specs.Events.{LocalEvent, learnt_from}
 use Rattle.local_object.specs.Going.{taken_here}
 use Rattle.local_object.specs.Taking.{AreSettling, HasDoneBy, IsTaken, SettlesFetched, lead_events}

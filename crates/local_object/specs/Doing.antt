@@ -8,8 +8,7 @@ use Rattle.tag.specs.declared.refusal.Refusal.{Refusal}
 use Rattle.tag.specs.declared.refusal.Refusal.TheVariants.{NotNow, TooLong, MovePending, Full}
 use Rattle.encoder.specs.Fragment.{fragment}
 use Rattle.layout.specs.Layout.{Layout}
-use Rattle.mail.specs.declared.message.Body.{Body}
-use Rattle.mail.specs.declared.message.Body.TheVariants as body
+use Rattle.mail.specs.Message.{is_request}
 use Rattle.record.specs.Legal.{is_move}
 use Rattle.network.specs.Worlds.{NodeCall, open_call}
 use Rattle.local_object.specs.declared.letter.Letter.{Letter}
@@ -58,11 +57,6 @@ move_refusal local id = unless_open local id
     else (if nat_lt (last_position local + 2) (2 ^ 32) then None else Some Full))
 
 -- Messages
-
--- whether a message with this body is a request
-abbrev pub is_request : Body → Bool
-is_request (body.Request asked) = true
-is_request (body.Reply kind made) = false
 
 -- whether there is a server, and it is this node
 abbrev pub names_node : Option ℕ → (node : ℕ) → Bool

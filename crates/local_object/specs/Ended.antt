@@ -16,17 +16,17 @@ told_of call = record {
   value = entry_value call.kind (Some 0) call.settled;
 }
 
--- what is told of a call, if there is one
+-- what the client of a call is told, if there is a call
 abbrev pub told_if : Option NodeCall → List Ended
 told_if None = []
 told_if (Some call) = told_of call ∷ []
 
--- what is told by an event: the answer of a call that is open here
+-- what clients are told when an event happens: the answer of a call that is open here
 abbrev pub told : LocalObject → LocalEvent → List Ended
 told local (LocalEvent.Answer id) = told_if (open_call local.calls id)
 told local _ = []
 
--- what is told by these events, one after another
+-- what clients are told when these events happen, one after another
 abbrev pub all_told : Code → LocalObject → List LocalEvent → List Ended
 all_told fragment local [] = []
 all_told fragment local (event ∷ events) =

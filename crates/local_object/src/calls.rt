@@ -39,7 +39,7 @@ impl Model for Calls {
 }
 
 impl Calls {
-    /// No calls. It allocates no memory.
+    /// Makes a list without calls. It allocates no memory.
     pub(crate) fn new(alloc: Global) -> Calls
         ensures { result ≡ [] }
     {
@@ -48,14 +48,14 @@ impl Calls {
         }
     }
 
-    /// How many calls there are.
+    /// Returns how many calls there are.
     pub(crate) fn len(&self) -> usize
         ensures { result ≡ length self.now }
     {
         self.calls.len()
     }
 
-    /// The call at an index, from 0.
+    /// Returns the call at an index, from 0.
     pub(crate) fn at(&self, index: usize) -> &Call
         requires { index < length self.now }
         ensures { slice_get self.now index ≡ Some result.now }
@@ -63,7 +63,7 @@ impl Calls {
         &self.calls[index]
     }
 
-    /// The index of the call with this id, if there is one.
+    /// Returns the index of the call with this id, if there is one.
     pub(crate) fn index_of(&self, id: CallId) -> Option<usize>
         ensures index { MatchOption result (HaveOtherIds id self.now) (IsCallAt self.now id) }
         ensures distinct { HaveDistinctIds self.now }
@@ -71,14 +71,14 @@ impl Calls {
         place_of(&self.calls, id)
     }
 
-    /// Whether one of the calls is a move.
+    /// Returns whether one of the calls is a move.
     pub(crate) fn has_move(&self) -> bool
         ensures { result ≡ list_any (λ call. is_move call.kind) self.now }
     {
         self.calls.iter().any(|call| is_move(call))
     }
 
-    /// One more call, whose id is new. `NoMemory` is the only refusal.
+    /// Adds one more call, whose id is new. `NoMemory` is the only refusal.
     pub(crate) fn add(&mut self, call: Call) -> Result<(), Refusal>
         requires { HaveOtherIds call.id self.old }
         ensures added { OnOk result (self.new ≡ self.old ++ call ∷ []) }
@@ -144,7 +144,7 @@ fn place_of(calls: &[Call], id: CallId) -> Option<usize>
     calls.iter().position(|call| call.id() == id)
 }
 
-/// Whether the call is a move.
+/// Returns whether the call is a move.
 pub(crate) fn is_move(call: &Call) -> bool
     ensures { result ≡ is_move call.now.kind }
 {

@@ -11,8 +11,8 @@ use bank::{Answer, Bank, Request, Status};
 use mail::Body;
 use tag::Tag;
 
-/// Whether a message with this body is a request that may change a bank. A bank that is not there counts as a newly
-/// opened one.
+/// Returns whether a message with this body is a request that may change a bank. A bank that is not there counts as a
+/// newly opened one.
 pub(crate) fn changes(bank: Option<&Bank>, body: &Body) -> bool
     ensures { (member : ℕ) (delta : Option ℕ)
         → result ≡ changes_in_body (bank_or_opened (option_copied bank.entry) member delta) body.now }

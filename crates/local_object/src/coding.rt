@@ -12,7 +12,7 @@ use layout::Layout;
 use std::alloc::Global;
 use tag::{LONGEST_VALUE, Refusal};
 
-/// Whether a phase of this kind sends no pieces, or the value of the call is short enough to be encoded.
+/// Returns whether a phase of this kind sends no pieces, or the value of the call is short enough to be encoded.
 pub(crate) fn is_sendable(kind: Kind, call: &Call) -> bool
     ensures { result ≡ is_sendable kind call.now }
 {

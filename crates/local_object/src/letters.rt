@@ -3,7 +3,8 @@
 ghost use Rattle.std.specs.Prelude.{◌≡◌, suc, map, IfOk, IfErr};
 ghost use Rattle.tag.specs.declared.refusal.Refusal.TheVariants.{NoMemory};
 ghost use Rattle.local_object.specs.Local.{layout_in, heard_place};
-ghost use Rattle.local_object.specs.Letters.{is_set, letter_in, tells_next};
+ghost use Rattle.local_object.specs.Letters.{letter_in};
+ghost use Rattle.mail.specs.Message.{names_next, status_names_next};
 
 use crate::Letter;
 use crate::places::Places;
@@ -13,7 +14,7 @@ use mail::{Body, Message};
 use std::alloc::Global;
 use tag::Refusal;
 
-/// A letter for each message to or from members of a position with this layout. `NoMemory` is the only refusal.
+/// Returns a letter for each message to or from members of a position with this layout. `NoMemory` is the only refusal.
 pub(crate) fn letters_of(
     alloc: Global,
     places: &Places,
@@ -40,7 +41,7 @@ pub(crate) fn letter_of(
     ensures letter { IfOk result (λ l. l ≡ letter_in places.now layout message) }
     ensures refused { IfErr result (λ e. e ≡ NoMemory) }
 {
-    let next = if tells_next(&message.body) {
+    let next = if names_next(&message.body) {
         next_layout(places, message.position)?
     } else {
         None
@@ -64,13 +65,13 @@ fn next_layout(places: &Places, position: u32) -> Result<Option<Layout>, Refusal
 }
 
 // Whether a message with this body says that there is a next position.
-fn tells_next(body: &Body) -> bool
-    ensures { result ≡ tells_next body.now }
+fn names_next(body: &Body) -> bool
+    ensures { result ≡ names_next body.now }
 {
     match body {
-        Body::Request(Request::Spread(status)) => is_set(*status),
+        Body::Request(Request::Spread(status)) => status_names_next(*status),
         Body::Reply { kind: _, reply } => match &reply.answer {
-            Answer::Pointer(status) => is_set(*status),
+            Answer::Pointer(status) => status_names_next(*status),
             _ => false,
         },
         _ => false,
@@ -78,8 +79,8 @@ fn tells_next(body: &Body) -> bool
 }
 
 // Whether a pointer with this status says that there is a next position.
-fn is_set(status: Status) -> bool
-    ensures { result ≡ is_set status }
+fn status_names_next(status: Status) -> bool
+    ensures { result ≡ status_names_next status }
 {
     match status {
         Status::Unset => false,

@@ -40,7 +40,7 @@ impl Place {
     ghost use Rattle.local_object.specs.Distinct.{IsBankInOrderIfOpen};
     ghost use Rattle.local_object.specs.Local.{bank_or_opened};
 
-    /// A position of this layout, without a bank.
+    /// Makes a position of this layout, without a bank.
     pub(crate) fn new(position: u32, layout: Layout) -> Place
         ensures { result ≡ record { position = position; layout = layout; bank = None } }
     {
@@ -51,14 +51,14 @@ impl Place {
         }
     }
 
-    /// The number of the position, from 0.
+    /// Returns the number of the position, from 0.
     pub fn position(&self) -> u32
         ensures { result ≡ self.now.position }
     {
         self.position
     }
 
-    /// The layout of the position.
+    /// Returns the layout of the position.
     pub fn layout(&self) -> &Layout
         ensures { result.now ≡ self.now.layout }
     {

@@ -57,8 +57,8 @@ impl Places {
         &self.places
     }
 
-    /// The layout of a position, if the node has heard of it. The number of the position has 64 bits, so that each
-    /// position has a next one.
+    /// Returns the layout of a position, if the node has heard of it. The number of the position has 64 bits, so that
+    /// each position has a next one.
     pub(crate) fn layout_of(&self, position: u64) -> Option<&Layout>
         ensures { option_copied result ≡ layout_in (heard_place self.now position) }
     {
@@ -86,7 +86,7 @@ impl Places {
         bytes_of(&self.places)
     }
 
-    /// The first position, which is 0, and of which the node has always heard.
+    /// Returns the first position, which is 0, and of which the node has always heard.
     pub(crate) fn first(&self) -> u32
         ensures first { result ≡ 0 }
         ensures known { IsSome (layout_in (heard_place self.now 0)) }
@@ -95,7 +95,7 @@ impl Places {
         0
     }
 
-    /// The last position that the node has heard of.
+    /// Returns the last position that the node has heard of.
     pub(crate) fn last(&self) -> u32
         ensures last { result ≡ greatest_position self.now 0 }
         ensures known { IsSome (layout_in (heard_place self.now result)) }

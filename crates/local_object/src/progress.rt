@@ -15,7 +15,7 @@ pub struct Ended {
     pub id: CallId,
     /// Whether it was a read, a write or a move.
     pub kind: Operation,
-    /// What a read returns, and what a write wrote. None for a move.
+    /// What a read returns, and what a write wrote, or none for a move.
     pub value: Option<Bytes>,
 }
 

@@ -114,7 +114,7 @@ impl Nodes {
         self.send(rt, node, letters);
     }
 
-    /// Whether the call that was answered last has this id and this value.
+    /// Returns whether the call that was answered last has this id and this value.
     pub(crate) fn has_ended(&self, id: u64, text: &[u8]) -> bool {
         match &self.ended {
             Some(ended) => match &ended.value {

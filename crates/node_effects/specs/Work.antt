@@ -1,15 +1,12 @@
 -- The contracts that docs/trusted.md lists do not depend on this file; other contracts and proofs do.
 -- How what a node has to do, and what it wants done, grows.
 use Rattle.std.specs.Prelude.{◌≡◌, ℕ, List, [], ◌∷◌, ◌++◌, map, Option, None, Some}
+use Rattle.string_parts.specs.Strings.{Strings}
 use Rattle.node_effects.specs.declared.letter.NamedLetter.{NamedLetter}
 use Rattle.node_effects.specs.declared.notice.Notice.{Notice}
 use Rattle.node_effects.specs.declared.output.Output.{Output}
 use Rattle.node_effects.specs.declared.output.Output.TheVariants as output
 use Rattle.node_effects.specs.declared.work.Work.{Work}
-
--- a frame, or an entry of a log, is a list of strings
-abbrev pub Strings : Type 0
-Strings = List (List ℕ)
 
 -- these entries, one after another, for the log
 abbrev pub log_all : List Strings → List Output

@@ -15,7 +15,8 @@ use Rattle.node_messages.specs.declared.error.MessageError.{MessageError}
 use Rattle.node_messages.specs.declared.error.MessageError.TheVariants as message_errors
 use Rattle.node_messages.specs.declared.message.NodeMessage.{NodeMessage}
 use Rattle.node_messages.specs.Gives.{Agrees}
-use Rattle.node_messages.specs.Message.{IsBody, IsMessage, is_fitting, names_next}
+use Rattle.mail.specs.Message.{names_next}
+use Rattle.node_messages.specs.Message.{IsBody, IsMessage, is_fitting}
 use Rattle.node_messages.specs.Strings.{strings_of}
 use Rattle.node_messages.specs.Writing.{is_frame, same, strings_or_fault}
 use Rattle.string_parts.specs.Strings.{Strings}

@@ -1,5 +1,5 @@
 -- The names of which a node has heard, and whether letters can lead back to their objects.
-use Rattle.std.proofs.Common.{◌≡◌, ◌<◌, ◌==◌, ℕ, Bool, true, false, cond, List, [], ◌∷◌, map, length}
+use Rattle.std.proofs.Common.{◌≡◌, ◌<◌, ◌==◌, ℕ, Bool, true, false, cond, List, [], ◌∷◌, length}
 use Rattle.std.proofs.Common.{Option, None, Some, slice_get, nat_eq, option_map, refl, sym, subst, ap, ◌∙◌}
 use Rattle.std.proofs.lemmas.Map.Entries.{place_from_lookup}
 use Rattle.std.proofs.lemmas.Option.{slice_get-map, slice_get_within}
@@ -10,7 +10,6 @@ use Rattle.indexmap.specs.IndexMap.{IsUnique, get}
 use Rattle.local_object.specs.Local.{LocalObject, new_local}
 use Rattle.deeds.specs.Named.{is_same_name}
 use Rattle.deeds.proofs.NameLemmas.{names_decided}
-use Rattle.node_objects.specs.declared.objects.Objects.{Objects}
 use Rattle.node_objects.specs.Objects.{first_layout_of, found_or_new, heard_names, new_of, objects_of}
 use Rattle.object_letters.specs.Leading.{can_be_led_to}
 use Rattle.rewritten_logs.specs.Records.{is_among}

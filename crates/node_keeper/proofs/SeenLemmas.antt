@@ -4,7 +4,7 @@ use Rattle.std.proofs.Common.{refl, sym, subst, ap, ◌∙◌}
 use Rattle.std.proofs.lemmas.List.{append-nil, append_assoc}
 use Rattle.call_ids.specs.CallId.{CallIds}
 use Rattle.local_object.specs.declared.progress.Ended.{Ended}
-use Rattle.local_object.specs.Doing.{is_request}
+use Rattle.mail.specs.Message.{is_request}
 use Rattle.node_effects.specs.Seen.{named_of}
 use Rattle.node_effects.specs.Work.{Growth, IsGrown}
 use Rattle.node_effects.specs.declared.letter.NamedLetter.{NamedLetter}

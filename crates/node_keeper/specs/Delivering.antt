@@ -7,7 +7,8 @@ use Rattle.encoder.specs.Fragment.{fragment}
 use Rattle.local_object.specs.declared.letter.Letter.{Letter}
 use Rattle.local_object.specs.declared.progress.Ended.{Ended}
 use Rattle.local_object.specs.Changing.{is_changed_by}
-use Rattle.local_object.specs.Doing.{has_move_open, is_request, serve_events}
+use Rattle.mail.specs.Message.{is_request}
+use Rattle.local_object.specs.Doing.{has_move_open, serve_events}
 use Rattle.local_object.specs.Events.{all_done}
 use Rattle.node_objects.specs.Doing.{IsDoneAt, IsTakenAt}
 use Rattle.node_objects.specs.declared.objects.Objects.{Objects}

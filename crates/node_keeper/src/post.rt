@@ -1,7 +1,7 @@
 //! Turning letters about an object into messages between nodes, and messages into letters.
 ghost use Rattle.std.specs.Prelude.{◌≡◌, IfErr, IfOk, OnOk};
 ghost use Rattle.frames.specs.Frame.{IsFrame};
-ghost use Rattle.local_object.specs.Doing.{is_request};
+ghost use Rattle.mail.specs.Message.{is_request};
 ghost use Rattle.node_messages.specs.Message.{IsMessage};
 ghost use Rattle.node_messages.specs.Strings.{strings_of};
 ghost use Rattle.node_effects.specs.Errors.{IsUnwritten};

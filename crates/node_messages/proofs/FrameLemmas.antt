@@ -29,7 +29,8 @@ use Rattle.node_messages.specs.declared.error.Fault.TheVariants.{PieceTooLong}
 use Rattle.node_messages.specs.declared.message.NodeMessage.{NodeMessage}
 use Rattle.cluster_file.specs.declared.file.TheConstants.{DIGEST_LENGTH}
 use Rattle.node_messages.specs.Laws.{ShortPiecesHaveFrames}
-use Rattle.node_messages.specs.Message.{names_next, is_fitting, IsTag, IsPiece, IsKind, IsRequest, IsAnswer, IsBody, IsMessage}
+use Rattle.node_messages.specs.Message.{is_fitting, IsTag, IsPiece, IsKind, IsRequest, IsAnswer, IsBody, IsMessage}
+use Rattle.mail.specs.Message.{names_next}
 use Rattle.string_parts.specs.Strings.{Strings}
 use Rattle.string_parts.specs.Layouts.{layout_string}
 use Rattle.node_messages.specs.Strings.{tag_strings, piece_strings, kind_strings, request_rest}

@@ -12,7 +12,8 @@ use Rattle.node_messages.specs.declared.fields.Numbers.{Numbers}
 use Rattle.node_messages.specs.declared.message.NodeMessage.{NodeMessage}
 use Rattle.cluster_file.specs.declared.file.TheConstants.{DIGEST_LENGTH}
 use Rattle.node_messages.specs.Laws.{WrittenMessageIsRead, ReadMessageWasWritten, StringsNameOneMessage}
-use Rattle.node_messages.specs.Message.{names_next, IsMessage}
+use Rattle.node_messages.specs.Message.{IsMessage}
+use Rattle.mail.specs.Message.{names_next}
 use Rattle.words.specs.Parts.{and_then}
 use Rattle.string_parts.specs.Strings.{Strings}
 use Rattle.string_parts.specs.Layouts.{layout_string}

@@ -15,29 +15,9 @@ use Rattle.bank.specs.declared.status.Status.{Status}
 use Rattle.bank.specs.declared.status.Status.TheVariants as status
 use Rattle.mail.specs.declared.message.Body.{Body}
 use Rattle.mail.specs.declared.message.Body.TheVariants as body
+use Rattle.mail.specs.Message.{names_next}
 use Rattle.node_messages.specs.declared.message.NodeMessage.{NodeMessage}
 use Rattle.cluster_file.specs.declared.file.TheConstants.{DIGEST_LENGTH}
-
--- whether a pointer with this status names a next position
-abbrev pub status_names_next : Status → Bool
-status_names_next status.Unset = false
-status_names_next status.Pending = true
-status_names_next status.Final = true
-
--- whether a request says that the pointer is pending or final
-abbrev pub request_names_next : Request → Bool
-request_names_next (request.Spread found) = status_names_next found
-request_names_next q = false
-
--- whether an answer says that the pointer is pending or final
-abbrev pub answer_names_next : Answer → Bool
-answer_names_next (answer.Pointer found) = status_names_next found
-answer_names_next a = false
-
--- whether the body of a message says that the pointer is pending or final
-abbrev pub names_next : Body → Bool
-names_next (body.Request q) = request_names_next q
-names_next (body.Reply k r) = answer_names_next r.answer
 
 -- whether this is an answer to a request of this kind
 abbrev pub is_answer_to : Kind → Answer → Bool

@@ -28,7 +28,7 @@ use Rattle.node_messages.specs.declared.fields.Subject.{Subject}
 use Rattle.node_messages.specs.declared.fields.Numbers.{Numbers}
 use Rattle.node_messages.specs.declared.message.NodeMessage.{NodeMessage}
 use Rattle.cluster_file.specs.declared.file.TheConstants.{DIGEST_LENGTH}
-use Rattle.node_messages.specs.Message.{names_next}
+use Rattle.mail.specs.Message.{names_next}
 use Rattle.node_messages.specs.Words.{status_from, is_request_from, is_piece_from}
 
 -- what the first strings write, or the first fault there; and the strings after them

@@ -8,7 +8,8 @@ use Rattle.node_messages.specs.declared.error.Fault.{Fault}
 use Rattle.node_messages.specs.declared.error.Fault.TheVariants.{NameTooLong, NoMember, BadAnswer, BadNext}
 use Rattle.node_messages.specs.declared.error.Fault.TheVariants.{PieceTooLong}
 use Rattle.node_messages.specs.declared.message.NodeMessage.{NodeMessage}
-use Rattle.node_messages.specs.Message.{names_next, is_fitting}
+use Rattle.node_messages.specs.Message.{is_fitting}
+use Rattle.mail.specs.Message.{names_next}
 use Rattle.words.specs.Parts.{and_then}
 use Rattle.string_parts.specs.Strings.{Strings}
 use Rattle.node_messages.specs.Strings.{strings_of}

@@ -61,7 +61,7 @@ fn answer_of(
     }
 }
 
-/// A reply to a request of this kind.
+/// Reads a reply to a request of this kind from the front of the strings.
 #[tactic(auto, unfolding(crate::specs::Reading::first_reply))]
 pub(crate) fn reply_of(
     alloc: Global,

@@ -93,7 +93,7 @@ fn body_of_kind(
     }
 }
 
-/// The body of a message.
+/// Reads the body of a message from the front of the strings.
 #[tactic(auto, unfolding(crate::specs::Reading::first_body))]
 pub(crate) fn body_of(alloc: Global, strings: &[Bytes]) -> Result<(Body, &[Bytes]), MessageError>
     ensures { AgreesAt result (first_body strings.now) }

@@ -1,6 +1,7 @@
 //! What the parts of a message must have in common.
 ghost use Rattle.std.specs.Prelude.{◌≡◌};
-ghost use Rattle.node_messages.specs.Message.{status_names_next, is_answer_to, names_next, is_fitting};
+ghost use Rattle.node_messages.specs.Message.{is_answer_to, is_fitting};
+ghost use Rattle.mail.specs.Message.{status_names_next, names_next};
 
 use bank::{Answer, Kind, Request, Status};
 use mail::Body;
@@ -15,7 +16,7 @@ fn status_names_next(status: Status) -> bool
     }
 }
 
-/// Whether the body of a message says that the pointer is pending or final.
+/// Returns whether the body of a message says that the pointer is pending or final.
 pub(crate) fn names_next(body: &Body) -> bool
     ensures { result ≡ names_next body.now }
 {
@@ -42,7 +43,7 @@ fn is_answer_to(kind: Kind, answer: &Answer) -> bool
     }
 }
 
-/// Whether the body of a message is a request, or a reply with an answer to a request of its kind.
+/// Returns whether the body of a message is a request, or a reply with an answer to a request of its kind.
 pub(crate) fn is_fitting(body: &Body) -> bool
     ensures { result ≡ is_fitting body.now }
 {

@@ -43,7 +43,7 @@ pub struct Numbers {
     pub member: u8,
 }
 
-/// The first string.
+/// Reads the first string.
 #[tactic(auto, unfolding(crate::specs::Reading::first_string))]
 pub(crate) fn string_of(strings: &[Bytes]) -> Result<(&Bytes, &[Bytes]), MessageError>
     ensures { AgreesAs (λ x. (x.0.now, x.1.now)) result (first_string strings.now) }
@@ -54,7 +54,7 @@ pub(crate) fn string_of(strings: &[Bytes]) -> Result<(&Bytes, &[Bytes]), Message
     }
 }
 
-/// A number up to `most`.
+/// Reads a number up to `most` from the front of the strings.
 #[tactic(auto, unfolding(crate::specs::Reading::first_number))]
 pub(crate) fn number_of(strings: &[Bytes], most: u64) -> Result<(u64, &[Bytes]), MessageError>
     requires { 9 ≤ most }
@@ -66,14 +66,14 @@ pub(crate) fn number_of(strings: &[Bytes], most: u64) -> Result<(u64, &[Bytes]),
     Ok((number, rest))
 }
 
-/// A number of 64 bits.
+/// Reads a number of 64 bits from the front of the strings.
 pub(crate) fn long_of(strings: &[Bytes]) -> Result<(u64, &[Bytes]), MessageError>
     ensures { AgreesAt result (first_number (2 ^ 64 - 1) strings.now) }
 {
     number_of(strings, u64::MAX)
 }
 
-/// A number of 32 bits.
+/// Reads a number of 32 bits from the front of the strings.
 pub(crate) fn number_of_32(strings: &[Bytes]) -> Result<(u32, &[Bytes]), MessageError>
     ensures { AgreesAt result (first_number (2 ^ 32 - 1) strings.now) }
 {
@@ -81,7 +81,7 @@ pub(crate) fn number_of_32(strings: &[Bytes]) -> Result<(u32, &[Bytes]), Message
     Ok((number as u32, rest))
 }
 
-/// A number of 8 bits.
+/// Reads a number of 8 bits from the front of the strings.
 pub(crate) fn number_of_8(strings: &[Bytes]) -> Result<(u8, &[Bytes]), MessageError>
     ensures { AgreesAt result (first_number (2 ^ 8 - 1) strings.now) }
 {
@@ -89,7 +89,7 @@ pub(crate) fn number_of_8(strings: &[Bytes]) -> Result<(u8, &[Bytes]), MessageEr
     Ok((number as u8, rest))
 }
 
-/// A tag.
+/// Reads a tag from the front of the strings.
 #[tactic(auto, unfolding(crate::specs::Reading::first_tag))]
 pub(crate) fn tag_of(strings: &[Bytes]) -> Result<(Tag, &[Bytes]), MessageError>
     ensures { AgreesAt result (first_tag strings.now) }
@@ -99,7 +99,7 @@ pub(crate) fn tag_of(strings: &[Bytes]) -> Result<(Tag, &[Bytes]), MessageError>
     Ok((Tag { number, call }, rest))
 }
 
-/// A piece.
+/// Reads a piece from the front of the strings.
 #[tactic(auto, unfolding(crate::specs::Reading::first_piece))]
 pub(crate) fn piece_of(strings: &[Bytes]) -> Result<(Piece, &[Bytes]), MessageError>
     ensures { AgreesAt result (first_piece strings.now) }
@@ -111,7 +111,7 @@ pub(crate) fn piece_of(strings: &[Bytes]) -> Result<(Piece, &[Bytes]), MessageEr
     Ok((Piece { point, len, bytes }, rest))
 }
 
-/// A status.
+/// Reads a status from the front of the strings.
 #[tactic(auto, unfolding(crate::specs::Reading::first_status))]
 pub(crate) fn status_of(strings: &[Bytes]) -> Result<(Status, &[Bytes]), MessageError>
     ensures { AgreesAt result (first_status strings.now) }
@@ -121,7 +121,7 @@ pub(crate) fn status_of(strings: &[Bytes]) -> Result<(Status, &[Bytes]), Message
     Ok((status, rest))
 }
 
-/// A layout.
+/// Reads a layout from the front of the strings.
 #[tactic(auto, unfolding(crate::specs::Reading::first_layout))]
 pub(crate) fn layout_of(strings: &[Bytes]) -> Result<(Layout, &[Bytes]), MessageError>
     ensures { AgreesAt result (first_layout strings.now) }
@@ -162,7 +162,7 @@ fn name_of(strings: &[Bytes]) -> Result<(&Bytes, &[Bytes]), MessageError>
     Ok((string, rest))
 }
 
-/// What a message is about.
+/// Reads what a message is about from the front of the strings.
 #[tactic(auto, unfolding(crate::specs::Reading::first_subject))]
 pub(crate) fn subject_of(strings: &[Bytes]) -> Result<(Subject, &[Bytes]), MessageError>
     ensures { AgreesAt result (first_subject strings.now) }
@@ -193,7 +193,7 @@ fn member_of(strings: &[Bytes], n: u8) -> Result<(u8, &[Bytes]), MessageError>
     Ok((member, rest))
 }
 
-/// The numbers of a message to or from a member of a layout with n members.
+/// Reads the numbers of a message to or from a member of a layout with n members from the front of the strings.
 #[tactic(auto, unfolding(crate::specs::Reading::first_numbers))]
 pub(crate) fn numbers_of(strings: &[Bytes], n: u8) -> Result<(Numbers, &[Bytes]), MessageError>
     ensures { AgreesAt result (first_numbers n strings.now) }

@@ -17,7 +17,7 @@ use layout::Layout;
 use mail::{Body, Message};
 use std::alloc::Global;
 
-/// The message of a frame. Its name and its piece are those of the frame, and no byte of them is copied.
+/// Returns the message of a frame. Its name and its piece are those of the frame, and no byte of them is copied.
 ///
 /// A `Fault` is the first one from left to right. A superfluous string after the message is found last.
 pub fn read_message(alloc: Global, frame: Frame) -> Result<NodeMessage, MessageError>

@@ -109,7 +109,7 @@ fn push_answer(alloc: Global, strings: &mut Vec<Bytes>, answer: &Answer) -> Resu
     }
 }
 
-/// The body of a message.
+/// Appends the strings of the body of a message.
 pub(crate) fn push_body(
     alloc: Global,
     strings: &mut Vec<Bytes>,

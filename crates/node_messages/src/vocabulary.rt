@@ -6,7 +6,7 @@ use crate::error::Fault;
 use bank::{Kind, Status};
 use string_parts::is_text;
 
-/// The status for which a word stands.
+/// Returns the status for which a word stands.
 #[tactic(auto, unfolding(crate::specs::Words::status_from))]
 pub(crate) fn read_status(word: &[u8]) -> Result<Status, Fault>
     ensures { result ≡ status_from word.now }
@@ -22,7 +22,7 @@ pub(crate) fn read_status(word: &[u8]) -> Result<Status, Fault>
     }
 }
 
-/// Whether a word says that a message is a request, or that it is a reply.
+/// Returns whether a word says that a message is a request, or that it is a reply.
 #[tactic(auto, unfolding(crate::specs::Words::is_request_from))]
 pub(crate) fn read_is_request(word: &[u8]) -> Result<bool, Fault>
     ensures { result ≡ is_request_from word.now }
@@ -36,7 +36,7 @@ pub(crate) fn read_is_request(word: &[u8]) -> Result<bool, Fault>
     }
 }
 
-/// Whether a word says that a piece follows, or that there is none.
+/// Returns whether a word says that a piece follows, or that there is none.
 #[tactic(auto, unfolding(crate::specs::Words::is_piece_from))]
 pub(crate) fn read_is_piece(word: &[u8]) -> Result<bool, Fault>
     ensures { result ≡ is_piece_from word.now }
@@ -50,7 +50,7 @@ pub(crate) fn read_is_piece(word: &[u8]) -> Result<bool, Fault>
     }
 }
 
-/// The word for a status.
+/// Returns the word for a status.
 pub(crate) fn status_word(status: Status) -> &'static [u8]
     ensures { result.now ≡ status_word status }
 {
@@ -61,7 +61,7 @@ pub(crate) fn status_word(status: Status) -> &'static [u8]
     }
 }
 
-/// The word for a kind.
+/// Returns the word for a kind.
 pub(crate) fn kind_word(kind: Kind) -> &'static [u8]
     ensures { result.now ≡ kind_word kind }
 {

@@ -23,7 +23,7 @@ use tag::LONGEST_NAME;
 // of 2, a step, a word, and a piece of 3.
 const MOST_MESSAGE_STRINGS: usize = 16;
 
-/// The frame of a message. The frame shares the bytes of the name and of the piece, and copies neither.
+/// Returns the frame of a message. The frame shares the bytes of the name and of the piece, and copies neither.
 ///
 /// A `Fault` is the first one in this order: `NameTooLong`, `NoMember`, `BadAnswer`, `BadNext`, `PieceTooLong`.
 pub fn frame_of(alloc: Global, message: &NodeMessage) -> Result<Frame, MessageError>

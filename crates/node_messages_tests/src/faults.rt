@@ -93,7 +93,7 @@ static BEHIND_THE_HEAD: [(&[&[u8]], Fault); 19] = [
     ),
 ];
 
-/// Strings behind `HEAD` that are no message where they are cut.
+/// Strings behind `HEAD` that are no message if they are cut.
 static CUT: [&[&[u8]]; 3] = [
     &[b"request", b"pre-write", b"1", b"2", b"3", b"4", b"5"],
     &[b"request", b"spread", b"pending", NEXT],

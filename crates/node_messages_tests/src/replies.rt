@@ -4,7 +4,7 @@ use bank::{Answer, HeldPiece, Kind, Reply, Status};
 use mail::Body;
 use tag::Tag;
 
-/// A reply of step 99.
+/// Returns a reply of step 99.
 fn reply(kind: Kind, answer: Answer) -> Body {
     let reply = Reply { step: 99, answer };
     Body::Reply { kind, reply }

@@ -33,7 +33,7 @@ pub(crate) fn text<R: Abort>(rt: &R, alloc: Global, text: &[u8]) -> Bytes {
     Bytes::copy_from_slice(alloc, text).expect(rt, "memory")
 }
 
-/// The piece with the point 3, of a value of 11 bytes, with the bytes `abcd` and CR LF.
+/// Returns the piece with the point 3, of a value of 11 bytes, with the bytes `abcd` and CR LF.
 pub(crate) fn piece<R: Abort>(rt: &R, alloc: Global) -> Piece {
     Piece {
         point: 3,
@@ -42,7 +42,7 @@ pub(crate) fn piece<R: Abort>(rt: &R, alloc: Global) -> Piece {
     }
 }
 
-/// The frame of these strings.
+/// Returns the frame of these strings.
 pub(crate) fn frame<R: Abort>(rt: &R, alloc: Global, head: &[&[u8]], tail: &[&[u8]]) -> Frame {
     let mut strings = Vec::new(alloc);
     for string in head {
@@ -54,7 +54,7 @@ pub(crate) fn frame<R: Abort>(rt: &R, alloc: Global, head: &[&[u8]], tail: &[&[u
     Frame::new(strings).expect(rt, "a frame")
 }
 
-/// The message of the frame with `HEAD` and these strings behind it.
+/// Returns the message of the frame with `HEAD` and these strings behind it.
 pub(crate) fn message<R: Abort>(rt: &R, alloc: Global, tail: &[&[u8]]) -> NodeMessage {
     read_message(alloc, frame(rt, alloc, &HEAD, tail)).expect(rt, "a message")
 }

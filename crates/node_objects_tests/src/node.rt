@@ -11,7 +11,7 @@ use std::process::Abort;
 // More letters than any call here takes.
 const ENOUGH: u32 = 1_000;
 
-/// The node 3, which is alone in its cluster.
+/// Returns the node 3, which is alone in its cluster.
 pub(crate) fn lone_node(rt: &impl Abort, alloc: Global) -> Objects {
     let nodes = ClusterNodes::new(1, 1, &[3]).expect(rt, "nodes");
     Objects::new(alloc, 3, None, nodes)
@@ -61,7 +61,7 @@ fn is_request(letter: &Letter) -> bool {
     }
 }
 
-/// Whether this is the call with this id, and it has this value.
+/// Returns whether this is the call with this id, and it has this value.
 pub(crate) fn is_ended(ended: &Option<Ended>, id: u64, text: &[u8]) -> bool {
     match ended {
         Some(ended) => match &ended.value {

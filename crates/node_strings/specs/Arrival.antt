@@ -41,7 +41,7 @@ abbrev pub client_arrival : List ℕ → Strings → Option Arrival
 client_arrival number rest = then_read (number_or_none (2 ^ 64 - 1) number)
     (λ client. if is_empty rest then Some (came.Left client) else Some (came.Command client rest))
 
--- that time has passed
+-- an arrival which says that time has passed, if these strings are that
 abbrev pub tick_arrival : List ℕ → Strings → Option Arrival
 tick_arrival address rest = if bytes_eq address (codes "tick") && is_empty rest then Some came.Tick else None
 

@@ -14,7 +14,7 @@ abbrev pub IsReadAs : {X Y : Type 0} → (X → Y) → Option X → Option Y →
 IsReadAs view (Some x) read = read ≡ Some (view x)
 IsReadAs view None read = read ≡ None
 
--- what was read, or none where there was a fault
+-- what was read, or none if there was a fault
 abbrev pub if_read : {X E : Type 0} → Result X E → Option X
 if_read (Ok x) = Some x
 if_read (Err fault) = None

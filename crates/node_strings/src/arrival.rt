@@ -16,7 +16,7 @@ pub enum Arrival {
     Command(ConnectionId, Frame),
     /// The end of a client's connection.
     Left(ConnectionId),
-    /// A frame that this node sent.
+    /// A frame that the node with this number sent.
     Message(u8, Frame),
     /// Time has passed.
     Tick,

@@ -34,7 +34,7 @@ pub(crate) fn string_of(strings: &[Bytes]) -> Option<(&Bytes, &[Bytes])>
     }
 }
 
-/// The number up to `most` that a string writes.
+/// Returns the number up to `most` that a string writes.
 pub(crate) fn number_of(string: &[u8], most: u64) -> Option<u64>
     requires { 9 ≤ most }
     ensures within { IfSome result (λ number. number ≤ most) }
@@ -53,7 +53,7 @@ pub(crate) fn behind<'a>(string: &'a [u8], front: &[u8]) -> Option<&'a [u8]>
     string.strip_prefix(front)
 }
 
-/// The layout whose string this is.
+/// Returns the layout whose string this is.
 pub(crate) fn layout_of(string: &[u8]) -> Option<Layout>
     ensures { result ≡ layout_or_none string.now }
 {
@@ -63,7 +63,7 @@ pub(crate) fn layout_of(string: &[u8]) -> Option<Layout>
     }
 }
 
-/// The digest that a string is.
+/// Returns the digest that a string is.
 pub(crate) fn digest_of(string: &[u8]) -> Option<[u8; DIGEST_LENGTH]>
     ensures { result ≡ digest_or_none string.now }
 {

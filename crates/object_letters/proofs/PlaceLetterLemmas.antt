@@ -30,11 +30,6 @@ all_map : {X : Type 0} {P Q : X → Type 0} → ((x : X) → P x → Q x) → (x
 all_map f [] all = tt
 all_map f (x ∷ xs) all = (f x all.0, all_map f xs all.1)
 
-all_both : {X : Type 0} {P Q R : X → Type 0} → ((x : X) → P x → Q x → R x) → (xs : List X) → AllByRecursion P xs
-    → AllByRecursion Q xs → AllByRecursion R xs
-all_both f [] all also = tt
-all_both f (x ∷ xs) all also = (f x all.0 also.0, all_both f xs all.1 also.1)
-
 -- the place that is found for a position is one of them
 pub at_place : (P : Place → Type 0) (places : List Place) (q : ℕ) (place : Place) → AllByRecursion P places
     → heard_place places q ≡ Some place

@@ -31,11 +31,11 @@ impl Model for ClusterNodes {
 }
 
 impl ClusterNodes {
-    /// The nodes of these numbers, where a name's layout has `n` of them as members and any `k` fragments give a value
-    /// back.
+    /// Makes a list of the nodes with these numbers. The layout of a name has `n` of them as members, and any `k`
+    /// fragments give a value back.
     ///
-    /// `BadLayout` unless `1 <= k <= n`, there are at least `n` nodes and at most `MOST_MEMBERS`, and no node is named
-    /// twice.
+    /// Is refused with `BadLayout` unless `1 <= k <= n`, there are at least `n` nodes and at most `MOST_MEMBERS`, and
+    /// no node is named twice.
     pub fn new(k: u8, n: u8, nodes: &[u8]) -> Result<ClusterNodes, Refusal>
         ensures made { IfOk result (λ c. c ≡ record { k = k; n = n; nodes = nodes.now }) }
         ensures lawful { IsOk result ↔ AreLawfulNodes (record { k = k; n = n; nodes = nodes.now }) }

@@ -12,7 +12,8 @@ use Rattle.network.specs.Events.{taking_open}
 use Rattle.local_object.specs.declared.letter.Letter.{Letter}
 use Rattle.local_object.specs.declared.progress.Ended.{Ended}
 use Rattle.local_object.specs.Agreement.{knows_all_of}
-use Rattle.local_object.specs.Doing.{is_move_call, has_move_open, is_request, is_taken}
+use Rattle.local_object.specs.Doing.{is_move_call, has_move_open, is_taken}
+use Rattle.mail.specs.Message.{is_request}
 use Rattle.local_object.specs.Events.{LocalEvent, advanced_at, advanced_here, all_done, done_here, learnt_from}
 use Rattle.local_object.specs.Going.{next_here}
 use Rattle.local_object.specs.Local.{LocalObject, layout_here}

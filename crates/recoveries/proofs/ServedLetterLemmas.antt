@@ -11,7 +11,8 @@ use Rattle.layout.specs.Layout.{Layout, IsLawful}
 use Rattle.local_object.specs.declared.letter.Letter.{Letter}
 use Rattle.local_object.specs.Agreement.{agrees, knows_all_of}
 use Rattle.local_object.specs.Changing.{IsUnchangedBy, after_serving}
-use Rattle.local_object.specs.Doing.{is_member, is_request, is_served, names_node, serve_events}
+use Rattle.local_object.specs.Doing.{is_member, is_served, names_node, serve_events}
+use Rattle.mail.specs.Message.{is_request}
 use Rattle.local_object.specs.Events.{LocalEvent, all_done, learnt_from, served_here}
 use Rattle.local_object.specs.Local.{LocalObject, bank_here, layout_here, with_heard, learnt_if, with_bank_here}
 use Rattle.refinement.specs.Refined.{IsKeptHere}

@@ -1,5 +1,5 @@
 -- The contracts that docs/trusted.md lists do not depend on this file; other contracts and proofs do.
--- The laws: what nodes do by themselves are events of a world, so what each world promises holds of all nodes.
+-- The laws: what nodes do by themselves are events of a world, so what each world promises holds for all nodes.
 use Rattle.std.specs.Prelude.{◌≡◌, ℕ, suc, List, [], ◌∷◌, Some, IsSome}
 use Rattle.record.specs.declared.call.CallKind.TheVariants.{Read}
 use Rattle.record.specs.Fragments.{Code, IsCode}
@@ -71,7 +71,7 @@ AnswersAreInHistory = (fragment : Code) (system : System) (node id : ℕ) (call 
     HasAnswer (system_after fragment system (SystemEvent.Acts node (LocalEvent.Answer id))).history call
     (suc system.now)
 
--- what a node does in a row are events of all nodes
+-- several things that a node does in a row are events of all nodes
 abbrev pub EventsInARowAreEvents : Type 0
 EventsInARowAreEvents = (fragment : Code) (system : System) (node : ℕ) (events : List LocalEvent) →
     MayAllHappen fragment (system.objects node) events → ArePremisedIn fragment system node events →

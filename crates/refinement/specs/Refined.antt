@@ -106,6 +106,6 @@ pub record IsKeptHere (moves : Type 0) (before after : LocalObject) : Type 0 whe
   pub mover : moves → (position : ℕ) (layout : Layout) → layout_here before position ≡ Some layout →
       layout_here after position ≡ Some layout
 
--- the event of the world that a restart of a node is
+-- the event of the world that corresponds to a restart of a node
 abbrev pub restart_event : World → (node : ℕ) → Event
 restart_event world node = Event.Restart node world.banks (after_restart node world.calls)

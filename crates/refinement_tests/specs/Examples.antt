@@ -49,8 +49,8 @@ exchanged call phase asked said =
     (LocalEvent.Take (about call phase (body.Reply (kind_of asked) (record { step = 0; answer = said })))) ∷ []
 
 -- the call of node 1 with this id begins the phase that is due
-abbrev pub due : (call : ℕ) → SystemEvent
-due call = SystemEvent.Acts 1 (LocalEvent.Advance call)
+abbrev pub begins_phase : (call : ℕ) → SystemEvent
+begins_phase call = SystemEvent.Acts 1 (LocalEvent.Advance call)
 
 -- node 1 begins to write the value: node 0 knows of no later position
 abbrev pub write_begun : List SystemEvent
@@ -58,20 +58,20 @@ write_begun = SystemEvent.Acts 1 (LocalEvent.BeginWrite 7 letter) ∷ exchanged 
 
 -- and of no tag but the opening tag
 abbrev pub write_asked : List SystemEvent
-write_asked = write_begun ++ (due 7 ∷ exchanged 7 2 request.Query (Greatest opening_tag))
+write_asked = write_begun ++ (begins_phase 7 ∷ exchanged 7 2 request.Query (Greatest opening_tag))
 
 -- node 0 keeps its piece
 abbrev pub write_sent : List SystemEvent
-write_sent = due 7 ∷ exchanged 7 3 (to_keep 0) Done
+write_sent = begins_phase 7 ∷ exchanged 7 3 (to_keep 0) Done
 
 -- and finalizes the write's tag
 abbrev pub write_kept : List SystemEvent
-write_kept = write_sent ++ (due 7 ∷ exchanged 7 4 (request.Finalize write_tag) Done)
+write_kept = write_sent ++ (begins_phase 7 ∷ exchanged 7 4 (request.Finalize write_tag) Done)
 
 -- node 0 still knows of no later position, and the write is answered
 abbrev pub write_ended : List SystemEvent
 write_ended =
-    due 7
+    begins_phase 7
     ∷ (exchanged 7 5 request.Next (Pointer Unset) ++ (SystemEvent.Acts 1 (LocalEvent.Answer 7) ∷ []))
 
 -- node 0 stops and starts again, and keeps what it kept
@@ -84,19 +84,19 @@ read_begun = SystemEvent.Acts 1 (LocalEvent.BeginRead 3) ∷ exchanged 3 1 reque
 
 -- and of no tag but the opening tag
 abbrev pub read_asked : List SystemEvent
-read_asked = read_begun ++ (due 3 ∷ exchanged 3 2 request.Query (Greatest opening_tag))
+read_asked = read_begun ++ (begins_phase 3 ∷ exchanged 3 2 request.Query (Greatest opening_tag))
 
 -- node 0 has a piece of the empty value, which the read settles
 abbrev pub read_settled : List SystemEvent
 read_settled =
-    due 3
+    begins_phase 3
     ∷ (exchanged 3 3 (request.Fetch opening_tag) (answer.Piece (Some (empty_piece 0)))
     ++ (SystemEvent.Acts 1 (LocalEvent.Settle 3 []) ∷ []))
 
 -- node 0 still knows of no later position, and the read is answered
 abbrev pub read_ended : List SystemEvent
 read_ended =
-    due 3
+    begins_phase 3
     ∷ (exchanged 3 4 request.Next (Pointer Unset) ++ (SystemEvent.Acts 1 (LocalEvent.Answer 3) ∷ []))
 
 -- The runs

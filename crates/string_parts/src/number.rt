@@ -5,7 +5,7 @@ ghost use Rattle.string_parts.specs.Numbers.{number_up_to, digits_from};
 
 use words::{first_digit, with_digit};
 
-/// The number up to `most` that the bytes write in decimal digits, without a sign or a leading zero.
+/// Returns the number up to `most` that the bytes write in decimal digits, without a sign or a leading zero.
 ///
 /// The caller gives both faults, and the first one from left to right is returned: `bad` if there is a byte that is no
 /// digit, a leading 0, or nothing; `above` if the digits so far are those of a number above `most`.

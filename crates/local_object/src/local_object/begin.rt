@@ -23,8 +23,8 @@ use record::{CallKind, Stage};
 use tag::{CallId, LONGEST_VALUE, Refusal};
 
 impl LocalObject {
-    /// The node begins a read, with an id that no other call of the object has in the whole cluster. The letters are
-    /// its requests to the members of position 0.
+    /// Begins a read, with an id that no other call of the object has in the whole cluster. Returns the read's requests
+    /// to the members of position 0.
     ///
     /// `NotNow` if a call with this id is open here, and `NoMemory`.
     pub fn begin_read(&mut self, id: CallId) -> Result<Vec<Letter>, Refusal>
@@ -63,8 +63,8 @@ impl LocalObject {
         )
     }
 
-    /// The node begins a move from the last position of which it has heard to a new one with this layout. The letters
-    /// are its requests to the members of that last position.
+    /// Begins a move from the last position of which the node has heard to a new one with this layout. Returns the
+    /// move's requests to the members of that last position.
     ///
     /// `NotNow` if a call with this id is open here, `MovePending` if a move is, `Full` if there are no numbers for the
     /// new position and the one after it, and `NoMemory`.

@@ -10,21 +10,21 @@ use crate::{Letter, LocalObject, Place};
 use tag::CallId;
 
 impl LocalObject {
-    /// How many calls are open here.
+    /// Returns how many calls are open here.
     pub fn open_calls(&self) -> usize
         ensures { result ≡ length self.now.calls }
     {
         self.calls.len()
     }
 
-    /// Whether a move is open here.
+    /// Returns whether a move is open here.
     pub fn is_moving(&self) -> bool
         ensures { result ≡ is_moving self.now }
     {
         self.calls.has_move()
     }
 
-    /// Whether a move with this id is open here.
+    /// Returns whether a move with this id is open here.
     pub fn is_open_move(&self, id: CallId) -> bool
         ensures { result ≡ has_move_open self.now id }
     {
@@ -34,7 +34,8 @@ impl LocalObject {
         }
     }
 
-    /// The positions that the node has heard of, in the order in which it heard of them. Position 0 is among them.
+    /// Returns the positions that the node has heard of, in the order in which it heard of them. Position 0 is among
+    /// them.
     pub fn places(&self) -> &[Place]
         ensures { result.now ≡ self.now.places }
     {

@@ -97,10 +97,7 @@ impl Desk {
         ensures refused { IfErr result (λ e. e ≡ NoMemory) }
     {
         match self.calls.get_mut(&id) {
-            Some(call) => match call.grow_older(ticks) {
-                Ok(aged) => Ok(Some(aged)),
-                Err(error) => Err(error),
-            },
+            Some(call) => Ok(Some(call.grow_older(ticks)?)),
             None => Ok(None),
         }
     }
