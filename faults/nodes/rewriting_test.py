@@ -1,5 +1,5 @@
 #!/usr/bin/env python3
-"""Tests that a node writes its log anew when it starts: rewriting_test.py PROGRAM.
+"""Tests that a node writes its log anew when it starts, and while it runs: rewriting_test.py PROGRAM.
 
 Most of a log is fragments that were dropped. When the node is started again, its log becomes shorter, and each value is
 the same. stop_calls.c is a library that is preloaded to the program. By it, the program is killed at each of its calls
@@ -15,6 +15,7 @@ HERE = Path(__file__).resolve().parent
 sys.path[:0] = [str(HERE), str(HERE.parents[1] / "deploy" / "test")]
 sys.dont_write_bytecode = True
 
+from frames import Frames  # noqa: E402
 from one_node import CLUSTER, OneNode, command  # noqa: E402
 
 # The node keeps the fragments of the newest finished write alone.
@@ -144,6 +145,35 @@ class Rewriting(unittest.TestCase):
             self.assertEqual(found, (1, b"", text), CALLS[place])
             self.values_are_there(CALLS[place])
             self.is_short(CALLS[place])
+
+    def test_running(self):
+        """The log becomes shorter while the node runs. What was written before and after that is there."""
+        self.node.log.unlink()
+        writes = [command(b"SET", b"large", bytes([number]) * MIB) for number in range(60)]
+        writes += [command(b"SET", b"small", b"2"), command(b"SET", b"large", VALUES[b"large"])]
+        status, written, said = self.start(frames=[*writes, *QUESTIONS])
+        self.assertEqual((status, said), (0, ""))
+        self.assertEqual([b"".join(strings[1:]) for strings in Frames().take(written)], [b"+OK\r\n"] * len(writes) + ANSWERS)
+        self.assertIn("rename log.new", self.list.read_text().splitlines())
+        self.assertLess(self.node.log.stat().st_size, 50 * MIB)
+        self.values_are_there()
+
+    def test_running_kills(self):
+        """The program is killed before each call by which it writes its log anew while it runs. What it answered is there."""
+        writes = [command(b"SET", b"large", bytes([number]) * MIB) for number in range(40)]
+        self.node.log.unlink()
+        self.start(frames=writes)
+        calls = self.list.read_text().splitlines()
+        begin, end = calls.index("open log.new"), calls.index("fsync .", calls.index("rename log.new"))
+        for nth in range(begin, end + 1):
+            self.reset()
+            self.node.log.unlink()
+            status, written, _ = self.start(nth + 1, "kill", writes)
+            answered = len(Frames().take(written))
+            self.assertEqual(status, -9, calls[nth])
+            [value] = self.node.answers(command(b"GET", b"large"))
+            body = value.split(b"\r\n")[1]
+            self.assertTrue(answered > 0 and body[0] >= answered - 1 and body == body[:1] * MIB, (calls[nth], answered))
 
     def test_left_files(self):
         """A second log that was left is removed, also if the log need not be written anew; but not if the log is

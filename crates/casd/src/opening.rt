@@ -92,9 +92,13 @@ fn cut_behind<F: Seek + OpenFile, E: Write>(
     Ok(())
 }
 
-// Writes the log of so many bytes anew, if that is worth it and the node may do so now. Returns its length. If a file
-// `log.new` was left when the node stopped while it wrote its log anew, that file is removed.
-fn write_anew<R: Files + AllocGlobal, E: Write>(
+/// Writes the log of so many bytes anew, if that is worth it and the node may do so now. The log is synced. Returns
+/// its length. If a file `log.new` was left when the node stopped while it wrote its log anew, that file is removed.
+/// If the new log cannot be written, `err` is told why.
+///
+/// Fails with `NotExchanged` if the new log was written, and cannot be put in the place of the old one. Nothing may be
+/// appended then.
+pub fn write_anew<R: Files + AllocGlobal, E: Write>(
     rt: &R,
     log: &mut FolderLog<'_, R>,
     node: &Node,

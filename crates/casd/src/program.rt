@@ -1,10 +1,12 @@
 //! The program, generic over its input and its writers.
 use crate::arguments::{Request, read_request};
 use crate::fault::Fault;
-use crate::opening::{open_log, read_file};
+use crate::folder::FolderLog;
+use crate::opening::{open_log, read_file, write_anew};
 use node::Node;
-use node_store::serve_frames;
-use std::io::{BufReader, Read, Write};
+use node_store::{ServeError, serve_frames};
+use std::io;
+use std::io::{BufReader, ErrorKind, Read, Write};
 use std::rt::Files;
 
 // The size of the buffer of the input, in bytes: that of a pipe.
@@ -66,5 +68,26 @@ fn run_node<R: Files + AllocGlobal, I: Read + Drop, O: Write, E: Write>(
     let Ok(mut input) = BufReader::with_capacity(rt.alloc(), INPUT_BUFFER, input) else {
         return Err(Fault::NoMemory);
     };
-    serve_frames(rt.alloc(), &mut node, &mut input, output, &mut log, length).map_err(Fault::Ended)
+    serve(rt, &mut node, &mut input, output, &mut log, length, err)
+}
+
+// The node handles the frames of the input, until it ends. Whenever the log has grown much, which has so many bytes at
+// first, it is written anew, if that is worth it and the node may do so then.
+fn serve<R: Files + AllocGlobal, I: Read + Drop, O: Write, E: Write>(
+    rt: &R,
+    node: &mut Node,
+    input: &mut BufReader<I>,
+    output: &mut O,
+    log: &mut FolderLog<'_, R>,
+    length: u64,
+    err: &mut E,
+) -> Result<(), Fault> {
+    let mut length = length;
+    for _ in 0..u64::MAX {
+        match serve_frames(rt.alloc(), node, input, output, log, length).map_err(Fault::Ended)? {
+            None => return Ok(()),
+            Some(end) => length = write_anew(rt, log, node, end, err)?,
+        }
+    }
+    Err(Fault::Ended(ServeError::NoInput(io::Error::from(ErrorKind::TimedOut))))
 }

@@ -1,15 +1,12 @@
 -- A log that is written anew, and the objects of a node.
-use Rattle.std.proofs.Common.{◌≡◌, ℕ, Bool, true, false, cond, List, [], ◌∷◌, map, IfSome, Option, None, Some, Result, Ok, Err, refl, sym}
-use Rattle.std.proofs.Common.{subst, ap, ◌∙◌}
+use Rattle.std.proofs.Common.{◌≡◌, ℕ, Bool, true, false, cond, List, [], ◌∷◌, IfSome, Option, None, Some, Result, Ok, Err, refl, sym}
+use Rattle.std.proofs.Common.{subst}
 use Rattle.std.specs.List.{AllByRecursion}
 use Rattle.layout.specs.Layout.{IsLawful, Layout}
 use Rattle.cluster_file.proofs.DigestLemmas.{placed_again}
-use Rattle.deeds.specs.Kept.{KeptNode, new_node}
-use Rattle.deeds.specs.Named.{NamedLetter}
 use Rattle.local_object.specs.declared.letter.Letter.{Letter}
 use Rattle.node_messages.specs.declared.error.Fault.{Fault}
 use Rattle.node_messages.specs.declared.message.NodeMessage.{NodeMessage}
-use Rattle.node_messages.specs.Message.{IsMessage}
 use Rattle.node_messages.specs.Reading.{message_from}
 use Rattle.node_messages.proofs.MessageLemmas.{message_ok}
 use Rattle.node_strings.specs.Arrival.{arrival_at}
@@ -21,6 +18,7 @@ use Rattle.object_letters.specs.Rebuildable.{HasLawfulLayouts, IsLawfulIfThere}
 use Rattle.recoveries.specs.Records.{LogRecord}
 use Rattle.rewritten_logs.specs.Sound.{HasOwnObjects}
 use Rattle.rewritten_logs.specs.Laws.{HasLawfulLetter, IsLawfulLetter}
+use Rattle.rewritten_logs.proofs.OwnCallLemmas.{handled_own_calls}
 use Rattle.rewritten_logs.proofs.OwnHandledLemmas.{handled_own}
 use Rattle.rewritten_logs.proofs.OwnObjectLemmas.{new_own, starts_own}
 use Rattle.rewritten_logs.proofs.OwnRecoveredLemmas.{recovered_own}
@@ -30,8 +28,9 @@ use Rattle.node_keeper.specs.Keeping.{heeds, if_heeded, kept_of, names_of}
 use Rattle.node_keeper.specs.Logging.{deeds_of, letter_records}
 use Rattle.node_keeper.specs.Sendings.{letter_of_message}
 use Rattle.node_keeper.specs.declared.keeper.Keeper.{Keeper}
-use Rattle.node.specs.Anew.{HandledFramesKeepOwn, NewNodesHaveOwn, RecoveredEntriesKeepOwn, StartedNodesKeepOwn}
-use Rattle.node.specs.Frames.{is_from_cluster, letter_from, letter_if_any, letter_if_read, letter_of_arrival, letters_in}
+use Rattle.node.specs.Anew.{HandledFramesKeepOwn, HandledFramesKeepOwnCalls, StartingNodesHaveOwn, OwnCallsAreDistinct}
+use Rattle.node.specs.Anew.{RecoveredEntriesKeepOwn, StartedNodesKeepOwn}
+use Rattle.node.specs.Frames.{is_from_cluster, letter_from, letter_if_any, letter_if_read, letters_in}
 
 -- Messages that are read have lawful layouts
 
@@ -72,7 +71,7 @@ came_lawful keeper (Some came.Tick) = tt
 
 -- The laws
 
-pub new_nodes : NewNodesHaveOwn
+pub new_nodes : StartingNodesHaveOwn
 new_nodes node file number lawful new =
     subst HasOwnObjects (sym new)
     (new_own (names_of file) number (λ name. placed_again file name lawful))
@@ -81,6 +80,13 @@ pub handled_frames : HandledFramesKeepOwn
 handled_frames old new frame effects handles own =
     handled_own (kept_of old.keeper) (kept_of new.keeper) (letters_in old.keeper frame) _ _
     (came_lawful old.keeper (arrival_at frame)) handles.handled.handled own
+
+pub handled_frames_calls : HandledFramesKeepOwnCalls
+handled_frames_calls old new frame effects handles own =
+    handled_own_calls (kept_of old.keeper) (kept_of new.keeper) (letters_in old.keeper frame) _ _ handles.handled.handled own
+
+pub own_distinct : OwnCallsAreDistinct
+own_distinct node own name = (own.own name).distinct
 
 letter_lawful : (recorded : (name : List ℕ) → Letter → LogRecord)
     → ((name : List ℕ) (letter : Letter) → HasLawfulLayouts letter → HasLawfulLetter (recorded name letter))

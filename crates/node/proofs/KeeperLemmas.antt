@@ -10,7 +10,7 @@ use Rattle.client_commands.specs.declared.answer.Answer.TheVariants as answers
 use Rattle.client_commands.specs.declared.answer.AnswerError.TheVariants as errors
 use Rattle.client_commands.specs.declared.command.Command.{Command}
 use Rattle.node_objects.specs.Objects.{objects_of}
-use Rattle.local_object.specs.Doing.{is_request}
+use Rattle.mail.specs.Message.{is_request}
 use Rattle.node_effects.specs.Seen.{named_of}
 use Rattle.string_parts.specs.Strings.{Strings}
 use Rattle.node_effects.specs.Work.{IsGrown}

@@ -7,6 +7,7 @@ use Rattle.deeds.specs.Kept.{new_node}
 use Rattle.node_log.specs.Entry.{IsEntry}
 use Rattle.recoveries.specs.Copies.{IsCopyOf, IsRecorded}
 use Rattle.recoveries.specs.Records.{IsStarted, LogRecord}
+use Rattle.rewritten_logs.specs.Calls.{HasOwnCalls}
 use Rattle.rewritten_logs.specs.Sound.{HasDistinctCalls, HasOwnObjects}
 use Rattle.string_parts.specs.Strings.{Strings}
 use Rattle.node_effects.specs.declared.effects.Effects.{Effects}
@@ -51,8 +52,8 @@ AnewGivesCopies = (node first last : Node) (entries : List Strings) → AreAnew 
     CarriesOutAll first entries last → IsCopyOf (kept_of node.keeper) (kept_of last.keeper)
 
 -- all objects of a new node are its own
-abbrev pub NewNodesHaveOwn : Type 0
-NewNodesHaveOwn = (node : Node) (file : FileContents) (number : ℕ) → IsLawfulFile file →
+abbrev pub StartingNodesHaveOwn : Type 0
+StartingNodesHaveOwn = (node : Node) (file : FileContents) (number : ℕ) → IsLawfulFile file →
     kept_of node.keeper ≡ new_node (names_of file) number → HasOwnObjects (kept_of node.keeper)
 
 -- they stay its own as it handles a frame
@@ -69,3 +70,12 @@ RecoveredEntriesKeepOwn = (old new : Node) (entry : Strings) → CarriesOutEntry
 abbrev pub StartedNodesKeepOwn : Type 0
 StartedNodesKeepOwn = (old new : Node) → IsStarted (kept_of old.keeper) (kept_of new.keeper) →
     HasOwnObjects (kept_of old.keeper) → HasOwnObjects (kept_of new.keeper)
+
+-- the ids of the open calls of a node stay its own as it handles a frame
+abbrev pub HandledFramesKeepOwnCalls : Type 0
+HandledFramesKeepOwnCalls = (old new : Node) (frame : Strings) (effects : Effects) → Handles old frame effects new →
+    HasOwnCalls (kept_of old.keeper) → HasOwnCalls (kept_of new.keeper)
+
+-- such a node meets the premise of `AnewGivesCopies` about its calls
+abbrev pub OwnCallsAreDistinct : Type 0
+OwnCallsAreDistinct = (node : Node) → HasOwnCalls (kept_of node.keeper) → HasDistinctCalls (kept_of node.keeper)

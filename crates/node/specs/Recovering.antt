@@ -64,14 +64,14 @@ pub record CarriesOutEntry (old : Node) (entry : Strings) (new : Node) : Type 0 
 -- Refusals
 
 -- a frame is no message
-abbrev pub IsUnread : Result NodeMessage Fault → Type 0
-IsUnread (Ok message) = ⊥
-IsUnread (Err fault) = ⊤
+abbrev pub IsNoMessage : Result NodeMessage Fault → Type 0
+IsNoMessage (Ok message) = ⊥
+IsNoMessage (Err fault) = ⊤
 
 -- why a node refuses a record with a letter: there is no memory, or its frame is no message
 abbrev pub RefusesLetter : (frame : Strings) → RecoveryError → Type 0
 RefusesLetter frame error = (error ≡ refusals.Stopped errors.NoMemory)
-    ⊎ ((error ≡ refusals.NoEntry) × IsUnread (message_from frame))
+    ⊎ ((error ≡ refusals.NoEntry) × IsNoMessage (message_from frame))
 
 -- why a node refuses a record of a log that is its own: the record names a cluster once more, or is a start although
 -- all epochs have begun, or has a letter that is no message, or is a move that its object refuses; or there is no

@@ -1,6 +1,7 @@
 //! That a node has from a log that was written anew what it has from the old one.
-ghost use Rattle.node.specs.Anew.{AnewGivesCopies, HandledFramesKeepOwn, NewNodesHaveOwn};
-ghost use Rattle.node.specs.Anew.{RecoveredEntriesKeepOwn, StartedNodesKeepOwn};
+ghost use Rattle.node.specs.Anew.{AnewGivesCopies, HandledFramesKeepOwn, HandledFramesKeepOwnCalls};
+ghost use Rattle.node.specs.Anew.{OwnCallsAreDistinct, RecoveredEntriesKeepOwn, StartedNodesKeepOwn};
+ghost use Rattle.node.specs.Anew.{StartingNodesHaveOwn};
 
 /// A law: what a new node has from the entries that `Node::entries_anew` returns is a copy of the node.
 pub fn anew_gives_copies()
@@ -9,7 +10,7 @@ pub fn anew_gives_copies()
 
 /// A law: all objects of a new node are its own.
 pub fn new_nodes_have_own()
-    ensures { NewNodesHaveOwn }
+    ensures { StartingNodesHaveOwn }
 {}
 
 /// A law: all objects of a node stay its own as it handles a frame.
@@ -25,4 +26,16 @@ pub fn recovered_entries_keep_own()
 /// A law: all objects of a node stay its own as it starts.
 pub fn started_nodes_keep_own()
     ensures { StartedNodesKeepOwn }
+{}
+
+/// A law: the ids of a node's open calls stay its own as it handles a frame. With `new_nodes_have_own_calls` and
+/// `restarting_keeps_own_calls` of `rewritten_logs`, they are its own at each moment.
+pub fn handled_frames_keep_own_calls()
+    ensures { HandledFramesKeepOwnCalls }
+{}
+
+/// A law: where they are its own, no two calls of one object have the same id. So `anew_gives_copies` holds also while
+/// reads and writes are open.
+pub fn own_calls_are_distinct()
+    ensures { OwnCallsAreDistinct }
 {}

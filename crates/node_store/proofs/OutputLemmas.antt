@@ -6,7 +6,7 @@ use Rattle.std.specs.Io.KnownBytes.{Appends}
 use Rattle.std.proofs.lemmas.Grind.{flat_map-append}
 use Rattle.frames.specs.Frame.{frame_bytes}
 use Rattle.frames.specs.Writing.{Writes}
-use Rattle.node_log.specs.Entry.{entry_bytes}
+use Rattle.node_log.specs.Entry.{log_entry_bytes}
 use Rattle.node_effects.specs.declared.output.Output.{Output}
 use Rattle.node_effects.specs.declared.output.Output.TheVariants as output
 use Rattle.node_store.specs.Logs.{Grows}
@@ -56,7 +56,7 @@ gathers_then a b c xs ys p q prior has =
 
 -- an entry is added
 pub gathers_entry : (a b : Batch) (entry : List (List ℕ)) → b.early.items ≡ a.early.items
-    → b.log.items ≡ a.log.items ++ entry_bytes entry → b.output.items ≡ a.output.items → Gathers a b (output.Log entry ∷ [])
+    → b.log.items ≡ a.log.items ++ log_entry_bytes entry → b.output.items ≡ a.output.items → Gathers a b (output.Log entry ∷ [])
 gathers_entry a b entry early log late prior has =
     let one : Output = output.Log entry in record {
       first = has.first;
@@ -64,9 +64,9 @@ gathers_entry a b entry early log late prior has =
       all = ap (λ (t : List Output). t ++ one ∷ []) has.all ∙ append_assoc has.first has.rest (one ∷ []);
       unlogged = has.unlogged;
       early = early ∙ has.early;
-      log = log ∙ ap (λ (t : List ℕ). t ++ entry_bytes entry) has.log ∙ sym (bytes_push logged_of has.rest one);
+      log = log ∙ ap (λ (t : List ℕ). t ++ log_entry_bytes entry) has.log ∙ sym (bytes_push logged_of has.rest one);
       late = late ∙ has.late ∙ sym (bytes_push sent_of has.rest one ∙ append-nil (all_sent has.rest));
-      none = λ is. late ∙ has.none (none_before a.log.items (entry_bytes entry) (sym log ∙ is));
+      none = λ is. late ∙ has.none (none_before a.log.items (log_entry_bytes entry) (sym log ∙ is));
     }
 
 -- a frame is added that no entry precedes
@@ -109,7 +109,7 @@ gathers_late a b frame some early log late prior has =
 
 -- the same, if the bytes could be added
 pub entry_added : {E : Type 0} (result : Result (Unit {0}) E) (a b : Batch) (entry : List (List ℕ))
-    → Writes (Some a.log.items) (Some b.log.items) result (entry_bytes entry) → b.early.items ≡ a.early.items
+    → Writes (Some a.log.items) (Some b.log.items) result (log_entry_bytes entry) → b.early.items ≡ a.early.items
     → b.output.items ≡ a.output.items → OnOk result (Gathers a b (output.Log entry ∷ []))
 entry_added (Ok done) a b entry wrote early late = gathers_entry a b entry early wrote late
 entry_added (Err error) a b entry wrote early late = tt

@@ -3,7 +3,7 @@ use Rattle.std.proofs.Common.{◌≡◌, ℕ, ◌+◌, ◌<◌, ◌≤◌, ◌^�
 use Rattle.std.proofs.Common.{sym, ap, subst, ◌∙◌, refl, arith, length-append}
 use Rattle.std.specs.List.{FoldsTo, AllByRecursion}
 use Rattle.std.specs.Io.KnownBytes.{Consumes}
-use Rattle.node_log.specs.Entry.{entry_bytes}
+use Rattle.node_log.specs.Entry.{log_entry_bytes}
 use Rattle.node_log.specs.Reading.{HadLeft, IsEnd}
 use Rattle.node_store.specs.Recovery.{IsWholeEntry, log_bytes, IsRefusedAt, IsEntryAt, StopsFor}
 use Rattle.node_store.specs.Recovery.{HasReadNext, HasRecovered}
@@ -13,24 +13,24 @@ use Rattle.node_store.specs.declared.error.StoreFault.TheVariants as faults
 use Rattle.node_store.proofs.GrowthLemmas.{Known, consumes_then, consumes_none, left_behind, bytes_push, all_push, folds_then}
 
 -- an entry has a byte
-pub entry_has_bytes : (strings : List (List ℕ)) → 0 < length (entry_bytes strings)
+pub entry_has_bytes : (strings : List (List ℕ)) → 0 < length (log_entry_bytes strings)
 entry_has_bytes strings = omega arith
 
 -- the entry stands at the front of what the reader had
 pub entry_at : (P : List (List ℕ) → Type 0) (entry : List (List ℕ)) (had left : Known) → IsWholeEntry entry → P entry
-    → Consumes had left (entry_bytes entry) → HadLeft (IsEntryAt P) had
+    → Consumes had left (log_entry_bytes entry) → HadLeft (IsEntryAt P) had
 entry_at P entry None left whole holds took = tt
 entry_at P entry (Some xs) None whole holds took = absurd took
 entry_at P entry (Some xs) (Some ys) whole holds took = (entry, ys, whole, took, holds)
 
 -- an entry that is refused is why reading stops
 pub refused_stops : (at : ℕ) (fault : StoreFault) (entry : List (List ℕ)) (had left : Known) → IsWholeEntry entry
-    → IsRefusedAt at entry fault → Consumes had left (entry_bytes entry) → HadLeft (StopsFor at fault) had
+    → IsRefusedAt at entry fault → Consumes had left (log_entry_bytes entry) → HadLeft (StopsFor at fault) had
 refused_stops at (faults.Damaged damage) entry had left whole refused took = absurd refused
 refused_stops at (faults.NotCarriedOut error) entry had left whole refused took =
     entry_at (λ entry. Unit {0}) entry had left whole tt took
 refused_stops at faults.TooLong entry had left whole refused took =
-    entry_at (λ entry. 2 ^ 64 ≤ at + length (entry_bytes entry)) entry had left whole refused took
+    entry_at (λ entry. 2 ^ 64 ≤ at + length (log_entry_bytes entry)) entry had left whole refused took
 refused_stops at faults.NoMemory entry None left whole refused took = tt
 refused_stops at faults.NoMemory entry (Some xs) left whole refused took = tt
 refused_stops at (faults.Failed error) entry had left whole refused took = absurd refused
@@ -50,14 +50,15 @@ module _ {M : Type 0} (carries_out : M → List (List ℕ) → M → Type 0) whe
   so_far_more old mid new had left next at end p q =
       let (entries, whole, folds, bytes, took) = p in
       let (entry, is_whole, carried, took_more, ends) = q in
-      let push : log_bytes (entries ++ entry ∷ []) ≡ log_bytes entries ++ entry_bytes entry = bytes_push entry_bytes entries entry in (
+      let push : log_bytes (entries ++ entry ∷ []) ≡ log_bytes entries ++ log_entry_bytes entry =
+      bytes_push log_entry_bytes entries entry in (
         entries ++ entry ∷ [],
         all_push IsWholeEntry entries entry whole is_whole,
         folds_then carries_out old entries mid (entry ∷ []) new folds (new, carried, refl),
-        ends ∙ ap (λ (n : ℕ). n + length (entry_bytes entry)) bytes
-            ∙ sym (length-append (log_bytes entries) (entry_bytes entry)) ∙ ap length (sym push),
+        ends ∙ ap (λ (n : ℕ). n + length (log_entry_bytes entry)) bytes
+            ∙ sym (length-append (log_bytes entries) (log_entry_bytes entry)) ∙ ap length (sym push),
         subst (Consumes had next) (sym push)
-            (consumes_then had left next (log_bytes entries) (entry_bytes entry) took took_more),
+            (consumes_then had left next (log_bytes entries) (log_entry_bytes entry) took took_more),
       )
 
   pub read_as : (at : ℕ) (old new : M) (had left : Known) (found end : Option ℕ) → found ≡ end

@@ -2,7 +2,7 @@
 -- What holds for every log.
 use Rattle.std.specs.Prelude.{◌≡◌, ◌++◌, ℕ, List, take, replicate}
 use Rattle.std.specs.List.{AllByRecursion}
-use Rattle.node_log.specs.Reading.{HasEntry, IsEnd}
+use Rattle.node_log.specs.Reading.{HasLogEntry, IsEnd}
 use Rattle.node_store.specs.Recovery.{IsWholeEntry, log_bytes, BeginsWith}
 
 -- what is left of a log that is cut anywhere, also if zeros follow the cut: the bytes of its first entries, and after
@@ -16,4 +16,4 @@ CutLogIsFront = (entries : List (List (List ℕ))) (front back : List ℕ) (zero
 abbrev pub LogIsReadOnce : Type 0
 LogIsReadOnce = (es fs : List (List (List ℕ))) (x y : List ℕ) → AllByRecursion IsWholeEntry es
     → AllByRecursion IsWholeEntry fs → log_bytes es ++ x ≡ log_bytes fs ++ y
-    → (HasEntry x → ⊥) → (HasEntry y → ⊥) → (es ≡ fs) × (x ≡ y)
+    → (HasLogEntry x → ⊥) → (HasLogEntry y → ⊥) → (es ≡ fs) × (x ≡ y)

@@ -4,7 +4,7 @@ use Rattle.std.specs.Prelude.{◌≡◌, ◌++◌, [], ℕ, List, Option}
 use Rattle.std.specs.List.{flat_map}
 use Rattle.std.specs.Io.KnownBytes.{Appends}
 use Rattle.frames.specs.Frame.{frame_bytes}
-use Rattle.node_log.specs.Entry.{entry_bytes}
+use Rattle.node_log.specs.Entry.{log_entry_bytes}
 use Rattle.node_effects.specs.Work.{send_all}
 use Rattle.node_effects.specs.declared.effects.Effects.{Effects}
 use Rattle.node_effects.specs.declared.output.Output.{Output}
@@ -12,12 +12,12 @@ use Rattle.node_effects.specs.declared.output.Output.TheVariants as output
 use Rattle.node_store.specs.declared.batch.Batch.{Batch}
 
 -- what a machine wants done: entries for its log and frames to nodes, in its order, and behind them answers to clients
-abbrev pub outputs_of : Effects → List Output
-outputs_of effects = effects.outputs.items ++ send_all effects.answers.items
+abbrev pub effects_outputs : Effects → List Output
+effects_outputs effects = effects.outputs.items ++ send_all effects.answers.items
 
 -- the bytes that the log gets
 abbrev pub logged_of : Output → List ℕ
-logged_of (output.Log entry) = entry_bytes entry
+logged_of (output.Log entry) = log_entry_bytes entry
 logged_of (output.Send frame) = []
 
 -- the bytes that are sent

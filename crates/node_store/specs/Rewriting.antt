@@ -1,6 +1,6 @@
 -- The contracts that docs/trusted.md lists do not depend on this file; other contracts and proofs do.
 -- What a log has after it was written anew.
-use Rattle.std.specs.Prelude.{◌≡◌, ◌⊎◌, ℕ, List, length, Option, Some, None, Result, Ok, Err, ⊤}
+use Rattle.std.specs.Prelude.{◌≡◌, ◌⊎◌, ◌+◌, ◌*◌, ◌≤◌, ℕ, List, length, Option, Some, None, Result, Ok, Err, ⊤}
 use Rattle.std.specs.Io.KnownBytes.{Keeps}
 use Rattle.node_store.specs.declared.rewriting.Rewriting.{Rewriting}
 use Rattle.node_store.specs.declared.rewriting.Rewriting.TheVariants as ends
@@ -24,3 +24,7 @@ abbrev pub HasRewritten : {E : Type 0} → (old new : Option (List ℕ)) → Lis
 HasRewritten old new bytes (Ok (ends.Done count)) = Becomes old new (Some bytes) × (count ≡ length bytes)
 HasRewritten old new bytes (Ok (ends.GivenUp error)) = Keeps old new
 HasRewritten old new bytes (Err error) = KeepsOrBecomes old new (Some bytes)
+
+-- a log of so many bytes has become one of so many bytes: at least twice as many, and at least 16 MiB more
+abbrev pub HasGrown : (before now : ℕ) → Type 0
+HasGrown before now = (2 * before ≤ now) × (before + 16_777_216 ≤ now)

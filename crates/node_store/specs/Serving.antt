@@ -1,6 +1,6 @@
 -- The contracts that docs/trusted.md lists do not depend on this file; other contracts and proofs do.
 -- What the loop of a machine did.
-use Rattle.std.specs.Prelude.{◌≡◌, ◌⊎◌, ◌++◌, [], ℕ, List, Bool, true, false, Option, Result, Ok, Err, ⊤}
+use Rattle.std.specs.Prelude.{◌≡◌, ◌⊎◌, ◌++◌, [], ℕ, List, Bool, true, false, Option, None, Some, Result, Ok, Err, ⊤}
 use Rattle.std.specs.List.{flat_map, FoldsTo}
 use Rattle.std.specs.Io.KnownBytes.{Consumes}
 use Rattle.frames.specs.Frame.{frame_bytes}
@@ -9,7 +9,7 @@ use Rattle.frames.specs.declared.error.Fault.TheVariants.{UnexpectedEnd}
 use Rattle.node_log.specs.Reading.{HadLeft}
 use Rattle.node_effects.specs.declared.effects.Effects.{Effects}
 use Rattle.node_effects.specs.declared.output.Output.{Output}
-use Rattle.node_store.specs.Outputs.{Gathers, WritesAll, WritesFirst, outputs_of}
+use Rattle.node_store.specs.Outputs.{Gathers, WritesAll, WritesFirst, effects_outputs}
 use Rattle.node_store.specs.declared.batch.Batch.{Batch}
 use Rattle.node_store.specs.declared.stop.ServeError.{ServeError}
 use Rattle.node_store.specs.declared.stop.ServeError.TheVariants as stops
@@ -27,7 +27,7 @@ read_by (Handles frame effects) = frame_bytes frame
 -- what the machine wants done, in its order
 abbrev pub outputs_by : LoopEvent → List Output
 outputs_by (Notes bytes) = []
-outputs_by (Handles frame effects) = outputs_of effects
+outputs_by (Handles frame effects) = effects_outputs effects
 
 -- the same of all these events
 abbrev pub all_outputs : List LoopEvent → List Output
@@ -74,7 +74,7 @@ module _ {M : Type 0} (handles : M → List (List ℕ) → Effects → M → Typ
   -- the machine handled a frame, and what it wants done waits in the batch
   abbrev pub IsFrameHandled : M → M → List (List ℕ) → Batch → Batch → Type 0
   IsFrameHandled old new frame before after =
-      (effects : Effects) × handles old frame effects new × Gathers before after (outputs_of effects)
+      (effects : Effects) × handles old frame effects new × Gathers before after (effects_outputs effects)
 
   -- the loop stops after the frames of some events, whose effects are lost
   abbrev pub StopsBehind : M → Option (List ℕ) → ServeError → Type 0
@@ -109,8 +109,12 @@ module _ {M : Type 0} (handles : M → List (List ℕ) → Effects → M → Typ
       × WritesAll kept keeps held holds (all_outputs events)
   ServesSome old new had left kept keeps held holds (Err error) = StopsEarly old had kept keeps held holds error
 
-  -- the same for all frames of the input, up to its end
-  abbrev pub ServesAll : M → M → (had : Option (List ℕ)) → (kept keeps : Option (List ℕ))
-      → (held holds : Option (List ℕ)) → Result (Unit {0}) ServeError → Type 0
-  ServesAll old new had kept keeps held holds (Ok done) = ServesSome old new had had kept keeps held holds (Ok false)
-  ServesAll old new had kept keeps held holds (Err error) = StopsEarly old had kept keeps held holds error
+  -- the same for all frames of the input, up to its end, if no length of the log is returned; or for the first ones, if
+  -- the log has grown to this length
+  abbrev pub ServesUntil : M → M → (had left : Option (List ℕ)) → (kept keeps : Option (List ℕ))
+      → (held holds : Option (List ℕ)) → Result (Option ℕ) ServeError → Type 0
+  ServesUntil old new had left kept keeps held holds (Ok None) =
+      ServesSome old new had left kept keeps held holds (Ok false)
+  ServesUntil old new had left kept keeps held holds (Ok (Some end)) =
+      ServesSome old new had left kept keeps held holds (Ok true)
+  ServesUntil old new had left kept keeps held holds (Err error) = StopsEarly old had kept keeps held holds error

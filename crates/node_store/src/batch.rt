@@ -2,7 +2,7 @@
 ghost use Rattle.std.specs.Prelude.{◌∷◌, [], OnOk};
 ghost use Rattle.node_effects.specs.Work.{send_all};
 ghost use Rattle.node_effects.specs.declared.output.Output.TheVariants.{Send};
-ghost use Rattle.node_store.specs.Outputs.{Gathers, HasGathered, outputs_of};
+ghost use Rattle.node_store.specs.Outputs.{Gathers, HasGathered, effects_outputs};
 
 use frames::{Frame, write_frame};
 use node_effects::{Effects, Output};
@@ -43,7 +43,7 @@ impl Batch {
 
     /// Adds the bytes of what a machine wants done. Fails only if memory is refused.
     pub fn push(&mut self, effects: &Effects) -> io::Result<()>
-        ensures { OnOk result (Gathers self.old self.new (outputs_of effects.now)) }
+        ensures { OnOk result (Gathers self.old self.new (effects_outputs effects.now)) }
     {
         self.push_outputs(&effects.outputs)?;
         self.push_frames(&effects.answers)

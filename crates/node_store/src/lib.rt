@@ -6,7 +6,7 @@ pub use error::{StoreError, StoreFault};
 pub use laws::{cut_logs_are_fronts, logs_are_read_once};
 pub use log::{Log, LogFile};
 pub use reading::recover_machine;
-pub use rewriting::{Rewriting, is_worth_rewriting, rewrite_log};
+pub use rewriting::{Rewriting, has_grown, is_worth_rewriting, rewrite_log};
 pub use second::RewritableLog;
 pub use serving::serve_frames;
 pub use stop::ServeError;

@@ -1,6 +1,6 @@
 //! The log at a node's start.
 ghost use Rattle.std.specs.Prelude.{◌≡◌, ◌+◌, length, IfOk, MatchResult};
-ghost use Rattle.node_log.specs.Entry.{entry_bytes};
+ghost use Rattle.node_log.specs.Entry.{log_entry_bytes};
 ghost use Rattle.node_store.specs.Recovery.{HasRecovered, HasReadNext, IsRefusedAt};
 
 use crate::error::{StoreError, StoreFault};
@@ -72,7 +72,7 @@ fn carry_out<M: Machine>(
     at: u64,
 ) -> Result<u64, StoreFault>
     ensures { MatchResult result
-        (λ end. M.carries_out machine.old entry machine.new × (end ≡ at + length (entry_bytes entry)))
+        (λ end. M.carries_out machine.old entry machine.new × (end ≡ at + length (log_entry_bytes entry)))
         (λ fault. IsRefusedAt at entry fault) }
 {
     let Ok(length) = entry_length(alloc, &entry) else {
@@ -89,7 +89,7 @@ fn carry_out<M: Machine>(
 
 // The number of bytes of an entry in a log. It writes the entry to memory, and fails only where that is refused.
 fn entry_length(alloc: Global, entry: &Entry) -> io::Result<usize>
-    ensures { IfOk result (λ len. len ≡ length (entry_bytes entry.now)) }
+    ensures { IfOk result (λ len. len ≡ length (log_entry_bytes entry.now)) }
 {
     let mut bytes = Vec::new(alloc);
     write_entry(&mut bytes, entry)?;

@@ -2,7 +2,7 @@
 ghost use Rattle.std.specs.Prelude.{◌≡◌, ◌↔◌, ◌+◌, ◌*◌, ◌≤◌, [], IsTrue, OnOk, IfOk, length, vec_len};
 ghost use Rattle.std.specs.Io.KnownBytes.{Appends};
 ghost use Rattle.node_store.specs.Recovery.{log_bytes};
-ghost use Rattle.node_store.specs.Rewriting.{HasRewritten, IsBeside};
+ghost use Rattle.node_store.specs.Rewriting.{HasGrown, HasRewritten, IsBeside};
 
 use crate::log::Log;
 use crate::second::RewritableLog;
@@ -32,6 +32,16 @@ pub fn is_worth_rewriting(length: u64, needed: u64) -> bool
     ensures { IsTrue result ↔ (2 * needed + 16_777_216 ≤ length) }
 {
     length >= SPARED_BYTES && (length - SPARED_BYTES) / 2 >= needed
+}
+
+/// Whether a log that had `before` bytes, and has `now` bytes, has grown so much that it is time to ask whether it is
+/// worth writing anew: whether it has at least twice as many bytes, and at least 16 MiB more.
+///
+/// So a machine that is asked only then is asked rarely.
+pub fn has_grown(before: u64, now: u64) -> bool
+    ensures { IsTrue result ↔ HasGrown before now }
+{
+    now >= SPARED_BYTES && now - SPARED_BYTES >= before && now / 2 >= before
 }
 
 /// Writes a log anew, so that it has these entries and no others. It writes them to a second log and syncs that, puts

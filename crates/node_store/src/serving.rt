@@ -1,13 +1,15 @@
 //! The loop of a node: frames in, entries to the log, frames out.
-ghost use Rattle.std.specs.Prelude.{◌≡◌, [], List, OnOk, IfOk};
+ghost use Rattle.std.specs.Prelude.{◌≡◌, [], ⊤, List, MatchOption, OnOk, IfOk};
 ghost use Rattle.std.specs.Io.Buffered.{reader_remaining};
 ghost use Rattle.frames.specs.Writing.{Writes};
 ghost use Rattle.node_effects.specs.declared.output.Output.{Output};
 ghost use Rattle.node_store.specs.Outputs.{HasGathered};
-ghost use Rattle.node_store.specs.Serving.{ServesAll, ServesSome, HandlesArrived, IsFrameHandled, WritesOutputs};
+ghost use Rattle.node_store.specs.Rewriting.{HasGrown};
+ghost use Rattle.node_store.specs.Serving.{ServesUntil, ServesSome, HandlesArrived, IsFrameHandled, WritesOutputs};
 
 use crate::batch::Batch;
 use crate::log::Log;
+use crate::rewriting::has_grown;
 use crate::stop::ServeError;
 use crate::writing::append_bytes;
 use frames::{Fault, Frame, FrameError, read_frame, write_bytes};
@@ -19,12 +21,15 @@ use std::io::{BufReader, ErrorKind, Read, Write};
 // How many frames are handled before the log is synced, at most.
 const MOST_AT_ONCE: u16 = 1024;
 
-/// Handles the frames of the input, until it ends. All frames that have arrived are handled one after another. Then the
-/// frames are written that were wanted before any entry. After that the entries are appended to the log, which is
-/// synced once, and only then are the other frames written.
+/// Handles the frames of the input, until it ends or the log has grown so much that it may be worth writing anew. All
+/// frames that have arrived are handled one after another. Then the frames are written that were wanted before any
+/// entry. After that the entries are appended to the log, which is synced once, and only then are the other frames
+/// written.
 ///
-/// `length` is the length of the log, which is synced. An input that ends within a frame counts as ended there. After
-/// 2^64 - 1 rounds the error is `NoInput` with `TimedOut`.
+/// `length` is the length of the log, which is synced. Returns none at the end of the input. Otherwise it returns the
+/// length that the log has then, which has grown as `has_grown` says; nothing waits to be written, and the log is
+/// synced. An input that ends within a frame counts as ended there. After 2^64 - 1 rounds the error is `NoInput` with
+/// `TimedOut`.
 pub fn serve_frames<M: Machine, I: Read + Drop, O: Write, L: Log>(
     alloc: Global,
     machine: &mut M,
@@ -32,20 +37,26 @@ pub fn serve_frames<M: Machine, I: Read + Drop, O: Write, L: Log>(
     output: &mut O,
     log: &mut L,
     length: u64,
-) -> Result<(), ServeError>
+) -> Result<Option<u64>, ServeError>
     requires { L.kept log.old ≡ L.written log.old }
-    ensures { ServesAll M.handles M.notes machine.old machine.new (reader_remaining I.remaining input.old)
+    ensures serves { ServesUntil M.handles M.notes machine.old machine.new
+        (reader_remaining I.remaining input.old) (reader_remaining I.remaining input.new)
         (L.kept log.old) (L.kept log.new) (O.contents output.old) (O.contents output.new) result }
+    ensures synced { OnOk result (L.kept log.new ≡ L.written log.new) }
+    ensures grown { IfOk result (λ end. MatchOption end ⊤ (HasGrown length)) }
 {
-    let mut length = length;
+    let mut end = length;
     let mut batch = Batch::new(alloc);
     for _ in 0..u64::MAX {
-        machine.note_log(length);
+        machine.note_log(end);
         if !serve_arrived(alloc, machine, input, output, log, &mut batch)? {
-            return Ok(());
+            return Ok(None);
         }
-        length = length.saturating_add(batch.log.len() as u64);
+        end = end.saturating_add(batch.log.len() as u64);
         batch.clear();
+        if has_grown(length, end) {
+            return Ok(Some(end));
+        }
     }
     Err(ServeError::NoInput(io::Error::from(ErrorKind::TimedOut)))
 }

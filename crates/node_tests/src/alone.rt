@@ -17,7 +17,7 @@ pub(crate) struct Alone {
     pub(crate) last: Effects,
 }
 
-/// A node that has no log.
+/// Returns a node that has no log.
 pub(crate) fn new_node(rt: &impl Abort, alloc: Global) -> Node {
     let text = b"nodes 1\nn 1\nk 1\ndelta 8\nmover 1\nlater\nticks 2\n";
     let file = read_cluster_file(alloc, text).expect(rt, "a cluster file");
@@ -30,7 +30,7 @@ pub(crate) fn new_log(rt: &impl Abort, alloc: Global) -> Vec<Entry> {
     node.start().expect(rt, "a start")
 }
 
-/// The strings as a frame.
+/// Returns the strings as a frame.
 pub(crate) fn frame(rt: &impl Abort, alloc: Global, words: &[&str]) -> Frame {
     let mut strings = Vec::new(alloc);
     for word in words {

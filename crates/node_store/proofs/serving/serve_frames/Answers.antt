@@ -5,26 +5,26 @@ use Rattle.node_store.specs.declared.stop.ServeError.TheVariants.{NoInput}
 use Rattle.node_store.proofs.ServingLemmas.{serves_more, serves_as, serves_idle, going, stopped}
 use Rattle.node_store.proofs.serving.serve_frames.Goals as goal
 
-pub returns-in_err-serve_arrived : goal.returns-in_err-serve_arrived
-returns-in_err-serve_arrived g c =
+pub returns-in_err-serve_arrived-clause-serves : goal.returns-in_err-serve_arrived-clause-serves
+returns-in_err-serve_arrived-clause-serves g c =
     let p = err_from_is_err_and c.from_residual.result c.from_residual.ensures.1 in
     let known = reader_remaining g.I.Read.remaining in
     let kept = g.L.Log.kept in
     let held = g.O.Write.contents in
     rw (p.1, p.2) (serves_more g.M.Machine.handles g.M.Machine.notes
-    c.args.machine.now c.loop.machine c.note_log.new.self c.serve_arrived.new.machine c.loop.length
+    c.args.machine.now c.loop.machine c.note_log.new.self c.serve_arrived.new.machine c.loop.end
     (known c.args.input.now) (known c.loop.input) (known c.serve_arrived.new.input)
     (kept c.args.log.now) (kept c.loop.log) (kept c.serve_arrived.new.log)
     (held c.args.output.now) (held c.loop.output) (held c.serve_arrived.new.output)
     (stopped c.in_err-serve_arrived.field-0.0) c.loop.invariant.0 c.note_log.ensures c.in_err-serve_arrived.ensures.serves)
 
-pub returns-then-not-branch : goal.returns-then-not-branch
-returns-then-not-branch g c =
+pub returns-then-not-branch-clause-serves : goal.returns-then-not-branch-clause-serves
+returns-then-not-branch-clause-serves g c =
     let known = reader_remaining g.I.Read.remaining in
     let kept = g.L.Log.kept in
     let held = g.O.Write.contents in
     serves_more g.M.Machine.handles g.M.Machine.notes
-    c.args.machine.now c.loop.machine c.note_log.new.self c.serve_arrived.new.machine c.loop.length
+    c.args.machine.now c.loop.machine c.note_log.new.self c.serve_arrived.new.machine c.loop.end
     (known c.args.input.now) (known c.loop.input) (known c.serve_arrived.new.input)
     (kept c.args.log.now) (kept c.loop.log) (kept c.serve_arrived.new.log)
     (held c.args.output.now) (held c.loop.output) (held c.serve_arrived.new.output)
@@ -40,7 +40,7 @@ loop-preserved g c =
     let kept = g.L.Log.kept in
     let held = g.O.Write.contents in (
       serves_more g.M.Machine.handles g.M.Machine.notes
-          c.args.machine.now c.loop.machine c.note_log.new.self c.serve_arrived.new.machine c.loop.length
+          c.args.machine.now c.loop.machine c.note_log.new.self c.serve_arrived.new.machine c.loop.end
           (known c.args.input.now) (known c.loop.input) (known c.serve_arrived.new.input)
           (kept c.args.log.now) (kept c.loop.log) (kept c.serve_arrived.new.log)
           (held c.args.output.now) (held c.loop.output) (held c.serve_arrived.new.output)
@@ -53,8 +53,24 @@ loop-preserved g c =
       c.clear.ensures,
     )
 
-pub returns : goal.returns
-returns g c =
+pub returns-then-has_grown-clause-serves : goal.returns-then-has_grown-clause-serves
+returns-then-has_grown-clause-serves g c =
+    let known = reader_remaining g.I.Read.remaining in
+    let kept = g.L.Log.kept in
+    let held = g.O.Write.contents in
+    serves_more g.M.Machine.handles g.M.Machine.notes
+    c.args.machine.now c.loop.machine c.note_log.new.self c.serve_arrived.new.machine c.loop.end
+    (known c.args.input.now) (known c.loop.input) (known c.serve_arrived.new.input)
+    (kept c.args.log.now) (kept c.loop.log) (kept c.serve_arrived.new.log)
+    (held c.args.output.now) (held c.loop.output) (held c.serve_arrived.new.output)
+    (going true) c.loop.invariant.0 c.note_log.ensures
+    (serves_as g.M.Machine.handles g.M.Machine.notes c.note_log.new.self c.serve_arrived.new.machine
+    (known c.loop.input) (known c.serve_arrived.new.input) (kept c.loop.log) (kept c.serve_arrived.new.log)
+    (held c.loop.output) (held c.serve_arrived.new.output) c.in_ok-serve_arrived.field-0 true (search rules)
+    c.in_ok-serve_arrived.ensures.serves)
+
+pub returns-clause-serves : goal.returns-clause-serves
+returns-clause-serves g c =
     let known = reader_remaining g.I.Read.remaining in
     let kept = g.L.Log.kept in
     let held = g.O.Write.contents in
