@@ -12,6 +12,7 @@ import re
 import shutil
 import subprocess
 import sys
+from functools import cache
 
 sys.dont_write_bytecode = True
 
@@ -101,6 +102,7 @@ def free_memory():
     return rt.free()
 
 
+@cache
 def likely_memory(crate):
-    """The memory that a check of the crate is likely to take, in bytes."""
+    """The memory that a check of the crate is likely to take, in bytes. The kit reads all sources for it."""
     return rt.need(crate)
