@@ -4,6 +4,7 @@ pub mod CommandLemmas
 pub mod ArrivalLemmas
 pub mod KeeperLemmas
 pub mod TickLemmas
+pub mod AgainLemmas
 pub mod LeftLemmas
 pub mod ActedLemmas
 pub mod StartLemmas

@@ -19,6 +19,7 @@ use Rattle.node_keeper.specs.declared.keeper.Keeper.{Keeper}
 use Rattle.node.specs.declared.node.Node.{Node}
 use Rattle.node.specs.Frames.{letters_in, sender_or}
 use Rattle.node.specs.Serving.{ServedSince}
+use Rattle.node.specs.Ticks.{IsAskingAgain}
 
 -- each letter goes to the node to which it has to go: a request to the node that it asks, and a reply to the node of
 -- number `asker` if it is one of the first letters, and to this node itself if it is one of the rest
@@ -47,7 +48,8 @@ pub record HasActed (asker : ℕ) (got : List Named) (first now : Keeper) (work 
 -- entries of the records that the log needs of these deeds, and the frames of the letters that the node sent to other
 -- nodes. They stand in such an order that the node may stop behind any of them: each frame depends only on the entries
 -- before it. Behind them come the answers to clients. What the node did for its clients says which answers these are,
--- and what clients saw. If no command that may be carried out waited before, none waits now.
+-- and what clients saw. If no command that may be carried out waited before, none waits now. At a tick, open calls send
+-- their requests again.
 pub record Handles (old : Node) (frame : Strings) (effects : Effects) (new : Node) : Type 0 where
   pub wants : List Want
   pub handled : IsHandledSafely fragment (kept_of old.keeper) (letters_in old.keeper frame) (left_by wants)
@@ -57,3 +59,4 @@ pub record Handles (old : Node) (frame : Strings) (effects : Effects) (new : Nod
   pub addressed : AreAddressed old.keeper.ids.node (sender_or old.keeper.ids.node (arrival_at frame)) (sends_in wants)
   pub served : ServedSince (arrival_at frame) old new effects.answers.items effects.notices.items
   pub waits : NoneWaits old.desk.clients [] → NoneWaits new.desk.clients []
+  pub again : IsAskingAgain (arrival_at frame) old effects.outputs.items

@@ -10,12 +10,14 @@ ghost use Rattle.node_clients.specs.Desk.{NoneWaits};
 ghost use Rattle.node_log.specs.Entry.{IsEntry};
 ghost use Rattle.node_effects.specs.Errors.{IsUnwritten};
 ghost use Rattle.node_effects.specs.Work.{IsGrown};
+ghost use Rattle.node_effects.specs.declared.output.Output.{Output};
 ghost use Rattle.node_keeper.specs.Acts.{Acts};
 ghost use Rattle.node_keeper.specs.Keeping.{kept_of, names_of};
 ghost use Rattle.node_keeper.specs.declared.keeper.Keeper.{Keeper as Kept};
 ghost use Rattle.node.specs.Frames.{letter_of_arrival, letters_in, sender_of, sender_or};
 ghost use Rattle.node.specs.Handles.{HasActed};
 ghost use Rattle.node.specs.Serving.{ServedSince, ServesArrival};
+ghost use Rattle.node.specs.Ticks.{AreFirst, IsAsking};
 ghost use Rattle.node.specs.declared.node.Node.{Node as Was};
 ghost use Rattle.node.specs.Starts.{IsNotStarted, cluster_strings, name_growth, start_entries};
 
@@ -105,6 +107,8 @@ impl Node {
         ensures serves { OnOk result (ServesArrival (arrival_at frame) self.old work.old self.new work.new) }
         ensures waits { OnOk result (NoneWaits self.old.desk.clients work.old.due.items
             → NoneWaits self.new.desk.clients work.new.due.items) }
+        ensures again { OnOk result (IsAsking (arrival_at frame) self.old work.old.outputs.items
+            self.new work.new.outputs.items) }
     {
         match read_arrival(frame) {
             Some(arrival) => self.take_arrival(arrival, work),
@@ -122,6 +126,8 @@ impl Node {
         ensures serves { OnOk result (ServesArrival (Some arrival) self.old work.old self.new work.new) }
         ensures waits { OnOk result (NoneWaits self.old.desk.clients work.old.due.items
             → NoneWaits self.new.desk.clients work.new.due.items) }
+        ensures again { OnOk result (IsAsking (Some arrival) self.old work.old.outputs.items
+            self.new work.new.outputs.items) }
     {
         match arrival {
             Arrival::Command(client, frame) => {
@@ -146,6 +152,8 @@ impl Node {
         ensures served { OnOk result ((came : Option Came) (first : Was)
             → ServedSince came first self.old work.old.to_clients.items work.old.notices.items
             → ServedSince came first self.new work.new.to_clients.items work.new.notices.items) }
+        ensures outputs { OnOk result ((first : List Output) → AreFirst first work.old.outputs.items
+            → AreFirst first work.new.outputs.items) }
         ensures own { OnOk result (work.new.own.items ≡ []) }
         ensures due { OnOk result (work.new.due.items ≡ []) }
         ensures waits { OnOk result (NoneWaits self.old.desk.clients work.old.due.items
@@ -168,6 +176,8 @@ impl Node {
         ensures served { OnOk result ((came : Option Came) (first : Was)
             → ServedSince came first self.old work.old.to_clients.items work.old.notices.items
             → ServedSince came first self.new work.new.to_clients.items work.new.notices.items) }
+        ensures outputs { OnOk result ((first : List Output) → AreFirst first work.old.outputs.items
+            → AreFirst first work.new.outputs.items) }
         ensures own { IfOk result (λ more. more ≡ false → work.new.own.items ≡ []) }
         ensures due { IfOk result (λ more. more ≡ false → work.new.due.items ≡ []) }
         ensures waits { OnOk result (NoneWaits self.old.desk.clients work.old.due.items

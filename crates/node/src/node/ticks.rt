@@ -1,8 +1,9 @@
 //! What a node does as time passes.
-ghost use Rattle.std.specs.Prelude.{[], ◌∷◌, ℕ, OnOk};
+ghost use Rattle.std.specs.Prelude.{[], ◌∷◌, ◌&&◌, not, ℕ, OnOk};
 ghost use Rattle.indexmap.specs.IndexMap.{keys};
 ghost use Rattle.node_keeper.specs.Acts.{Acts};
 ghost use Rattle.node.specs.Serving.{SeesNothing, ServesLate, ServesTicks};
+ghost use Rattle.node.specs.Ticks.{IsKeptAs, IsKeptAtAge, PutsOut, SendsAgain, again_if, aged_at, sent_at_age};
 
 use super::Node;
 use node_clients::Aged;
@@ -16,6 +17,8 @@ impl Node {
     pub(super) fn tick(&mut self, work: &mut Work) -> Result<(), NodeError>
         ensures acts { OnOk result ((asker : ℕ) → Acts asker [] self.old.keeper work.old self.new.keeper work.new) }
         ensures serves { OnOk result (ServesTicks (keys self.old.desk.calls) self.old work.old self.new work.new) }
+        ensures again { OnOk result (SendsAgain (keys self.old.desk.calls) self.old work.old.outputs.items
+            self.new work.new.outputs.items) }
     {
         let ids = self.desk.open_ids()?;
         for id in ids {
@@ -28,6 +31,9 @@ impl Node {
     fn tick_call(&mut self, id: CallId, work: &mut Work) -> Result<(), NodeError>
         ensures acts { OnOk result ((asker : ℕ) → Acts asker [] self.old.keeper work.old self.new.keeper work.new) }
         ensures serves { OnOk result (ServesTicks (id ∷ []) self.old work.old self.new work.new) }
+        ensures again { OnOk result (PutsOut self.old.keeper (sent_at_age self.old.keeper id (aged_at self.old id))
+            work.old.outputs.items work.new.outputs.items) }
+        ensures kept { OnOk result (IsKeptAtAge self.old.keeper id (aged_at self.old id) self.new.keeper) }
     {
         let Some(call) = self.desk.aged(id, self.keeper.file.ticks())? else {
             return Ok(());
@@ -42,6 +48,10 @@ impl Node {
     fn be_late(&mut self, id: CallId, call: Aged, work: &mut Work) -> Result<(), NodeError>
         ensures acts { OnOk result ((asker : ℕ) → Acts asker [] self.old.keeper work.old self.new.keeper work.new) }
         ensures late { OnOk result (ServesLate id call.is_move self.old work.old self.new work.new) }
+        ensures again { OnOk result (PutsOut self.old.keeper
+            (again_if (call.is_move && call.asks_again) self.old.keeper call.name id)
+            work.old.outputs.items work.new.outputs.items) }
+        ensures kept { OnOk result (IsKeptAs (not call.is_move) self.old.keeper call.name id self.new.keeper) }
     {
         if call.is_move {
             self.desk.release(id, work)?;
@@ -55,6 +65,9 @@ impl Node {
     fn ask_again(&self, id: CallId, call: &Aged, work: &mut Work) -> Result<(), NodeError>
         ensures acts { OnOk result ((asker : ℕ) → Acts asker [] self.now.keeper work.old self.now.keeper work.new) }
         ensures seen { OnOk result (SeesNothing work.old work.new) }
+        ensures again { OnOk result (PutsOut self.now.keeper
+            (again_if call.now.asks_again self.now.keeper call.now.name id)
+            work.old.outputs.items work.new.outputs.items) }
     {
         if !call.asks_again {
             return Ok(());

@@ -1,7 +1,9 @@
-use Rattle.std.proofs.Common.{[], ◌∙◌}
+use Rattle.std.proofs.Common.{[], ◌∙◌, ap, subst, sym}
 use Rattle.std.proofs.lemmas.List.{append-nil}
 use Rattle.std.proofs.lemmas.Result.{on_ok_weaker}
 use Rattle.node.proofs.TellLemmas.{idle}
+use Rattle.node.specs.Ticks.{PutsOut, again_if}
+use Rattle.node.proofs.AgainLemmas.{nothing_out}
 use Rattle.node.proofs.node.Node.ask_again.Goals as goal
 
 pub returns-then-not-call-clause-acts : goal.returns-then-not-call-clause-acts
@@ -16,3 +18,18 @@ returns-clause-seen c =
       due = sends.due ∙ append-nil work.due.items;
       notices = sends.notices ∙ append-nil work.notices.items;
     }) c.resend.ensures.sends
+
+pub returns-then-not-call-clause-again : goal.returns-then-not-call-clause-again
+returns-then-not-call-clause-again c =
+    let keeper = c.args.self.now.keeper in
+    let call = c.args.call.now in
+    nothing_out keeper c.args.work.now.outputs.items (again_if call.asks_again keeper call.name c.args.id)
+    (ap (λ b. again_if b keeper call.name c.args.id) c.if-not-call.true)
+
+pub returns-clause-again : goal.returns-clause-again
+returns-clause-again c =
+    let keeper = c.args.self.now.keeper in
+    let call = c.args.call.now in
+    on_ok_weaker c.resend.result
+    (λ sends. subst (λ b. PutsOut keeper (again_if b keeper call.name c.args.id) c.args.work.now.outputs.items
+    c.resend.new.work.outputs.items) (sym c.if-not-call.false) sends.outputs) c.resend.ensures.sends

@@ -1,4 +1,5 @@
-use Rattle.std.proofs.Common.{[], refl, subst, sym, ap}
+use Rattle.std.proofs.Common.{[], ◌++◌, ◌∙◌, ◌&&◌, not, refl, subst, sym, ap}
+use Rattle.std.proofs.lemmas.List.{append-nil}
 use Rattle.std.proofs.lemmas.Result.{on_ok_weaker}
 use Rattle.call_ids.specs.CallId.{CallIds}
 use Rattle.node_keeper.proofs.ActLemmas.{acts_more}
@@ -6,6 +7,9 @@ use Rattle.node.specs.Serving.{ServesLate}
 use Rattle.node.specs.declared.node.Node.{Node}
 use Rattle.node.proofs.TellLemmas.{tells_acts}
 use Rattle.node.proofs.TickLemmas.{late_call, late_move}
+use Rattle.node_effects.specs.Work.{send_all}
+use Rattle.node_keeper.specs.Sendings.{posted}
+use Rattle.node.specs.Ticks.{IsKeptAs, again_if}
 use Rattle.node.proofs.node.Node.be_late.Goals as goal
 
 pub returns-then-call-clause-acts : goal.returns-then-call-clause-acts
@@ -54,3 +58,41 @@ returns-clause-late c =
       others = c.give_up.ensures.others;
       idle = c.give_up.ensures.idle;
     }) c.give_up.ensures.counts rest.file (ap (λ (ids : CallIds). ids.node) rest.ids))) c.give_up.ensures.told
+
+pub returns-then-call-clause-again : goal.returns-then-call-clause-again
+returns-then-call-clause-again c =
+    let keeper = c.args.self.now.keeper in
+    let call = c.args.call in
+    let before = c.args.work.now.outputs.items in
+    let again = again_if call.asks_again keeper call.name c.args.id in
+    on_ok_weaker c.ask_again.result
+    (λ out. out
+    ∙ ap (λ xs. xs ++ send_all (posted keeper.ids.node keeper.digest again))
+    (c.in_ok-release.ensures.tells.grown.outputs ∙ append-nil before)
+    ∙ ap (λ b. before ++ send_all (posted keeper.ids.node keeper.digest
+    (again_if (b && call.asks_again) keeper call.name c.args.id))) (sym c.if-call.true)) c.ask_again.ensures.again
+
+pub returns-then-call-clause-kept : goal.returns-then-call-clause-kept
+returns-then-call-clause-kept c =
+    let keeper = c.args.self.now.keeper in
+    let call = c.args.call in
+    on_ok_weaker c.ask_again.result
+    (λ out. subst (λ b. IsKeptAs (not b) keeper call.name c.args.id keeper) (sym c.if-call.true) refl) c.ask_again.ensures.again
+
+pub returns-clause-again : goal.returns-clause-again
+returns-clause-again c =
+    let keeper = c.args.self.now.keeper in
+    let call = c.args.call in
+    let before = c.args.work.now.outputs.items in
+    on_ok_weaker c.give_up.result
+    (λ tells. tells.grown.outputs
+    ∙ ap (λ b. before ++ send_all (posted keeper.ids.node keeper.digest
+    (again_if (b && call.asks_again) keeper call.name c.args.id))) (sym c.if-call.false)) c.give_up.ensures.tells
+
+pub returns-clause-kept : goal.returns-clause-kept
+returns-clause-kept c =
+    let keeper = c.args.self.now.keeper in
+    let call = c.args.call in
+    on_ok_weaker c.give_up.result
+    (λ tells. subst (λ b. IsKeptAs (not b) keeper call.name c.args.id c.give_up-was_open.new.self) (sym c.if-call.false)
+    (c.give_up-was_open.ensures.done, c.give_up-was_open.ensures.rest)) c.give_up.ensures.tells

@@ -4,7 +4,9 @@ use Rattle.node_keeper.specs.declared.keeper.Keeper.{Keeper}
 use Rattle.node_strings.specs.declared.arrival.Arrival.{Arrival}
 use Rattle.node_clients.specs.Desk.{NoneWaits}
 use Rattle.node.specs.Handles.{HasActed}
+use Rattle.node_effects.specs.declared.output.Output.{Output}
 use Rattle.node.specs.Serving.{ServedSince}
+use Rattle.node.specs.Ticks.{AreFirst}
 use Rattle.node.specs.declared.node.Node.{Node}
 use Rattle.node.proofs.node.Node.finish.Given as goal
 
@@ -16,5 +18,6 @@ invariant-loop l = record {
   served : (came : Option Arrival) (first : Node) →
       ServedSince came first l.fn.self l.fn.work.to_clients.items l.fn.work.notices.items →
       ServedSince came first l.self l.work.to_clients.items l.work.notices.items;
+  outputs : (first : List Output) → AreFirst first l.fn.work.outputs.items → AreFirst first l.work.outputs.items;
   waits : NoneWaits l.fn.self.desk.clients l.fn.work.due.items → NoneWaits l.self.desk.clients l.work.due.items;
 }

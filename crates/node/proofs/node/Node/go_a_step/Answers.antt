@@ -1,8 +1,10 @@
-use Rattle.std.proofs.Common.{◌∙◌, subst, sym}
+use Rattle.std.proofs.Common.{◌∙◌, ◌++◌, ap, subst, sym}
 use Rattle.node.proofs.ActedLemmas.{due_handled, own_handled}
 use Rattle.node.proofs.ArrivalLemmas.{since_then}
 use Rattle.node_clients.specs.Desk.{NoneWaits}
 use Rattle.node.proofs.LeftLemmas.{more_waits}
+use Rattle.node.specs.Ticks.{AreFirst}
+use Rattle.node.proofs.AgainLemmas.{first_stays}
 use Rattle.node.proofs.node.Node.go_a_step.Goals as goal
 
 pub returns-in-Some-clause-acted : goal.returns-in-Some-clause-acted
@@ -49,3 +51,20 @@ pub returns-clause-waits : goal.returns-clause-waits
 returns-clause-waits c =
     let left = c.in_default-next_due.ensures.due in
     subst (λ xs. NoneWaits c.args.self.now.desk.clients xs) (sym c.in_default.ensures.due ∙ left.0 ∙ sym left.1)
+
+pub returns-in-Some-clause-outputs : goal.returns-in-Some-clause-outputs
+returns-in-Some-clause-outputs c =
+    let acts = c.in_ok-deliver.ensures.acts in
+    λ first is. first_stays first c.args.work.now.outputs.items c.deliver.new.work.outputs.items acts.growth.outputs
+    (acts.grown.outputs ∙ ap (λ xs. xs ++ acts.growth.outputs) c.in-Some.ensures.outputs) is
+
+pub returns-in-Some-next_due-clause-outputs : goal.returns-in-Some-next_due-clause-outputs
+returns-in-Some-next_due-clause-outputs c =
+    let acts = c.in_ok-go_on.ensures.acts 0 in
+    λ first is. first_stays first c.args.work.now.outputs.items c.go_on.new.work.outputs.items acts.growth.outputs
+    (acts.grown.outputs
+    ∙ ap (λ xs. xs ++ acts.growth.outputs) (c.in-Some-next_due.ensures.outputs ∙ c.in_default.ensures.outputs)) is
+
+pub returns-clause-outputs : goal.returns-clause-outputs
+returns-clause-outputs c =
+    λ first is. subst (λ xs. AreFirst first xs) (sym (c.in_default-next_due.ensures.outputs ∙ c.in_default.ensures.outputs)) is

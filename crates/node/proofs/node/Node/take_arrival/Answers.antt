@@ -12,6 +12,7 @@ use Rattle.node.proofs.LeftLemmas.{more_waits, serves_wait, ticks_wait}
 use Rattle.node.proofs.ArrivalLemmas.{arrival_alone, arrival_more, arrival_then}
 use Rattle.node.proofs.ServingLemmas.{unsent_one}
 use Rattle.node.proofs.TellLemmas.{idle}
+use Rattle.node.specs.Ticks.{IsAsking}
 use Rattle.node.proofs.node.Node.take_arrival.Goals as goal
 
 pub returns-in-Left-clause-acts : goal.returns-in-Left-clause-acts
@@ -110,3 +111,28 @@ returns-in-Tick-clause-waits c =
     let old = c.args.self.now in
     on_ok_weaker c.tick.result
     (λ serves. ticks_wait (keys old.desk.calls) old c.tick.new.self c.args.work.now c.tick.new.work serves) c.tick.ensures.serves
+
+pub returns-in-Left-clause-again : goal.returns-in-Left-clause-again
+returns-in-Left-clause-again c =
+    let old = c.args.self.now in
+    let new : Node = record old { desk = record old.desk { clients = c.leave.new.self } } in
+    let outputs = c.args.work.now.outputs.items in
+    subst (λ a. IsAsking (Some a) old outputs new outputs) (sym c.in-Left.is) tt
+
+pub returns-in_ok-push-in-Command-clause-again : goal.returns-in_ok-push-in-Command-clause-again
+returns-in_ok-push-in-Command-clause-again c =
+    on_ok_weaker c.go_on.result
+    (λ next. subst (λ a. IsAsking (Some a) c.args.self.now c.args.work.now.outputs.items c.go_on.new.self
+    c.go_on.new.work.outputs.items) (sym c.in-Command.is) tt) c.go_on.ensures.serves
+
+pub returns-in-Message-clause-again : goal.returns-in-Message-clause-again
+returns-in-Message-clause-again c =
+    on_ok_weaker c.receive.result
+    (λ more. subst (λ a. IsAsking (Some a) c.args.self.now c.args.work.now.outputs.items c.receive.new.self
+    c.receive.new.work.outputs.items) (sym c.in-Message.is) tt) c.receive.ensures.serves
+
+pub returns-in-Tick-clause-again : goal.returns-in-Tick-clause-again
+returns-in-Tick-clause-again c =
+    on_ok_weaker c.tick.result
+    (λ again. subst (λ a. IsAsking (Some a) c.args.self.now c.args.work.now.outputs.items c.tick.new.self
+    c.tick.new.work.outputs.items) (sym c.in-Tick.is) again) c.tick.ensures.again

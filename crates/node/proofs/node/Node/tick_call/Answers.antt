@@ -1,10 +1,14 @@
-use Rattle.std.proofs.Common.{◌≡◌, [], refl, subst, sym, false, true, None, Some, ◌∙◌}
+use Rattle.std.proofs.Common.{◌≡◌, [], ◌++◌, ap, refl, subst, sym, false, true, None, Some, ◌∙◌}
 use Rattle.std.proofs.lemmas.Result.{on_ok_weaker}
 use Rattle.node_clients.specs.Calls.{aged_call, becomes_late, call_under}
 use Rattle.node_clients.specs.Served.{IsOlder}
 use Rattle.node.specs.declared.node.Node.{Node}
 use Rattle.node.proofs.TellLemmas.{idle}
 use Rattle.node.proofs.TickLemmas.{call_ages, call_is_late, none_late, some_late, some_move}
+use Rattle.node_effects.specs.Work.{send_all}
+use Rattle.node_keeper.specs.Sendings.{posted}
+use Rattle.node.specs.Ticks.{aged_at, sent_at_age}
+use Rattle.node.proofs.AgainLemmas.{late_kept, late_sent, none_kept, none_sent, nothing_out, timely_kept, timely_sent}
 use Rattle.node.proofs.node.Node.tick_call.Goals as goal
 
 pub returns-in_default-clause-acts : goal.returns-in_default-clause-acts
@@ -63,3 +67,61 @@ returns-clause-serves c =
     } in
     on_ok_weaker c.ask_again.result
     (λ seen. call_ages c.args.id old new c.args.work.now c.ask_again.new.work late older refl seen) c.ask_again.ensures.seen
+
+pub returns-in_default-clause-again : goal.returns-in_default-clause-again
+returns-in_default-clause-again c =
+    let old = c.args.self.now in
+    let call = call_under old.desk.calls c.args.id in
+    let none : aged_at old c.args.id ≡ None =
+    subst (λ n. aged_call n call ≡ None) c.ticks.ensures (sym c.in_ok-call.ensures.aged ∙ c.in_default.is) in
+    nothing_out old.keeper c.args.work.now.outputs.items (sent_at_age old.keeper c.args.id (aged_at old c.args.id))
+    (none_sent old.keeper c.args.id (aged_at old c.args.id) none)
+
+pub returns-in_default-clause-kept : goal.returns-in_default-clause-kept
+returns-in_default-clause-kept c =
+    let old = c.args.self.now in
+    let call = call_under old.desk.calls c.args.id in
+    let none : aged_at old c.args.id ≡ None =
+    subst (λ n. aged_call n call ≡ None) c.ticks.ensures (sym c.in_ok-call.ensures.aged ∙ c.in_default.is) in
+    none_kept old.keeper c.args.id (aged_at old c.args.id) none
+
+pub returns-then-call-clause-again : goal.returns-then-call-clause-again
+returns-then-call-clause-again c =
+    let old = c.args.self.now in
+    let keeper = old.keeper in
+    let call = call_under old.desk.calls c.args.id in
+    let some : aged_at old c.args.id ≡ Some c.in-Some.call =
+    subst (λ n. aged_call n call ≡ Some c.in-Some.call) c.ticks.ensures (sym c.in_ok-call.ensures.aged ∙ c.in-Some.is) in
+    on_ok_weaker c.be_late.result
+    (λ out. out ∙ ap (λ xs. c.args.work.now.outputs.items ++ send_all (posted keeper.ids.node keeper.digest xs))
+    (late_sent keeper c.args.id (aged_at old c.args.id) c.in-Some.call some c.if-call.true)) c.be_late.ensures.again
+
+pub returns-then-call-clause-kept : goal.returns-then-call-clause-kept
+returns-then-call-clause-kept c =
+    let old = c.args.self.now in
+    let call = call_under old.desk.calls c.args.id in
+    let some : aged_at old c.args.id ≡ Some c.in-Some.call =
+    subst (λ n. aged_call n call ≡ Some c.in-Some.call) c.ticks.ensures (sym c.in_ok-call.ensures.aged ∙ c.in-Some.is) in
+    on_ok_weaker c.be_late.result
+    (λ kept. late_kept old.keeper c.be_late.new.self.keeper c.args.id (aged_at old c.args.id) c.in-Some.call some c.if-call.true
+    kept) c.be_late.ensures.kept
+
+pub returns-clause-again : goal.returns-clause-again
+returns-clause-again c =
+    let old = c.args.self.now in
+    let keeper = old.keeper in
+    let call = call_under old.desk.calls c.args.id in
+    let some : aged_at old c.args.id ≡ Some c.in-Some.call =
+    subst (λ n. aged_call n call ≡ Some c.in-Some.call) c.ticks.ensures (sym c.in_ok-call.ensures.aged ∙ c.in-Some.is) in
+    on_ok_weaker c.ask_again.result
+    (λ out. out ∙ ap (λ xs. c.args.work.now.outputs.items ++ send_all (posted keeper.ids.node keeper.digest xs))
+    (timely_sent keeper c.args.id (aged_at old c.args.id) c.in-Some.call some c.if-call.false)) c.ask_again.ensures.again
+
+pub returns-clause-kept : goal.returns-clause-kept
+returns-clause-kept c =
+    let old = c.args.self.now in
+    let call = call_under old.desk.calls c.args.id in
+    let some : aged_at old c.args.id ≡ Some c.in-Some.call =
+    subst (λ n. aged_call n call ≡ Some c.in-Some.call) c.ticks.ensures (sym c.in_ok-call.ensures.aged ∙ c.in-Some.is) in
+    on_ok_weaker c.ask_again.result
+    (λ out. timely_kept old.keeper c.args.id (aged_at old c.args.id) c.in-Some.call some c.if-call.false) c.ask_again.ensures.again

@@ -1,7 +1,10 @@
-use Rattle.std.proofs.Common.{subst, sym}
+use Rattle.std.proofs.Common.{[], subst, sym}
+use Rattle.std.proofs.lemmas.List.{append-nil}
 use Rattle.node_clients.specs.Desk.{NoneWaits}
 use Rattle.node_strings.specs.Arrival.{arrival_at}
 use Rattle.node.specs.Frames.{letters_in, sender_or}
+use Rattle.node.specs.Ticks.{AreFirst}
+use Rattle.node.proofs.AgainLemmas.{asked_again}
 use Rattle.node.proofs.ActedLemmas.{acted_first, handles_of}
 use Rattle.node.proofs.ArrivalLemmas.{since_first}
 use Rattle.node.proofs.node.machine.NodeMachine.handle.Goals as goal
@@ -24,3 +27,7 @@ returns c =
     c.into_effects.ensures.outputs c.into_effects.ensures.answers c.into_effects.ensures.notices
     (λ waits. c.in_ok-finish.ensures.waits (c.in_ok-take_frame.ensures.waits
     (subst (λ xs. NoneWaits old.desk.clients xs) (sym c.new-work.ensures.due) waits)))
+    (asked_again came old c.take_frame.new.self empty.outputs.items taken.outputs.items c.into_effects.result.outputs.items
+    c.new-work.ensures.outputs c.in_ok-take_frame.ensures.again
+    (subst (λ xs. AreFirst taken.outputs.items xs) (sym c.into_effects.ensures.outputs)
+    (c.in_ok-finish.ensures.outputs taken.outputs.items ([], sym (append-nil taken.outputs.items)))))

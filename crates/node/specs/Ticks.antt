@@ -1,0 +1,90 @@
+-- The contracts that docs/trusted.md lists do not depend on this file; other contracts and proofs do.
+-- Which requests a node sends again at a tick.
+use Rattle.std.specs.Prelude.{◌≡◌, ⊤, ℕ, ◌||◌, ◌&&◌, not, Bool, true, false, if◌then◌else◌, List, [], ◌∷◌, ◌++◌}
+use Rattle.std.specs.Prelude.{Option, None, Some}
+use Rattle.indexmap.specs.IndexMap.{keys}
+use Rattle.local_object.specs.Doing.{give_up_events}
+use Rattle.node_objects.specs.Doing.{IsDoneAt}
+use Rattle.node_objects.specs.Objects.{objects_of}
+use Rattle.node_strings.specs.declared.arrival.Arrival.{Arrival}
+use Rattle.node_strings.specs.declared.arrival.Arrival.TheVariants as came
+use Rattle.node_effects.specs.Work.{send_all}
+use Rattle.node_effects.specs.declared.output.Output.{Output}
+use Rattle.node_clients.specs.Calls.{aged_call, call_under}
+use Rattle.node_clients.specs.Served.{IsServiceDone}
+use Rattle.node_clients.specs.Services.{Service}
+use Rattle.node_clients.specs.declared.open_call.Aged.{Aged}
+use Rattle.node_keeper.specs.Delivering.{KeepsRest}
+use Rattle.node_keeper.specs.Resending.{sendings_again}
+use Rattle.node_keeper.specs.Sendings.{Sending, posted}
+use Rattle.node_keeper.specs.declared.keeper.Keeper.{Keeper}
+use Rattle.node.specs.Serving.{IsTickOf}
+use Rattle.node.specs.declared.node.Node.{Node}
+
+-- the call of this id, if it is open, made older by a tick at a node
+abbrev pub aged_at : Node → (id : ℕ) → Option Aged
+aged_at node id = aged_call node.keeper.file.ticks (call_under node.desk.calls id)
+
+-- the requests of the call of this id, if they are to be sent again
+abbrev pub again_if : (asks : Bool) → Keeper → (name : List ℕ) → (id : ℕ) → List Sending
+again_if asks keeper name id = if asks then sendings_again name id keeper else []
+
+-- the requests that a call sends again as it gets older by a tick: those of its current phase to the members that have
+-- not replied, if the call is of an age for that, unless it is given up, as a read or a write is that is late
+abbrev pub sent_at_age : Keeper → (id : ℕ) → Option Aged → List Sending
+sent_at_age keeper id None = []
+sent_at_age keeper id (Some aged) =
+    again_if ((not aged.is_late || aged.is_move) && aged.asks_again) keeper aged.name id
+
+-- between these outputs, exactly the frames of these letters to other nodes were put out
+abbrev pub PutsOut : Keeper → List Sending → (before after : List Output) → Type 0
+PutsOut keeper sends before after = after ≡ before ++ send_all (posted keeper.ids.node keeper.digest sends)
+
+-- what the node keeps when a call was given up or goes on
+abbrev pub IsKeptAs : (given_up : Bool) → (old : Keeper) → (name : List ℕ) → (id : ℕ) → (new : Keeper) → Type 0
+IsKeptAs false old name id new = new ≡ old
+IsKeptAs true old name id new =
+    IsDoneAt old.objects name (give_up_events (objects_of old.objects name) id) new.objects [] × KeepsRest old new
+
+-- what the node keeps when a call got older by a tick: the same, unless the call was given up
+abbrev pub IsKeptAtAge : (old : Keeper) → (id : ℕ) → Option Aged → (new : Keeper) → Type 0
+IsKeptAtAge old id None new = new ≡ old
+IsKeptAtAge old id (Some aged) new = IsKeptAs (aged.is_late && not aged.is_move) old aged.name id new
+
+-- an open call got older by a tick, and sent these requests again
+pub record IsTicked (id : ℕ) (old : Node) (sends : List Sending) (new : Node) : Type 0 where
+  pub service : Service
+  pub tick : IsTickOf id service
+  pub done : IsServiceDone old.keeper.file.ticks old.desk service new.desk
+  pub sent : sends ≡ sent_at_age old.keeper id (aged_at old id)
+  pub kept : IsKeptAtAge old.keeper id (aged_at old id) new.keeper
+
+-- these calls got older by a tick, one after another, and sent these requests again
+abbrev pub AreTicked : (ids : List ℕ) → (old : Node) → List Sending → (new : Node) → Type 0
+AreTicked [] old sends new = (sends ≡ []) × (new ≡ old)
+AreTicked (id ∷ ids) old sends new =
+    (between : Node) × (first : List Sending) × (rest : List Sending) × (sends ≡ first ++ rest)
+    × IsTicked id old first between × AreTicked ids between rest new
+
+-- these calls got older by a tick, and the frames of the requests that they sent again are the first of these outputs
+pub record SendsAgain (ids : List ℕ) (old : Node) (before : List Output) (new : Node)
+    (after : List Output) : Type 0 where
+  pub sends : List Sending
+  pub ticked : AreTicked ids old sends new
+  pub outputs : PutsOut old.keeper sends before after
+
+-- the same if a tick has come; nothing for anything else
+abbrev pub IsAsking : Option Arrival → (old : Node) → (before : List Output) → (new : Node) → (after : List Output) →
+    Type 0
+IsAsking (Some came.Tick) old before new after = SendsAgain (keys old.desk.calls) old before new after
+IsAsking arrival old before new after = ⊤
+
+-- these are the first outputs
+abbrev pub AreFirst : (first outputs : List Output) → Type 0
+AreFirst first outputs = (more : List Output) × (outputs ≡ first ++ more)
+
+-- At a tick, the first outputs are the frames of the requests that the open calls send again. Then the node handles its
+-- letters to itself and the next commands of its clients.
+abbrev pub IsAskingAgain : Option Arrival → (old : Node) → List Output → Type 0
+IsAskingAgain arrival old outputs =
+    (ticked : Node) × (first : List Output) × IsAsking arrival old [] ticked first × AreFirst first outputs
