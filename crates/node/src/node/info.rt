@@ -1,4 +1,9 @@
 //! What a node tells about itself.
+ghost use Rattle.std.specs.Prelude.{◌≡◌, ◌++◌, IfOk, OnOk};
+ghost use Rattle.std.specs.String.{string_bytes};
+ghost use Rattle.indexmap.specs.IndexMap.{index_map_len};
+ghost use Rattle.node.specs.AtOnce.{count_lines, info_lines};
+
 use super::Node;
 use bytes::Bytes;
 use node_effects::NodeError;
@@ -6,7 +11,10 @@ use std::fmt::Write;
 
 impl Node {
     /// Returns the lines of `INFO`, each with a key and a value.
-    pub(super) fn info(&self) -> Result<Bytes, NodeError> {
+    pub(super) fn info(&self) -> Result<Bytes, NodeError>
+        ensures { IfOk result (λ text. text ≡ info_lines self.now.keeper
+            (index_map_len self.now.desk.clients.by_number) (index_map_len self.now.desk.calls) self.now.desk.counts) }
+    {
         let mut text = String::new(self.alloc);
         write!(text, "program:casd\r\n")?;
         write!(text, "node:{}\r\n", self.keeper.number())?;
@@ -20,7 +28,10 @@ impl Node {
     }
 
     // The lines with counts.
-    fn push_counts(&self, text: &mut String) -> Result<(), NodeError> {
+    fn push_counts(&self, text: &mut String) -> Result<(), NodeError>
+        ensures { OnOk result (string_bytes text.new ≡ string_bytes text.old ++ count_lines self.now.keeper
+            (index_map_len self.now.desk.clients.by_number) (index_map_len self.now.desk.calls) self.now.desk.counts) }
+    {
         write!(text, "objects:{}\r\n", self.keeper.objects.count())?;
         write!(
             text,
