@@ -14,7 +14,7 @@ use crate::gate::{Gate, NoGate};
 use crate::jobs::{Cut, JobPass, Jobs, push_all};
 use crate::worker::{Answer, CodingJob, Worker};
 use bytes::Bytes;
-use encoder::{Coded, assemble};
+use encoder::{Coded, assemble, encode};
 use piece::Piece;
 use std::alloc::Global;
 use std::sync::Wait;
@@ -22,8 +22,8 @@ use std::thread::Threads;
 use tag::{LONGEST_VALUE, MOST_MEMBERS, MOST_WORKERS, Refusal};
 
 /// Encodes `value` into n pieces of which any k give it back, as `encode` does, with `workers` workers, each in a
-/// thread of its own. The caller's thread waits for them, and then makes the pieces that are left without a gate: all
-/// pieces if there is no worker. It is no refusal if a thread cannot be started.
+/// thread of its own. The caller's thread waits for them, and then makes the pieces that are left without a gate. If
+/// there is no worker, it makes all pieces in one block of memory. It is no refusal if a thread cannot be started.
 ///
 /// Is refused with `BadLayout` if `k` is 0 or above `n`, or `n` is above `MOST_MEMBERS`; otherwise with `TooLong` if
 /// the value is longer than `LONGEST_VALUE` bytes; otherwise with `Full` if there are more than `MOST_WORKERS` workers;
@@ -48,6 +48,9 @@ pub fn encode_all<G: Gate, R: Threads + Wait + Sync>(
     }
     if workers > MOST_WORKERS {
         return Err(Refusal::Full);
+    }
+    if workers == 0 {
+        return encode(alloc, k, n, value);
     }
     let pieces = all_pieces(rt, alloc, workers, gate, k, n, value.as_slice())?;
     Ok(assemble(k, n, value, pieces))
