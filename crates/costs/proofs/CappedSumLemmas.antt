@@ -1,8 +1,8 @@
 -- Sums that grow by one more number, up to a cap.
-use Rattle.std.proofs.Common.{◌≡◌, ℕ, zero, suc, ◌+◌, ◌<◌, List, length, take, get_or, Some, sym, ap, ap₂, ◌∙◌, arith}
+use Rattle.std.proofs.Common.{◌≡◌, ℕ, zero, suc, ◌+◌, ◌<◌, List, ◌∷◌, length, take, get_or, Some, sym, ap, ap₂, ◌∙◌, arith}
 use Rattle.std.specs.Prelude.{sum_by, slice_get}
 use Rattle.std.proofs.lemmas.Option.{get_or_from_slice_get, slice_get_within}
-use Rattle.std.proofs.lemmas.List.Sums.{sum_by_more}
+use Rattle.std.proofs.lemmas.List.Sums.{sum_by-cons, sum_by_more}
 use Rattle.record.specs.Accounts.{member_sum}
 use Rattle.std.specs.Io.Iter.{u64_saturate}
 
@@ -14,6 +14,13 @@ pub capped_more : (total s x y sum more : ℕ) → total ≡ u64_saturate s → 
     → more ≡ s + y → sum ≡ u64_saturate more
 capped_more total s x y sum more is part added grown =
     added ∙ (ap₂ (λ a b. u64_saturate (a + b)) is part ∙ (capped_sum s y ∙ ap u64_saturate (sym grown)))
+
+-- a capped total grows by the first of the numbers that are left
+pub capped_rest : {X : Type 0} (f : X → ℕ) (x : X) (rest left : List X) (total y new : ℕ) → left ≡ x ∷ rest → y ≡ u64_saturate (f x)
+    → new ≡ u64_saturate (total + y) → u64_saturate (new + sum_by f rest) ≡ u64_saturate (total + sum_by f left)
+capped_rest f x rest left total y new is part grown =
+    let sum = sum_by-cons f x rest in let same = ap (sum_by f) is in
+    grind (arith, sum, same, part, grown)
 
 -- one element more of a sum
 pub sum_at : {X : Type 0} (f : X → ℕ) (xs : List X) (i : ℕ) (x : X) → slice_get xs i ≡ Some x

@@ -149,9 +149,8 @@ fn came_bytes(bank: &Bank, fragment: u64, tag: Tag) -> u64
     ensures { result ≡ u64_saturate (sum_by (bytes_for fragment tag) (map.entries bank.now.rows)) }
 {
     let mut total: u64 = 0;
-    for i in 0..bank.count() {
-        let (known, row) = bank.kept(i);
-        total = total.saturating_add(bytes_for(fragment, tag, known, row));
+    for (known, row) in bank.rows() {
+        total = total.saturating_add(bytes_for(fragment, tag, *known, row));
     }
     total
 }

@@ -1,23 +1,23 @@
-use Rattle.std.proofs.Common.{◌≤◌, List, length, sum_by, take, ap, ◌∙◌, arith}
-use Rattle.std.specs.FinMap as map
-use Rattle.std.proofs.lemmas.List.{take_all}
-use Rattle.std.specs.Io.Iter.{u64_saturate}
+use Rattle.std.proofs.Common.{◌≡◌, ◌∷◌, ◌∙◌, arith}
+use Rattle.std.proofs.lemmas.Map.Iter.{rest_more, rest_all}
 use Rattle.tag.specs.declared.tag.Tag.{Tag}
 use Rattle.bank.specs.declared.row.Row.{Row}
 use Rattle.costs.specs.Cost.{bytes_for}
-use Rattle.costs.proofs.CappedSumLemmas.{capped_more, sum_at}
+use Rattle.costs.proofs.CappedSumLemmas.{capped_rest}
 use Rattle.costs.proofs.sums.came_bytes.Goals as goal
 
-pub loop-i-preserved : goal.loop-i-preserved
-loop-i-preserved c =
-    let rows = map.entries c.args.bank.now.rows in
-    capped_more c.loop-i.total (sum_by (bytes_for c.args.fragment c.args.tag) (take c.loop-i.i rows)) _ _ _ _
-    c.loop-i.invariant c.bytes_for.ensures c.saturating_add-total.ensures
-    (sum_at (bytes_for c.args.fragment c.args.tag) rows c.loop-i.i (c.kept.result.0, c.kept.result.1.now) c.kept.ensures)
+pub loop-known-init : goal.loop-known-init
+loop-known-init c = grind arith
+
+pub loop-known-preserved : goal.loop-known-preserved
+loop-known-preserved c =
+    let first : Tag × Row = (c.in-Some.known.now, c.in-Some.row.now) in
+    let is : c.loop-known.known-iterator ≡ first ∷ c.next.new.self = grind (arith, rest_more) in
+    record {
+      capped = grind arith;
+      sum = capped_rest (bytes_for c.args.fragment c.args.tag) first c.next.new.self c.loop-known.known-iterator c.loop-known.total _ _
+          is c.bytes_for.ensures c.saturating_add-total.ensures ∙ c.loop-known.invariant.sum;
+    }
 
 pub returns : goal.returns
-returns c =
-    let rows = map.entries c.args.bank.now.rows in
-    let all : length rows ≤ c.loop-i.i = omega (arith, map.len-entries c.args.bank.now.rows) in
-    c.loop-i.invariant
-    ∙ ap (λ (kept : List (Tag × Row)). u64_saturate (sum_by (bytes_for c.args.fragment c.args.tag) kept)) (take_all c.loop-i.i rows all)
+returns c = grind (arith, rest_all)
