@@ -1,11 +1,12 @@
 -- What has come to a node, and all that it does with it for its clients.
-use Rattle.std.proofs.Common.{◌≡◌, List, [], ◌∷◌, ◌++◌, Option}
+use Rattle.std.proofs.Common.{◌≡◌, ℕ, List, [], ◌∷◌, ◌++◌, Option, None, Some}
 use Rattle.std.proofs.Common.{sym, subst, ap, ◌∙◌}
 use Rattle.std.proofs.lemmas.List.{append-nil, append_assoc}
 use Rattle.std.specs.List.{AllByRecursion}
 use Rattle.cluster_file.specs.File.{FileContents}
 use Rattle.deeds.proofs.ListLemmas.{all_append}
 use Rattle.node_strings.specs.declared.arrival.Arrival.{Arrival}
+use Rattle.node_strings.specs.declared.arrival.Arrival.TheVariants as arrived
 use Rattle.string_parts.specs.Strings.{Strings}
 use Rattle.node_effects.specs.declared.notice.Notice.{Notice}
 use Rattle.node_effects.specs.declared.work.Work.{Work}
@@ -13,42 +14,67 @@ use Rattle.node_clients.specs.Served.{AreServicesDone, HasServed}
 use Rattle.node_clients.specs.Services.{Service, all_frames, all_notices}
 use Rattle.node_clients.proofs.ServedLemmas.{frames_append, notices_append}
 use Rattle.node_clients.proofs.ServedLemmas.{served_then}
+use Rattle.indexmap.specs.IndexMap.{index_map_len}
+use Rattle.node_clients.specs.declared.counts.Counts.{Counts}
+use Rattle.node_clients.specs.declared.desk.Desk.{Desk}
+use Rattle.node_keeper.specs.declared.keeper.Keeper.{Keeper}
+use Rattle.node.specs.AtOnce.{IsAtOnce, IsFirstDone}
 use Rattle.node.specs.Replies.{IsRight}
 use Rattle.node.specs.Serving.{FollowsUp, IsComing, ServedSince, ServesClients, ServesArrival}
 use Rattle.node.specs.Serving.{ServesMore}
 use Rattle.node.specs.declared.node.Node.{Node}
 use Rattle.node.proofs.ServingLemmas.{all_right, serves_then}
 
+-- the first thing stays the first one where more follow
+first_stays : (keeper : Keeper) (calls : ℕ) (counts : Counts) (client : ℕ) (frame : Strings) (more rest : List Service) →
+    IsFirstDone keeper calls counts client frame more → IsFirstDone keeper calls counts client frame (more ++ rest)
+first_stays keeper calls counts client frame [] rest is = absurd is
+first_stays keeper calls counts client frame (service ∷ more) rest is = is
+
+at_once_stays : (came : Option Arrival) (keeper : Keeper) (desk : Desk) (more rest : List Service) →
+    IsAtOnce came keeper desk more → IsAtOnce came keeper desk (more ++ rest)
+at_once_stays None keeper desk more rest is = tt
+at_once_stays (Some (arrived.Command client frame)) keeper desk more rest is =
+    λ free. first_stays keeper (index_map_len desk.calls) desk.counts client frame more rest (is free)
+at_once_stays (Some (arrived.Left client)) keeper desk more rest is = tt
+at_once_stays (Some (arrived.Message sender frame)) keeper desk more rest is = tt
+at_once_stays (Some arrived.Tick) keeper desk more rest is = tt
+
 -- something comes, and some things follow up
 pub arrival_then : (came : Option Arrival) (a b c : Node) (u v w : Work) (service : Service) →
-    IsComing a.desk came (service ∷ []) → ServesClients a u (service ∷ []) b v → ServesMore b v c w → ServesArrival came a u c w
-arrival_then came a b c u v w service comes first more = record {
+    IsComing a.desk came (service ∷ []) → ServesClients a u (service ∷ []) b v → (more : ServesMore b v c w) →
+    IsAtOnce came a.keeper a.desk more.services → ServesArrival came a u c w
+arrival_then came a b c u v w service comes first more at_once = record {
   coming = service ∷ [];
   more = more.services;
   comes = comes;
   follows = more.follows;
+  at_once = at_once;
   serves = serves_then a b c u v w (service ∷ []) more.services first more.serves;
 }
 
 -- something comes, and nothing follows up
 pub arrival_alone : (came : Option Arrival) (a b : Node) (u v : Work) (services : List Service) →
-    IsComing a.desk came services → ServesClients a u services b v → ServesArrival came a u b v
-arrival_alone came a b u v services comes serves = record {
+    IsComing a.desk came services → IsAtOnce came a.keeper a.desk [] → ServesClients a u services b v →
+    ServesArrival came a u b v
+arrival_alone came a b u v services comes at_once serves = record {
   coming = services;
   more = [];
   comes = comes;
   follows = tt;
+  at_once = at_once;
   serves = subst (λ ss. ServesClients a u ss b v) (sym (append-nil services)) serves;
 }
 
 -- nothing comes for clients, and some things follow up
-pub arrival_more : (came : Option Arrival) (a b : Node) (u v : Work) → IsComing a.desk came [] → ServesMore a u b v →
-    ServesArrival came a u b v
-arrival_more came a b u v comes more = record {
+pub arrival_more : (came : Option Arrival) (a b : Node) (u v : Work) → IsComing a.desk came [] →
+    (more : ServesMore a u b v) → IsAtOnce came a.keeper a.desk more.services → ServesArrival came a u b v
+arrival_more came a b u v comes more at_once = record {
   coming = [];
   more = more.services;
   comes = comes;
   follows = more.follows;
+  at_once = at_once;
   serves = more.serves;
 }
 
@@ -61,6 +87,7 @@ since_first came a b u v told seen s = record {
   more = s.more;
   comes = s.comes;
   follows = s.follows;
+  at_once = s.at_once;
   served = s.serves.has.served;
   right = s.serves.right;
   answers = s.serves.has.told ∙ ap (λ xs. xs ++ all_frames (s.coming ++ s.more)) told;
@@ -83,6 +110,7 @@ since_then came a b c answers notices v w told seen s m =
       more = s.more ++ m.services;
       comes = s.comes;
       follows = all_append FollowsUp s.more m.services s.follows m.follows;
+      at_once = at_once_stays came a.keeper a.desk s.more m.services s.at_once;
       served = subst (λ ss. AreServicesDone a.keeper.file.ticks a.desk ss c.desk) all
           (served_then a.keeper.file.ticks a.desk b.desk c.desk before m.services s.served has.served);
       right = subst (λ ss. AllByRecursion (IsRight a.keeper.ids.node a.keeper.file) ss) all

@@ -1,5 +1,5 @@
 -- Commands that are taken and carried out, as what a node does for its clients.
-use Rattle.std.proofs.Common.{◌≡◌, ℕ, true, List, [], ◌∷◌, Option, None, Some, Ok, is_some}
+use Rattle.std.proofs.Common.{◌≡◌, ℕ, true, false, List, [], ◌∷◌, Option, None, Some, Ok, is_some}
 use Rattle.std.proofs.Common.{Result, Err, IsSome, OnOk, refl, sym, subst, ap, ◌∙◌}
 use Rattle.cluster_file.specs.File.{FileContents}
 use Rattle.connections.specs.Connections.{TakesNextAt, doing, gives_next_of, has_next, waiting_on}
@@ -23,11 +23,14 @@ use Rattle.node_clients.specs.Services.{Service}
 use Rattle.node_clients.specs.declared.desk.Desk.{Desk}
 use Rattle.node_clients.proofs.ServedLemmas.{busy_is_there}
 use Rattle.node_keeper.specs.declared.keeper.Keeper.{Keeper}
+use Rattle.indexmap.specs.IndexMap.{index_map_len}
+use Rattle.node_clients.specs.declared.counts.Counts.{Counts}
+use Rattle.node.specs.AtOnce.{IsCarriedOut, IsPlainHere, IsReplyHere}
 use Rattle.node.specs.Replies.{IsPlainReply, IsReplyTo, IsRight}
 use Rattle.node.specs.Serving.{FollowsUp, IsCommandDone}
-use Rattle.node.specs.Serving.{ServesCommand, ServesMore}
+use Rattle.node.specs.Serving.{ServesClients, ServesCommand, ServesNext}
 use Rattle.node.specs.declared.node.Node.{Node}
-use Rattle.node.proofs.ServingLemmas.{more_one, serves_one}
+use Rattle.node.proofs.ServingLemmas.{serves_one}
 
 -- a connection that has a next command gives it
 pub no_next : (old new : Option Connection) → has_next old ≡ true → TakesNextAt old new None → ⊥
@@ -84,15 +87,54 @@ command_follows old new client frame (Service.GivesUp id told) done = absurd don
 command_follows old new client frame (Service.Releases id told) done = absurd done
 command_follows old new client frame Service.Drops done = absurd done
 
+-- an idle connection on which a command waits gives a next command
+no_first : (connection : Option Connection) (frame : Strings) (waiting : List Strings) → has_next connection ≡ false →
+    doing connection ≡ Idle → waiting_on connection ≡ frame ∷ waiting → ⊥
+no_first None frame waiting none idle waits = absurd (cc)
+no_first (Some connection) frame waiting none idle waits =
+    go connection.state connection.waiting.items none idle waits
+  where
+    go : (state : State) (commands : List Strings) → gives_next_of state commands ≡ false → state ≡ Idle →
+        commands ≡ frame ∷ waiting → ⊥
+    go Idle [] none idle waits = absurd (cc)
+    go Idle (command ∷ commands) none idle waits = absurd (cc)
+    go Busy commands none idle waits = absurd (cc)
+    go Quit commands none idle waits = absurd (cc)
+
+-- a connection gives no next command
+pub nothing_next : (client : ℕ) (old new : Node) (u v : Work) → has_next (connection_of old.desk client) ≡ false →
+    ServesClients old u [] new v → ServesNext client old u new v
+nothing_next client old new u v none serves = record {
+  more = record { services = []; serves = serves; follows = tt };
+  first = λ frame waiting idle waits. no_first (connection_of old.desk client) frame waiting none idle waits;
+}
+
+carried_as : (a b : Keeper) (m n : ℕ) (p q : Counts) (client : ℕ) (frame also : Strings) (service : Service) → b ≡ a →
+    n ≡ m → q ≡ p → also ≡ frame → IsCarriedOut b n q client frame service → IsCarriedOut a m p client also service
+carried_as a b m n p q client frame also service keeper calls counts same is =
+    subst (λ (f : Strings). IsCarriedOut a m p client f service) (sym same)
+    (subst (λ (k : Keeper). IsCarriedOut k m p client frame service) keeper
+    (subst (λ (i : ℕ). IsCarriedOut b i p client frame service) calls
+    (subst (λ (c : Counts). IsCarriedOut b n c client frame service) counts is)))
+
 -- the next command of a client is taken, and carried out
 pub taken_served : (a b c : Node) (u v : Work) (client : ℕ) (frame : Strings) → b.keeper ≡ a.keeper →
-    IsCommandTaken a.desk client frame b.desk → ServesCommand client frame b u c v → ServesMore a u c v
+    IsCommandTaken a.desk client frame b.desk → ServesCommand client frame b u c v → ServesNext client a u c v
 taken_served a b c u v client frame same taken s =
-    more_one a c u v s.service (command_follows b.desk c.desk client frame s.service s.done)
-    (serves_one a c u v s.service
-    (command_served a.keeper.file.ticks a.desk b.desk c.desk client frame s.service taken s.done) s.told s.due s.notices
-    (subst (λ (k : Keeper). IsRight k.ids.node k.file s.service) same s.right)
-    (s.file ∙ ap (λ (k : Keeper). k.file) same) (s.number ∙ ap (λ (k : Keeper). k.ids.node) same))
+    let many : index_map_len b.desk.calls ≡ index_map_len a.desk.calls = rw taken.calls in record {
+      more = record {
+        services = s.service ∷ [];
+        serves = serves_one a c u v s.service
+            (command_served a.keeper.file.ticks a.desk b.desk c.desk client frame s.service taken s.done) s.told s.due s.notices
+            (subst (λ (k : Keeper). IsRight k.ids.node k.file s.service) same s.right)
+            (s.file ∙ ap (λ (k : Keeper). k.file) same) (s.number ∙ ap (λ (k : Keeper). k.ids.node) same);
+        follows = (command_follows b.desk c.desk client frame s.service s.done, tt);
+      };
+      first = λ command waiting idle waits.
+          let both : command ∷ waiting ≡ frame ∷ waiting_on (connection_of b.desk client) = sym waits ∙ taken.taken.1 in
+          carried_as a.keeper b.keeper (index_map_len a.desk.calls) (index_map_len b.desk.calls) a.desk.counts b.desk.counts
+          client frame command s.service same many taken.counts (cc) s.carried;
+    }
 
 -- a busy connection is there: its client is sent the answer
 pub answer_is_sent : (desk : Desk) (client : ℕ) (answer : Answer) (u v : Work) → doing (connection_of desk client) ≡ Busy →
@@ -112,12 +154,14 @@ answered_now old new client busy idle calls counts = record {
 -- a command is answered at once
 pub replied : (client : ℕ) (frame : Strings) (answer : Answer) (old new : Node) (u v : Work) →
     IsClientAnswered old.desk client new.desk → IsGrown u v (answer_sent client answer) →
-    IsReplyTo old.keeper.ids.node old.keeper.file client (command_at frame) answer → new.keeper.file ≡ old.keeper.file →
-    new.keeper.ids.node ≡ old.keeper.ids.node → ServesCommand client frame old u new v
-replied client frame answer old new u v answered grown reply file number = record {
+    IsReplyTo old.keeper.ids.node old.keeper.file client (command_at frame) answer →
+    IsReplyHere old.keeper (index_map_len old.desk.calls) old.desk.counts (command_at frame) answer →
+    new.keeper.file ≡ old.keeper.file → new.keeper.ids.node ≡ old.keeper.ids.node → ServesCommand client frame old u new v
+replied client frame answer old new u v answered grown reply here file number = record {
   service = Service.Replies client frame answer;
   done = (refl, refl, answered);
   right = reply;
+  carried = (refl, refl, here);
   told = grown.to_clients;
   due = grown.due;
   notices = grown.notices;
@@ -153,6 +197,7 @@ quits client command old new u v (Ok done) is busy grown state waiting stays oth
     },
   );
   right = tt;
+  carried = (refl, asks ∙ ap Ok is);
   told = grown.to_clients;
   due = grown.due;
   notices = grown.notices;
@@ -176,3 +221,18 @@ plain_is_reply number file client ask.ListCommands answer get set move quit is =
 plain_is_reply number file client ask.ClientId answer get set move quit is = is
 plain_is_reply number file client ask.DescribeClient answer get set move quit is = is
 plain_is_reply number file client ask.Quit answer get set move quit is = absurd (quit refl)
+
+pub plain_is_here : (keeper : Keeper) (calls : ℕ) (counts : Counts) (command : Command) (answer : Answer) →
+    ((name : List ℕ) → command ≡ ask.Get name → ⊥) → ((name value : List ℕ) → command ≡ ask.Set name value → ⊥) →
+    ((name : List ℕ) (layout : Layout) → command ≡ ask.Move name layout → ⊥) →
+    IsPlainHere keeper calls counts command answer → IsReplyHere keeper calls counts (Ok command) answer
+plain_is_here keeper calls counts (ask.Get name) answer get set move is = absurd (get name refl)
+plain_is_here keeper calls counts (ask.Set name value) answer get set move is = absurd (set name value refl)
+plain_is_here keeper calls counts (ask.Move name layout) answer get set move is = absurd (move name layout refl)
+plain_is_here keeper calls counts ask.Info answer get set move is = is
+plain_is_here keeper calls counts (ask.Ping text) answer get set move is = tt
+plain_is_here keeper calls counts (ask.Echo text) answer get set move is = tt
+plain_is_here keeper calls counts ask.ListCommands answer get set move is = tt
+plain_is_here keeper calls counts ask.ClientId answer get set move is = tt
+plain_is_here keeper calls counts ask.DescribeClient answer get set move is = tt
+plain_is_here keeper calls counts ask.Quit answer get set move is = tt

@@ -1,5 +1,5 @@
 -- Calls that begin at what a node keeps, and letters that come, as what the node does for its clients.
-use Rattle.std.proofs.Common.{◌≡◌, ℕ, Bool, true, false, [], ◌∷◌, ◌++◌, Some, Ok}
+use Rattle.std.proofs.Common.{◌≡◌, inl, inr, ℕ, Bool, true, false, [], ◌∷◌, ◌++◌, None, Some, Ok}
 use Rattle.std.proofs.Common.{refl, sym, subst, ap, ◌∙◌}
 use Rattle.std.proofs.lemmas.List.{append-nil}
 use Rattle.tag.specs.declared.refusal.Refusal.{Refusal}
@@ -31,6 +31,10 @@ use Rattle.node_keeper.specs.declared.delivered.Delivered.{Delivered}
 use Rattle.node_keeper.specs.declared.delivered.Delivered.TheVariants as delivered
 use Rattle.node_keeper.specs.declared.keeper.Keeper.{Keeper}
 use Rattle.node_keeper.proofs.SeenLemmas.{begins_leaves, begins_seen, delivers_leaves, delivers_seen}
+use Rattle.call_ids.specs.CallId.{CallIds}
+use Rattle.indexmap.specs.IndexMap.{index_map_len}
+use Rattle.node_keeper.specs.Acts.{GivesId}
+use Rattle.node.specs.AtOnce.{BeginsHere, IsNextGiven, IsReplyHere}
 use Rattle.node.specs.Replies.{IsReplyTo, MayBegin}
 use Rattle.node.specs.Serving.{IsAwaited, ServesCommand, ServesMore}
 use Rattle.node.specs.declared.node.Node.{Node}
@@ -41,29 +45,47 @@ begins_file : (call : Beginning) (old new : Keeper) (u v : Work) (begun : Begun)
 begins_file call old new u v (begun.Open id) is = is.file
 begins_file call old new u v (begun.Refused why) is = is.file
 
+-- a call got the id that the node gives next
+next_given : (old new : CallIds) (id : ℕ) (before after : Work) → GivesId old id new before after → IsNextGiven old id
+next_given old new id before after (inl is) = inl is.0
+next_given old new id before after (inr is) = inr is.1
+
 -- the command of a client was to begin a call, which waits now, or was refused
 pub call_served : (client : ℕ) (frame : Strings) (command : Command) (call : Beginning) (old new : Node) (u v w : Work)
     (begun : Begun) → command_at frame ≡ Ok command →
     ((id : ℕ) → begun_notices command id ≡ call.notice id ∷ []) →
     ((local : LocalObject) (id : ℕ) (why : Refusal) → call.refusal local id ≡ Some why →
     IsReplyTo old.keeper.ids.node old.keeper.file client (Ok command) (answers.Error (errors.Refused why))) →
-    MayBegin old.keeper.ids.node old.keeper.file command → BeginsCall call old.keeper u new.keeper v begun →
-    new.keeper.ids.node ≡ old.keeper.ids.node →
+    MayBegin old.keeper.ids.node old.keeper.file command →
+    ((id : ℕ) (why : Refusal) → IsNextGiven old.keeper.ids id →
+    call.refusal (objects_of old.keeper.objects call.name) id ≡ Some why →
+    IsReplyHere old.keeper (index_map_len old.desk.calls) old.desk.counts (Ok command)
+    (answers.Error (errors.Refused why))) →
+    ((id : ℕ) → IsNextGiven old.keeper.ids id → call.refusal (objects_of old.keeper.objects call.name) id ≡ None →
+    BeginsHere old.keeper command id) →
+    BeginsCall call old.keeper u new.keeper v begun → new.keeper.ids.node ≡ old.keeper.ids.node →
     IsAwaited old.desk v client (call_begun client command) begun new.desk w → ServesCommand client frame old u new w
-call_served client frame command call old new u v w (begun.Open id) asks notices refusals may begins number awaited =
+call_served client frame command call old new u v w (begun.Open id) asks notices refusals may refused accepted begins number
+    awaited =
     let clients = begins_leaves call old.keeper new.keeper u v (begun.Open id) begins in
     let seen = begins_seen call old.keeper new.keeper u v (begun.Open id) begins in
     let same = awaited.1 in record {
       service = Service.Begins client command id;
       done = (refl, asks, awaited.0);
       right = may;
+      carried = (
+        refl,
+        asks,
+        accepted id (next_given old.keeper.ids new.keeper.ids id u begins.given begins.gives) begins.cause,
+      );
       told = ap (λ (x : Work). x.to_clients.items) same ∙ clients.to_clients ∙ sym (append-nil u.to_clients.items);
       due = ap (λ (x : Work). x.due.items) same ∙ clients.due ∙ sym (append-nil u.due.items);
       notices = ap (λ (x : Work). x.notices.items) same ∙ seen ∙ ap (λ ns. u.notices.items ++ ns) (sym (notices id));
       file = begins_file call old.keeper new.keeper u v (begun.Open id) begins;
       number = number;
     }
-call_served client frame command call old new u v w (begun.Refused why) asks notices refusals may begins number awaited =
+call_served client frame command call old new u v w (begun.Refused why) asks notices refusals may refused accepted begins number
+    awaited =
     let clients = begins_leaves call old.keeper new.keeper u v (begun.Refused why) begins in
     let seen = begins_seen call old.keeper new.keeper u v (begun.Refused why) begins in
     let answer = answers.Error (errors.Refused why) in
@@ -72,6 +94,12 @@ call_served client frame command call old new u v w (begun.Refused why) asks not
       done = (refl, refl, awaited.0);
       right = subst (λ r. IsReplyTo old.keeper.ids.node old.keeper.file client r answer) (sym asks)
           (refusals (objects_of old.keeper.objects call.name) begins.id why begins.cause);
+      carried = (
+        refl,
+        refl,
+        subst (λ r. IsReplyHere old.keeper (index_map_len old.desk.calls) old.desk.counts r answer) (sym asks)
+            (refused begins.id why (next_given old.keeper.ids new.keeper.ids begins.id u v begins.gives) begins.cause),
+      );
       told = grown.to_clients ∙ ap (λ xs. xs ++ (answer_frame client answer ∷ [])) clients.to_clients;
       due = grown.due ∙ ap (λ xs. xs ++ (client ∷ [])) clients.due;
       notices = grown.notices ∙ append-nil v.notices.items ∙ seen;

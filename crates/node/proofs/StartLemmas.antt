@@ -1,12 +1,17 @@
 -- How a node starts.
-use Rattle.std.proofs.Common.{◌≡◌, ◌<◌, ◌^◌, ℕ, suc, Bool, true, false, List, [], ◌∷◌, ◌++◌, refl, sym, ap, ◌∙◌}
+use Rattle.std.proofs.Common.{◌≡◌, ◌<◌, ◌^◌, ℕ, suc, Bool, true, false, List, [], ◌∷◌, ◌++◌, None, nat_eq, refl, sym, ap, ◌∙◌}
+use Rattle.std.proofs.lemmas.Bool.{false≢true}
 use Rattle.std.proofs.lemmas.List.{map-append}
+use Rattle.indexmap.specs.IndexMap.{get}
+use Rattle.connections.specs.Connections.{has_next}
+use Rattle.connections.specs.declared.connections.Connections.{Connections}
 use Rattle.call_ids.specs.CallId.{with_next_epoch}
 use Rattle.recoveries.specs.Records.{IsStarted}
 use Rattle.node_effects.specs.Work.{Growth, IsEmpty, IsGrown, OnlyLogs, entries_in, log_all, no_growth, one_entry}
 use Rattle.node_effects.specs.declared.output.Output.TheVariants as output
 use Rattle.node_effects.specs.declared.work.Work.{Work}
 use Rattle.node_effects.proofs.GrowthLemmas.{entries_all}
+use Rattle.node_clients.specs.Desk.{NoneWaits}
 use Rattle.node_keeper.specs.Keeping.{kept_of}
 use Rattle.node_keeper.specs.Logging.{start_entry}
 use Rattle.node_keeper.specs.declared.keeper.Keeper.{Keeper}
@@ -62,3 +67,9 @@ starts true digest number a b c none first second =
 starts false digest number a b c none first second =
     starts_by (one_entry (cluster_entry digest number)) (cluster_entry digest number ∷ []) a b c refl refl refl refl refl none
     first second
+
+-- no command waits where there are no connections
+pub none_wait : (clients : Connections) → clients.by_number.entries ≡ [] → NoneWaits clients []
+none_wait clients empty client next =
+    let none : get nat_eq clients.by_number client ≡ None = rw empty in
+    absurd (false≢true (ap has_next (sym none) ∙ next))

@@ -1,5 +1,6 @@
 pub mod Frames
 pub mod Replies
+pub mod AtOnce
 pub mod Serving
 pub mod Ticks
 pub mod Handles

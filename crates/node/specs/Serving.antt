@@ -2,7 +2,7 @@
 -- What a node does for its clients with what has come.
 use Rattle.std.specs.Prelude.{◌≡◌, ⊤, ℕ, Bool, true, false, List, [], ◌∷◌, ◌++◌, Option, None, Some, Ok}
 use Rattle.std.specs.List.{AllByRecursion}
-use Rattle.indexmap.specs.IndexMap.{keys}
+use Rattle.indexmap.specs.IndexMap.{index_map_len, keys}
 use Rattle.node_strings.specs.declared.arrival.Arrival.{Arrival}
 use Rattle.node_strings.specs.declared.arrival.Arrival.TheVariants as came
 use Rattle.client_commands.specs.Reading.{command_at}
@@ -13,9 +13,11 @@ use Rattle.string_parts.specs.Strings.{Strings}
 use Rattle.node_effects.specs.Work.{IsGrown}
 use Rattle.node_effects.specs.declared.notice.Notice.{Notice}
 use Rattle.node_effects.specs.declared.work.Work.{Work}
+use Rattle.connections.specs.Connections.{doing, waiting_on}
+use Rattle.connections.specs.declared.connection.State.TheVariants.{Idle}
 use Rattle.node_clients.specs.Answers.{answer_sent}
 use Rattle.node_clients.specs.Calls.{waiting_for}
-use Rattle.node_clients.specs.Desk.{has_listener, with_give_up, with_told}
+use Rattle.node_clients.specs.Desk.{connection_of, has_listener, with_give_up, with_told}
 use Rattle.node_clients.specs.Served.{AreServicesDone, HasQuit, HasServed, IsCallClosed, IsClientAnswered}
 use Rattle.node_clients.specs.Served.{IsOpened, IsReleased, call_begun}
 use Rattle.node_clients.specs.Services.{Service, all_frames, all_notices, service_dues, service_frames, service_notices}
@@ -24,6 +26,7 @@ use Rattle.node_clients.specs.declared.desk.Desk.{Desk}
 use Rattle.node_clients.specs.declared.open_call.OpenCall.{OpenCall}
 use Rattle.node_keeper.specs.declared.delivered.Begun.{Begun}
 use Rattle.node_keeper.specs.declared.delivered.Begun.TheVariants as begun
+use Rattle.node.specs.AtOnce.{IsAtOnce, IsCarriedOut, IsFirstDone}
 use Rattle.node.specs.Replies.{IsRight}
 use Rattle.node.specs.declared.node.Node.{Node}
 
@@ -76,12 +79,21 @@ pub record ServesMore (old : Node) (before : Work) (new : Node) (after : Work) :
   pub serves : ServesClients old before services new after
   pub follows : AllByRecursion FollowsUp services
 
+-- the node did some services that follow up; if a client's connection was idle, the first of them carries out the
+-- oldest command that waited there
+pub record ServesNext (client : ℕ) (old : Node) (before : Work) (new : Node) (after : Work) : Type 0 where
+  pub more : ServesMore old before new after
+  pub first : (frame : Strings) (waiting : List Strings) → doing (connection_of old.desk client) ≡ Idle →
+      waiting_on (connection_of old.desk client) ≡ frame ∷ waiting →
+      IsFirstDone old.keeper (index_map_len old.desk.calls) old.desk.counts client frame more.services
+
 -- the node did the services for what came, and then some that follow up
 pub record ServesArrival (came : Option Arrival) (old : Node) (before : Work) (new : Node) (after : Work) : Type 0 where
   pub coming : List Service
   pub more : List Service
   pub comes : IsComing old.desk came coming
   pub follows : AllByRecursion FollowsUp more
+  pub at_once : IsAtOnce came old.keeper old.desk more
   pub serves : ServesClients old before (coming ++ more) new after
 
 -- the same since the node was `first`, when its work was empty: these are all frames that clients are sent, and all
@@ -92,6 +104,7 @@ pub record ServedSince (came : Option Arrival) (first now : Node) (frames : List
   pub more : List Service
   pub comes : IsComing first.desk came coming
   pub follows : AllByRecursion FollowsUp more
+  pub at_once : IsAtOnce came first.keeper first.desk more
   pub served : AreServicesDone first.keeper.file.ticks first.desk (coming ++ more) now.desk
   pub right : AllByRecursion (IsRight first.keeper.ids.node first.keeper.file) (coming ++ more)
   pub answers : frames ≡ all_frames (coming ++ more)
@@ -117,6 +130,7 @@ pub record ServesCommand (client : ℕ) (frame : Strings) (old : Node) (before :
   pub service : Service
   pub done : IsCommandDone old.desk client frame service new.desk
   pub right : IsRight old.keeper.ids.node old.keeper.file service
+  pub carried : IsCarriedOut old.keeper (index_map_len old.desk.calls) old.desk.counts client frame service
   pub told : after.to_clients.items ≡ before.to_clients.items ++ service_frames service
   pub due : after.due.items ≡ before.due.items ++ service_dues service
   pub notices : after.notices.items ≡ before.notices.items ++ service_notices service

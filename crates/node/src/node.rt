@@ -56,6 +56,7 @@ impl Node {
     pub fn new(alloc: Global, file: ClusterFile, number: u8) -> Node
         ensures kept { kept_of result.keeper ≡ new_node (names_of file) number }
         ensures digest { result.keeper.digest ≡ fixed_digest file.fixed }
+        ensures waits { NoneWaits result.desk.clients [] }
     {
         Node {
             alloc,

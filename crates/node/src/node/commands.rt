@@ -1,6 +1,6 @@
 //! What a node does with the commands of its clients.
 ghost use Rattle.std.specs.Prelude.{◌≡◌, ◌∷◌, [], ℕ, List, false, nat_eq, true, IfOk, OnOk, Ok, Some};
-ghost use Rattle.indexmap.specs.IndexMap.{get};
+ghost use Rattle.indexmap.specs.IndexMap.{get, index_map_len};
 ghost use Rattle.connections.specs.Connections.{doing};
 ghost use Rattle.connections.specs.declared.connection.State.TheVariants.{Busy};
 ghost use Rattle.client_commands.specs.Reading.{command_at};
@@ -8,8 +8,9 @@ ghost use Rattle.client_commands.specs.declared.command.Command.TheVariants as a
 ghost use Rattle.node_clients.specs.Answers.{TellsClients};
 ghost use Rattle.node_clients.specs.Desk.{NoneWaits};
 ghost use Rattle.node_keeper.specs.Acts.{Acts};
+ghost use Rattle.node.specs.AtOnce.{IsPlainHere};
 ghost use Rattle.node.specs.Replies.{HasOnlyNodes, IsPlainReply};
-ghost use Rattle.node.specs.Serving.{IsAwaited, ServesCommand, ServesMore};
+ghost use Rattle.node.specs.Serving.{IsAwaited, ServesCommand, ServesNext};
 
 use super::Node;
 use bytes::Bytes;
@@ -26,7 +27,7 @@ impl Node {
     /// Carries out the next command of a connection, if one may be carried out.
     pub(super) fn go_on(&mut self, client: ConnectionId, work: &mut Work) -> Result<(), NodeError>
         ensures acts { OnOk result ((asker : ℕ) → Acts asker [] self.old.keeper work.old self.new.keeper work.new) }
-        ensures serves { OnOk result (ServesMore self.old work.old self.new work.new) }
+        ensures serves { OnOk result (ServesNext client self.old work.old self.new work.new) }
         ensures waits { OnOk result (NoneWaits self.old.desk.clients (client ∷ work.old.due.items)
             → NoneWaits self.new.desk.clients work.new.due.items) }
     {
@@ -82,7 +83,9 @@ impl Node {
 
     // The answer to a command that concerns no name, and is no `QUIT`.
     fn plain_answer(&self, client: ConnectionId, command: Command) -> Result<Answer, NodeError>
-        ensures { IfOk result (IsPlainReply client command) }
+        ensures plain { IfOk result (IsPlainReply client command) }
+        ensures here { IfOk result
+            (IsPlainHere self.now.keeper (index_map_len self.now.desk.calls) self.now.desk.counts command) }
     {
         match command {
             Command::Info => Ok(Answer::Value(self.info()?)),

@@ -1,38 +1,93 @@
 //! What a node tells about itself.
+ghost use Rattle.std.specs.Prelude.{◌≡◌, IfOk, Some};
+ghost use Rattle.indexmap.specs.IndexMap.{index_map_len};
+ghost use Rattle.node.specs.AtOnce.{count_lines, info_lines, name_lines, size_lines};
+
 use super::Node;
 use bytes::Bytes;
+use node_clients::Counts;
 use node_effects::NodeError;
-use std::fmt::Write;
+use std::fmt;
+use words::Hexadecimal;
 
 impl Node {
     /// Returns the lines of `INFO`, each with a key and a value.
-    pub(super) fn info(&self) -> Result<Bytes, NodeError> {
-        let mut text = String::new(self.alloc);
-        write!(text, "program:casd\r\n")?;
-        write!(text, "node:{}\r\n", self.keeper.number())?;
-        write!(text, "cluster:")?;
-        for byte in self.keeper.digest {
-            write!(text, "{byte:02x}")?;
-        }
-        write!(text, "\r\nepoch:{}\r\n", self.keeper.ids.epoch())?;
-        self.push_counts(&mut text)?;
+    pub(super) fn info(&self) -> Result<Bytes, NodeError>
+        ensures { IfOk result (λ text. text ≡ info_lines self.now.keeper
+            (index_map_len self.now.desk.clients.by_number) (index_map_len self.now.desk.calls) self.now.desk.counts) }
+    {
+        let name = NameLines {
+            node: self.keeper.number(),
+            digest: &self.keeper.digest,
+            epoch: self.keeper.ids.epoch(),
+        };
+        let sizes = SizeLines {
+            objects: self.keeper.objects.count(),
+            bytes: self.keeper.objects.bytes_stored(),
+            clients: self.desk.clients.count(),
+            calls: self.desk.calls.len(),
+        };
+        let counts = CountLines(self.desk.counts);
+        let text = format!(in self.alloc; "{name}{sizes}{counts}")?;
         Ok(Bytes::from_string(text)?)
     }
+}
 
-    // The lines with counts.
-    fn push_counts(&self, text: &mut String) -> Result<(), NodeError> {
-        write!(text, "objects:{}\r\n", self.keeper.objects.count())?;
+// The lines that name the program, the node, the cluster and the epoch.
+#[derive(Clone, Copy)]
+struct NameLines<'a> {
+    node: u8,
+    digest: &'a [u8],
+    epoch: u32,
+}
+
+impl fmt::Display for NameLines<'_> {
+    ghost output = { λ it. Some (name_lines it.node it.digest.now it.epoch) };
+
+    fn fmt<W: fmt::Write>(&self, f: &mut fmt::Formatter<W>) -> fmt::Result {
         write!(
-            text,
-            "bytes_stored:{}\r\n",
-            self.keeper.objects.bytes_stored()
-        )?;
-        write!(text, "clients:{}\r\n", self.desk.clients.count())?;
-        write!(text, "calls_open:{}\r\n", self.desk.calls.len())?;
-        write!(text, "commands_answered:{}\r\n", self.desk.counts.answered)?;
-        write!(text, "calls_given_up:{}\r\n", self.desk.counts.given_up)?;
-        write!(text, "frames_dropped:{}\r\n", self.desk.counts.dropped)?;
-        write!(text, "bytes_of_the_log:{}\r\n", self.desk.counts.log_bytes)?;
-        Ok(())
+            f,
+            "program:casd\r\nnode:{}\r\ncluster:{}\r\nepoch:{}\r\n",
+            self.node,
+            Hexadecimal(self.digest),
+            self.epoch
+        )
+    }
+}
+
+// The lines with the numbers of objects, bytes, connections and open calls.
+#[derive(Clone, Copy)]
+struct SizeLines {
+    objects: usize,
+    bytes: u64,
+    clients: usize,
+    calls: usize,
+}
+
+impl fmt::Display for SizeLines {
+    ghost output = { λ it. Some (size_lines it.objects it.bytes it.clients it.calls) };
+
+    fn fmt<W: fmt::Write>(&self, f: &mut fmt::Formatter<W>) -> fmt::Result {
+        write!(
+            f,
+            "objects:{}\r\nbytes_stored:{}\r\nclients:{}\r\ncalls_open:{}\r\n",
+            self.objects, self.bytes, self.clients, self.calls
+        )
+    }
+}
+
+// The lines with what was counted.
+#[derive(Clone, Copy)]
+struct CountLines(Counts);
+
+impl fmt::Display for CountLines {
+    ghost output = { λ it. Some (count_lines it.0) };
+
+    fn fmt<W: fmt::Write>(&self, f: &mut fmt::Formatter<W>) -> fmt::Result {
+        write!(
+            f,
+            "commands_answered:{}\r\ncalls_given_up:{}\r\nframes_dropped:{}\r\nbytes_of_the_log:{}\r\n",
+            self.0.answered, self.0.given_up, self.0.dropped, self.0.log_bytes
+        )
     }
 }

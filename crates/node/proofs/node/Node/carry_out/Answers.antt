@@ -2,6 +2,8 @@ use Rattle.std.proofs.Common.{[], refl, sym, subst}
 use Rattle.std.proofs.lemmas.Result.{on_ok_weaker}
 use Rattle.client_commands.specs.declared.answer.Answer.TheVariants as answers
 use Rattle.client_commands.specs.declared.answer.AnswerError.TheVariants as errors
+use Rattle.indexmap.specs.IndexMap.{index_map_len}
+use Rattle.node.specs.AtOnce.{IsReplyHere}
 use Rattle.node.specs.Replies.{IsReplyTo}
 use Rattle.node.proofs.CommandLemmas.{answer_is_sent, answered_now, replied}
 use Rattle.node.proofs.TellLemmas.{tells_acts}
@@ -25,5 +27,6 @@ returns-in-Err-clause-serves c =
     (λ grown. replied client c.args.frame answer old (record old { desk = c.refuse.new.self }) c.args.work.now c.refuse.new.work
     (answered_now old.desk c.refuse.new.self client c.requires c.refuse.ensures.idle c.refuse.ensures.calls c.refuse.ensures.counts)
     (answer_is_sent old.desk client answer c.args.work.now c.refuse.new.work c.requires grown)
-    (subst (λ r. IsReplyTo old.keeper.ids.node old.keeper.file client r answer) c.in-Err.ensures.exact refl) refl refl)
+    (subst (λ r. IsReplyTo old.keeper.ids.node old.keeper.file client r answer) c.in-Err.ensures.exact refl)
+    (subst (λ r. IsReplyHere old.keeper (index_map_len old.desk.calls) old.desk.counts r answer) c.in-Err.ensures.exact tt) refl refl)
     c.refuse.ensures.grown

@@ -1,4 +1,4 @@
-use Rattle.std.proofs.Common.{◌≡◌, ◌++◌, ◌∷◌, [], List, map, ap, ◌∙◌}
+use Rattle.std.proofs.Common.{◌++◌, ◌∷◌, [], List, map, ap, ◌∙◌}
 use Rattle.rewritten_logs.proofs.RewrittenLogLemmas.{rewritten_record}
 use Rattle.string_parts.specs.Strings.{Strings}
 use Rattle.node_objects.specs.Objects.{heard_names}

@@ -30,7 +30,8 @@ returns-in-Some-next_due-clause-served c =
     let work = c.args.work.now in
     λ came first since. since_then came first c.args.self.now c.go_on.new.self work.to_clients.items work.notices.items
     c.next_due.new.self c.go_on.new.work (c.in-Some-next_due.ensures.to_clients ∙ c.in_default.ensures.to_clients)
-    (c.in-Some-next_due.ensures.notices ∙ c.in_default.ensures.notices) since c.in_ok-go_on.ensures.serves
+    (c.in-Some-next_due.ensures.notices ∙ c.in_default.ensures.notices) since
+    c.in_ok-go_on.ensures.serves.more
 
 pub returns-in-Some-next_due-clause-number : goal.returns-in-Some-next_due-clause-number
 returns-in-Some-next_due-clause-number c = (c.in_ok-go_on.ensures.acts 0).node

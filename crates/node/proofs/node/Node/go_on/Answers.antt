@@ -4,8 +4,8 @@ use Rattle.indexmap.specs.IndexMap.{get}
 use Rattle.node_clients.specs.Served.{IsCommandTaken}
 use Rattle.node.specs.declared.node.Node.{Node}
 use Rattle.node.proofs.LeftLemmas.{not_next_waits, taken_waits}
-use Rattle.node.proofs.CommandLemmas.{no_next, taken_served}
-use Rattle.node.proofs.ServingLemmas.{more_none, serves_none}
+use Rattle.node.proofs.CommandLemmas.{no_next, nothing_next, taken_served}
+use Rattle.node.proofs.ServingLemmas.{serves_none}
 use Rattle.node.proofs.TellLemmas.{idle}
 use Rattle.node.proofs.node.Node.go_on.Goals as goal
 
@@ -16,7 +16,8 @@ pub returns-then-not-has_next-clause-serves : goal.returns-then-not-has_next-cla
 returns-then-not-has_next-clause-serves c =
     let old = c.args.self.now in
     let work = c.args.work.now in
-    more_none old old work work (serves_none old old work work refl refl refl refl refl refl)
+    nothing_next c.args.client old old work work (sym c.has_next.ensures ∙ c.if-not-has_next.true)
+    (serves_none old old work work refl refl refl refl refl refl)
 
 pub returns-then-not-has_next-clause-waits : goal.returns-then-not-has_next-clause-waits
 returns-then-not-has_next-clause-waits c =

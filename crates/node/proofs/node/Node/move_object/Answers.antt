@@ -1,5 +1,8 @@
 use Rattle.std.proofs.Common.{[], ◌≡◌, ◌∙◌, inl, inr, refl, subst, sym, true, false}
+use Rattle.std.proofs.lemmas.Bool.{false≢true}
 use Rattle.std.proofs.lemmas.Result.{on_ok_weaker}
+use Rattle.indexmap.specs.IndexMap.{index_map_len}
+use Rattle.node.specs.AtOnce.{IsReplyHere}
 use Rattle.node_keeper.proofs.ActLemmas.{acts_more}
 use Rattle.node.proofs.TellLemmas.{tells_acts}
 use Rattle.tag.specs.declared.refusal.Refusal.TheVariants.{BadLayout}
@@ -45,7 +48,9 @@ returns-then-not-is_mover-clause-serves c =
     (answered_now old.desk c.refuse.new.self client c.requires c.refuse.ensures.idle c.refuse.ensures.calls c.refuse.ensures.counts)
     (answer_is_sent old.desk client answer c.args.work.now c.refuse.new.work c.requires grown)
     (subst (λ r. IsReplyTo old.keeper.ids.node old.keeper.file client r answer) (sym asks)
-    (subst (λ b. IsMoveRefused b old.keeper.file c.args.layout answer) (sym moves) refl)) refl refl) c.refuse.ensures.grown
+    (subst (λ b. IsMoveRefused b old.keeper.file c.args.layout answer) (sym moves) refl))
+    (subst (λ r. IsReplyHere old.keeper (index_map_len old.desk.calls) old.desk.counts r answer) (sym asks)
+    (λ does only. absurd (false≢true (sym moves ∙ does)))) refl refl) c.refuse.ensures.grown
 
 pub returns-then-not-has_members-clause-serves : goal.returns-then-not-has_members-clause-serves
 returns-then-not-has_members-clause-serves c =
@@ -62,7 +67,9 @@ returns-then-not-has_members-clause-serves c =
     (answer_is_sent old.desk client answer c.args.work.now refused.new.work c.requires grown)
     (subst (λ r. IsReplyTo old.keeper.ids.node old.keeper.file client r answer) (sym asks)
     (subst (λ b. IsMoveRefused b old.keeper.file c.args.layout answer) (sym moves)
-    (inl (c.has_members.ensures.strangers c.if-not-has_members.true, refl)))) refl refl) refused.ensures.grown
+    (inl (c.has_members.ensures.strangers c.if-not-has_members.true, refl))))
+    (subst (λ r. IsReplyHere old.keeper (index_map_len old.desk.calls) old.desk.counts r answer) (sym asks)
+    (λ does only. absurd (c.has_members.ensures.strangers c.if-not-has_members.true only))) refl refl) refused.ensures.grown
 
 pub returns-clause-serves : goal.returns-clause-serves
 returns-clause-serves c =
@@ -77,5 +84,6 @@ returns-clause-serves c =
     (λ awaited frame asks. call_served client frame (ask.Move c.args.name layout) (moving_call c.args.name layout) old new
     c.args.work.now c.begin_move.new.work c.wait.new.work c.in_ok-begun.begun asks (λ id. refl)
     (λ local id why e. subst (λ b. IsMoveRefused b old.keeper.file layout (answers.Error (errors.Refused why))) (sym moves)
-    (inr (only, (local, id, why, e, refl)))) (moves, only) c.in_ok-begun.ensures.begins (c.in_ok-begun.ensures.acts 0).node awaited)
+    (inr (only, (local, id, why, e, refl)))) (moves, only) (λ id why next e. λ does within. (id, next, why, e, refl))
+    (λ id next e. (next, e)) c.in_ok-begun.ensures.begins (c.in_ok-begun.ensures.acts 0).node awaited)
     c.wait.ensures.awaited

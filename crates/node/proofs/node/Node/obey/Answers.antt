@@ -1,8 +1,10 @@
 use Rattle.std.proofs.Common.{[], refl, sym, subst, Ok, ap, ◌∙◌}
 use Rattle.std.proofs.lemmas.Result.{on_ok_weaker}
+use Rattle.indexmap.specs.IndexMap.{index_map_len}
+use Rattle.node.specs.AtOnce.{IsReplyHere}
 use Rattle.node.specs.Replies.{IsReplyTo}
 use Rattle.node.specs.declared.node.Node.{Node}
-use Rattle.node.proofs.CommandLemmas.{answer_is_sent, answered_now, plain_is_reply, quits, replied}
+use Rattle.node.proofs.CommandLemmas.{answer_is_sent, answered_now, plain_is_here, plain_is_reply, quits, replied}
 use Rattle.node.proofs.TellLemmas.{tells_acts}
 use Rattle.node.proofs.node.Node.obey.Goals as goal
 
@@ -50,4 +52,7 @@ returns-in_ok-answer-in_default-clause-serves c =
     (subst (λ r. IsReplyTo old.keeper.ids.node old.keeper.file client r answer) (sym asks)
     (plain_is_reply old.keeper.ids.node old.keeper.file client c.args.command answer c.in_default.not-Get c.in_default.not-Set
     c.in_default.not-Move c.in_default.not-Quit
-    c.in_ok-answer-in_default.ensures)) refl refl) c.answer.ensures.grown
+    c.in_ok-answer-in_default.ensures.plain))
+    (subst (λ r. IsReplyHere old.keeper (index_map_len old.desk.calls) old.desk.counts r answer) (sym asks)
+    (plain_is_here old.keeper (index_map_len old.desk.calls) old.desk.counts c.args.command answer c.in_default.not-Get
+    c.in_default.not-Set c.in_default.not-Move c.in_ok-answer-in_default.ensures.here)) refl refl) c.answer.ensures.grown

@@ -1,4 +1,4 @@
-use Rattle.std.proofs.Common.{Some, [], ◌∷◌, refl, subst, sym}
+use Rattle.std.proofs.Common.{Some, [], ◌∷◌, ◌++◌, ◌∙◌, ap, refl, subst, sym}
 use Rattle.std.proofs.lemmas.Result.{on_ok_weaker}
 use Rattle.indexmap.specs.IndexMap.{keys}
 use Rattle.node_strings.specs.declared.arrival.Arrival.TheVariants as came
@@ -29,7 +29,7 @@ returns-in-Left-clause-serves c =
     let gone : IsGone old.desk client new.desk =
     record { gone = c.leave.ensures.gone; others = c.leave.ensures.others; calls = refl; counts = refl } in
     subst (λ a. ServesArrival (Some a) old work new work) (sym c.in-Left.is)
-    (arrival_alone (Some (came.Left client)) old new work work (Service.Leaves client ∷ []) refl
+    (arrival_alone (Some (came.Left client)) old new work work (Service.Leaves client ∷ []) refl tt
     (unsent_one old new work (Service.Leaves client) gone refl refl refl tt refl))
 
 pub returns-in-Left-clause-waits : goal.returns-in-Left-clause-waits
@@ -60,9 +60,11 @@ returns-in_ok-push-in-Command-clause-serves c =
       counts = refl;
     } in
     on_ok_weaker c.go_on.result
-    (λ more. subst (λ a. ServesArrival (Some a) old work new c.go_on.new.work) (sym c.in-Command.is)
+    (λ next. subst (λ a. ServesArrival (Some a) old work new c.go_on.new.work) (sym c.in-Command.is)
     (arrival_then (Some (came.Command client frame)) old between new work work c.go_on.new.work (Service.Arrives client frame)
-    refl (unsent_one old between work (Service.Arrives client frame) arrived refl refl refl tt refl) more)) c.go_on.ensures.serves
+    refl (unsent_one old between work (Service.Arrives client frame) arrived refl refl refl tt refl) next.more
+    (λ free. next.first frame [] (arrived.state ∙ free.0) (arrived.waiting ∙ ap (λ xs. xs ++ (frame ∷ [])) free.1))))
+    c.go_on.ensures.serves
 
 pub returns-in_ok-push-in-Command-clause-waits : goal.returns-in_ok-push-in-Command-clause-waits
 returns-in_ok-push-in-Command-clause-waits c =
@@ -89,7 +91,7 @@ returns-in-Message-clause-serves c =
     let work = c.args.work.now in
     on_ok_weaker c.receive.result
     (λ more. subst (λ a. ServesArrival (Some a) old work new c.receive.new.work) (sym c.in-Message.is)
-    (arrival_more (Some (came.Message c.in-Message.sender c.in-Message.frame)) old new work c.receive.new.work refl more))
+    (arrival_more (Some (came.Message c.in-Message.sender c.in-Message.frame)) old new work c.receive.new.work refl more tt))
     c.receive.ensures.serves
 
 pub returns-in-Message-clause-waits : goal.returns-in-Message-clause-waits
@@ -104,7 +106,8 @@ returns-in-Tick-clause-serves c =
     let work = c.args.work.now in
     on_ok_weaker c.tick.result
     (λ serves. subst (λ a. ServesArrival (Some a) old work new c.tick.new.work) (sym c.in-Tick.is)
-    (arrival_alone (Some came.Tick) old new work c.tick.new.work serves.services serves.ticks serves.serves)) c.tick.ensures.serves
+    (arrival_alone (Some came.Tick) old new work c.tick.new.work serves.services serves.ticks tt serves.serves))
+    c.tick.ensures.serves
 
 pub returns-in-Tick-clause-waits : goal.returns-in-Tick-clause-waits
 returns-in-Tick-clause-waits c =

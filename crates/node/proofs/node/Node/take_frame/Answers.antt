@@ -33,7 +33,7 @@ returns-in-None-clause-serves c =
     let new = record old { desk = c.drop_frame.new.self } in
     let work = c.args.work.now in
     subst (λ came. ServesArrival came old work new work) c.in-None.ensures.exact
-    (arrival_alone _ old new work work (Service.Drops ∷ []) refl
+    (arrival_alone _ old new work work (Service.Drops ∷ []) refl tt
     (drops_one old new work (c.drop_frame.ensures.clients, c.drop_frame.ensures.calls, c.drop_frame.ensures.counts) refl))
 
 pub returns-in-None-clause-waits : goal.returns-in-None-clause-waits

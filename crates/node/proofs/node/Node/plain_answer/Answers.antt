@@ -1,0 +1,12 @@
+use Rattle.std.proofs.Common.{ap, subst, sym}
+use Rattle.indexmap.specs.IndexMap.{index_map_len}
+use Rattle.client_commands.specs.declared.answer.Answer.TheVariants as answers
+use Rattle.node.specs.AtOnce.{IsPlainHere}
+use Rattle.node.proofs.node.Node.plain_answer.Goals as goal
+
+pub returns-in-Info-clause-here : goal.returns-in-Info-clause-here
+returns-in-Info-clause-here c =
+    let desk = c.args.self.now.desk in
+    subst (λ command. IsPlainHere c.args.self.now.keeper (index_map_len desk.calls) desk.counts command
+    (answers.Value c.in_ok-info-in-Info.field-0)) (sym c.in-Info.is)
+    (index_map_len desk.clients.by_number, ap answers.Value c.in_ok-info-in-Info.ensures)

@@ -1,0 +1,133 @@
+-- The contracts that docs/trusted.md lists do not depend on this file; other contracts and proofs do.
+-- What a node does with a command that it carries out at once, by what it keeps before the command comes.
+use Rattle.std.specs.Prelude.{◌≡◌, ◌⊎◌, ⊤, ℕ, ◌-◌, ◌^◌, min, true, List, [], ◌∷◌, ◌++◌, length}
+use Rattle.std.specs.Prelude.{codes, Option, None, Some, Ok, Err}
+use Rattle.std.specs.Fmt.{decimal}
+use Rattle.std.specs.List.{concat}
+use Rattle.words.specs.Hexadecimal.{hexadecimal_text}
+use Rattle.indexmap.specs.IndexMap.{index_map_len}
+use Rattle.tag.specs.declared.refusal.Refusal.{Refusal}
+use Rattle.call_ids.specs.CallId.{CallIds, next_given_id, with_next_epoch}
+use Rattle.connections.specs.Connections.{doing, waiting_on}
+use Rattle.connections.specs.declared.connection.Connection.{Connection}
+use Rattle.connections.specs.declared.connection.State.TheVariants.{Idle}
+use Rattle.local_object.specs.Doing.{move_refusal, read_refusal, write_refusal}
+use Rattle.local_object.specs.Local.{LocalObject}
+use Rattle.client_commands.specs.Reading.{Found, command_at}
+use Rattle.client_commands.specs.declared.answer.Answer.{Answer}
+use Rattle.client_commands.specs.declared.answer.Answer.TheVariants as answers
+use Rattle.client_commands.specs.declared.answer.AnswerError.TheVariants as errors
+use Rattle.client_commands.specs.declared.command.Command.{Command}
+use Rattle.client_commands.specs.declared.command.Command.TheVariants as ask
+use Rattle.string_parts.specs.Strings.{Strings}
+use Rattle.node_strings.specs.declared.arrival.Arrival.{Arrival}
+use Rattle.node_strings.specs.declared.arrival.Arrival.TheVariants as came
+use Rattle.node_objects.specs.Objects.{bytes_in_banks, heard_names, objects_of}
+use Rattle.node_clients.specs.Desk.{connection_of}
+use Rattle.node_clients.specs.Services.{Service}
+use Rattle.node_clients.specs.declared.counts.Counts.{Counts}
+use Rattle.node_clients.specs.declared.desk.Desk.{Desk}
+use Rattle.node_keeper.specs.declared.keeper.Keeper.{Keeper}
+use Rattle.node.specs.Replies.{HasOnlyNodes, moves_objects}
+
+-- this is the id that a node gives next: the next one of its epoch, or the first one of the next epoch
+abbrev pub IsNextGiven : CallIds → (id : ℕ) → Type 0
+IsNextGiven ids id = (next_given_id ids ≡ Some id) ⊎ (next_given_id (with_next_epoch ids) ≡ Some id)
+
+-- the object of this name refuses the call with the next id, and the answer has the object's reason
+abbrev pub IsRefusedHere : Keeper → (name : List ℕ) → (LocalObject → (id : ℕ) → Option Refusal) → Answer → Type 0
+IsRefusedHere keeper name refusal answer =
+    (id : ℕ) × IsNextGiven keeper.ids id × (why : Refusal)
+    × (refusal (objects_of keeper.objects name) id ≡ Some why) × (answer ≡ answers.Error (errors.Refused why))
+
+-- the call gets the next id, and the object of this name has no reason to refuse it
+abbrev pub IsBegunHere : Keeper → (name : List ℕ) → (LocalObject → (id : ℕ) → Option Refusal) → (id : ℕ) → Type 0
+IsBegunHere keeper name refusal id =
+    IsNextGiven keeper.ids id × (refusal (objects_of keeper.objects name) id ≡ None)
+
+-- INFO
+
+-- the lines of INFO that name the program, the node, its cluster and its epoch
+abbrev pub name_lines : (node : ℕ) → (digest : List ℕ) → (epoch : ℕ) → List ℕ
+name_lines node digest epoch = concat (
+    codes "program:casd\r\nnode:" ∷ decimal node ∷ codes "\r\ncluster:" ∷ hexadecimal_text digest
+    ∷ codes "\r\nepoch:" ∷ decimal epoch ∷ codes "\r\n" ∷ [])
+
+-- the lines with the numbers of objects, of bytes that their banks store, of connections, and of open calls
+abbrev pub size_lines : (objects bytes clients calls : ℕ) → List ℕ
+size_lines objects bytes clients calls = concat (
+    codes "objects:" ∷ decimal objects ∷ codes "\r\nbytes_stored:" ∷ decimal bytes
+    ∷ codes "\r\nclients:" ∷ decimal clients ∷ codes "\r\ncalls_open:" ∷ decimal calls ∷ codes "\r\n" ∷ [])
+
+-- the lines with what a node has counted
+abbrev pub count_lines : Counts → List ℕ
+count_lines counts = concat (
+    codes "commands_answered:" ∷ decimal counts.answered ∷ codes "\r\ncalls_given_up:" ∷ decimal counts.given_up
+    ∷ codes "\r\nframes_dropped:" ∷ decimal counts.dropped
+    ∷ codes "\r\nbytes_of_the_log:" ∷ decimal counts.log_bytes ∷ codes "\r\n" ∷ [])
+
+-- all lines of INFO, of a node with so many connections and open calls
+abbrev pub info_lines : Keeper → (clients calls : ℕ) → Counts → List ℕ
+info_lines keeper clients calls counts =
+    let objects = length (heard_names keeper.objects) in
+    let bytes = min (bytes_in_banks keeper.objects) (2 ^ 64 - 1) in
+    name_lines keeper.ids.node keeper.digest keeper.ids.epoch
+    ++ (size_lines objects bytes clients calls ++ count_lines counts)
+
+-- the answer to INFO: its lines, with some number of connections
+abbrev pub IsInfoHere : Keeper → (calls : ℕ) → Counts → Answer → Type 0
+IsInfoHere keeper calls counts answer =
+    (clients : ℕ) × (answer ≡ answers.Value (info_lines keeper clients calls counts))
+
+-- Commands
+
+-- how a command that concerns no name is answered: INFO by its lines; for any other command this says nothing
+abbrev pub IsPlainHere : Keeper → (calls : ℕ) → Counts → Command → Answer → Type 0
+IsPlainHere keeper calls counts ask.Info answer = IsInfoHere keeper calls counts answer
+IsPlainHere keeper calls counts command answer = ⊤
+
+-- how a command that begins no call is answered, by what the node keeps; this says nothing of an answer that depends on
+-- the command alone
+abbrev pub IsReplyHere : Keeper → (calls : ℕ) → Counts → Found → Answer → Type 0
+IsReplyHere keeper calls counts (Err fault) answer = ⊤
+IsReplyHere keeper calls counts (Ok (ask.Get name)) answer = IsRefusedHere keeper name read_refusal answer
+IsReplyHere keeper calls counts (Ok (ask.Set name value)) answer =
+    IsRefusedHere keeper name (λ local id. write_refusal local id value) answer
+IsReplyHere keeper calls counts (Ok (ask.Move name layout)) answer =
+    moves_objects keeper.ids.node keeper.file ≡ true → HasOnlyNodes keeper.file layout →
+    IsRefusedHere keeper name move_refusal answer
+IsReplyHere keeper calls counts (Ok command) answer = IsPlainHere keeper calls counts command answer
+
+-- the command begins the call with this id, by what the node keeps
+abbrev pub BeginsHere : Keeper → Command → (id : ℕ) → Type 0
+BeginsHere keeper (ask.Get name) id = IsBegunHere keeper name read_refusal id
+BeginsHere keeper (ask.Set name value) id = IsBegunHere keeper name (λ local id. write_refusal local id value) id
+BeginsHere keeper (ask.Move name layout) id = IsBegunHere keeper name move_refusal id
+BeginsHere keeper command id = ⊤
+
+-- the service carries out this command of a client, and its outcome is the one for what the node keeps
+abbrev pub IsCarriedOut : Keeper → (calls : ℕ) → Counts → (client : ℕ) → (frame : Strings) → Service → Type 0
+IsCarriedOut keeper calls counts client frame (Service.Begins other command id) =
+    (other ≡ client) × (command_at frame ≡ Ok command) × BeginsHere keeper command id
+IsCarriedOut keeper calls counts client frame (Service.Replies other command answer) =
+    (other ≡ client) × (command ≡ frame) × IsReplyHere keeper calls counts (command_at frame) answer
+IsCarriedOut keeper calls counts client frame (Service.Quits other) =
+    (other ≡ client) × (command_at frame ≡ Ok ask.Quit)
+IsCarriedOut keeper calls counts client frame service = ⊥
+
+-- the first of these services carries out this command of a client
+abbrev pub IsFirstDone : Keeper → (calls : ℕ) → Counts → (client : ℕ) → (frame : Strings) → List Service → Type 0
+IsFirstDone keeper calls counts client frame [] = ⊥
+IsFirstDone keeper calls counts client frame (service ∷ services) =
+    IsCarriedOut keeper calls counts client frame service
+
+-- a connection is idle, and no command waits on it; so is one that is not there
+abbrev pub IsFree : Option Connection → Type 0
+IsFree connection = (doing connection ≡ Idle) × (waiting_on connection ≡ [])
+
+-- a command that comes on a free connection is carried out first, by what the node keeps as the command comes
+abbrev pub IsAtOnce : Option Arrival → Keeper → Desk → (more : List Service) → Type 0
+IsAtOnce (Some (came.Command client frame)) keeper desk more =
+    IsFree (connection_of desk client) →
+    IsFirstDone keeper (index_map_len desk.calls) desk.counts client frame more
+IsAtOnce arrival keeper desk more = ⊤
