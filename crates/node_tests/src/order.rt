@@ -37,17 +37,25 @@ fn readdressed(
     to: &str,
     from: &str,
 ) -> Option<Frame> {
-    let mut strings = frame.into_strings();
-    match strings.first_mut() {
-        Some(address) => {
-            if address.as_slice() != to.as_bytes() {
-                return None;
-            }
-            *address = Bytes::copy_from_slice(alloc, from.as_bytes()).expect(rt, "memory");
-        }
-        None => return None,
+    if !is_addressed(frame.strings(), to) {
+        return None;
     }
+    let mut strings = frame.into_strings();
+    set_address(rt, alloc, &mut strings, from);
     Some(Frame::new(strings).expect(rt, "a frame"))
+}
+
+fn is_addressed(strings: &[Bytes], to: &str) -> bool {
+    match strings {
+        [address, ..] => address.as_slice() == to.as_bytes(),
+        [] => false,
+    }
+}
+
+fn set_address(rt: &impl Abort, alloc: Global, strings: &mut Vec<Bytes>, from: &str) {
+    if let Some(address) = strings.first_mut() {
+        *address = Bytes::copy_from_slice(alloc, from.as_bytes()).expect(rt, "memory");
+    }
 }
 
 // How many frames stand before the first entry. None if there is no entry.
@@ -61,19 +69,39 @@ fn sent_before_entry(outputs: &[Output]) -> Option<usize> {
 fn requests_stand_before_the_entry_of_the_node_itself(rt: HostRuntime) {
     let mut first = started(&rt, rt.alloc(), 1);
     let mut second = started(&rt, rt.alloc(), 2);
-    let command = frame(&rt, rt.alloc(), &["client 1", "SET", "photo", "hello"]);
-    let mut last = first.handle(command).expect(&rt, "effects");
-    let mut phases = 0u32;
-    for _ in 0..8u32 {
+    let phases = phases_before_the_entry(&rt, rt.alloc(), &mut first, &mut second);
+    assert!(rt; phases > 0 && phases < 8);
+}
+
+// How many phases of a write go by before the first node logs an entry.
+fn phases_before_the_entry(
+    rt: &impl Abort,
+    alloc: Global,
+    first: &mut Node,
+    second: &mut Node,
+) -> u32 {
+    let command = frame(rt, alloc, &["client 1", "SET", "photo", "hello"]);
+    let mut last = first.handle(command).expect(rt, "effects");
+    for phase in 0..8u32 {
         if let Some(count) = sent_before_entry(&last.outputs) {
             assert!(rt; count == 2);
-            break;
+            return phase;
         }
-        phases = phases.saturating_add(1);
-        let request = carried(&rt, rt.alloc(), last, "node 2", "node 1");
-        let served = second.handle(request).expect(&rt, "effects");
-        let reply = carried(&rt, rt.alloc(), served, "node 1", "node 2");
-        last = first.handle(reply).expect(&rt, "effects");
+        last = after_a_reply(rt, alloc, last, first, second);
     }
-    assert!(rt; phases > 0 && phases < 8);
+    8
+}
+
+// What the first node wants done once the second one has replied to its request.
+fn after_a_reply(
+    rt: &impl Abort,
+    alloc: Global,
+    last: Effects,
+    first: &mut Node,
+    second: &mut Node,
+) -> Effects {
+    let request = carried(rt, alloc, last, "node 2", "node 1");
+    let served = second.handle(request).expect(rt, "effects");
+    let reply = carried(rt, alloc, served, "node 1", "node 2");
+    first.handle(reply).expect(rt, "effects")
 }
