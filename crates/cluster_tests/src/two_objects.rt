@@ -2,6 +2,7 @@
 use crate::acts::{assert_value, one_object, read, write};
 use cluster::{Accounts, Cluster};
 use driver::First;
+use register::Receipt;
 use std::alloc::Global;
 use std::process::Abort;
 
@@ -59,11 +60,21 @@ fn entries_count(rt: &impl Abort, cluster: &Cluster, name: &str) -> usize {
 fn reads_one_of_two_objects(rt: HostRuntime) {
     let mut cluster = two_written(&rt, rt.alloc());
     let answered = read(&rt, rt.alloc(), &mut cluster, "b", &mut First);
-    assert_value(&rt, answered.value.as_ref(), b"C");
+    assert_read(&rt, &cluster, answered);
+    assert_kept(&rt, &cluster);
+}
+
+/// The third call of the cluster, which was made last, read the value of the second object.
+fn assert_read(rt: &impl Abort, cluster: &Cluster, answered: Receipt) {
     assert!(rt; cluster.calls() == 3 && cluster.counter() == answered.answered);
-    assert!(rt; entries_count(&rt, &cluster, "b") == 2);
-    assert_stored(&rt, &cluster);
-    assert_stored_apart(&rt, &cluster);
+    assert_value(rt, answered.value.as_ref(), b"C");
+}
+
+/// The second object has two entries, and both objects have their bytes.
+fn assert_kept(rt: &impl Abort, cluster: &Cluster) {
+    assert!(rt; entries_count(rt, cluster, "b") == 2);
+    assert_stored(rt, cluster);
+    assert_stored_apart(rt, cluster);
     cluster.soundness();
-    assert_told(&rt, &cluster.atomic());
+    assert_told(rt, &cluster.atomic());
 }
