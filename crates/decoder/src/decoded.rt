@@ -1,14 +1,17 @@
-ghost use Rattle.std.specs.Prelude.{◌≡◌, ◌↔◌, ◌⊎◌, ℕ, List, length, IfOk, OnOk, IfErr, MatchResult};
+ghost use Rattle.std.specs.Prelude.{◌≡◌, ◌↔◌, ◌⊎◌, ◌≤◌, ℕ, List, length, IfOk, OnOk, IfErr, MatchResult};
 ghost use Rattle.decoder.specs.Decoded.{IsDecoded};
 ghost use Rattle.decoder.specs.Pieces.{AreLawful, AreOfBytes, ArePiecesOf, HaveNoValue, IsInterpolated};
 
-use crate::lawful::{are_lawful, fragments, points};
+use crate::lawful::{are_lawful, fill_fragments, points};
 use crate::rooms::make_value;
 use bytes::Bytes;
 use piece::Piece;
 use std::alloc::Global;
 use std::marker::Model;
-use tag::Refusal;
+use tag::{MOST_MEMBERS, Refusal};
+
+/// As many pieces as most codes want.
+const FEW_PIECES: usize = 16;
 
 /// A value with the `k` pieces from which it was decoded. Only `decode` makes one.
 #[derive(Debug, Drop)]
@@ -108,13 +111,49 @@ fn value_bytes(alloc: Global, k: u8, len: u32, pieces: &[Piece]) -> Result<Vec<u
     ensures refused { IfErr result (λ e. ((e ≡ Refusal.BadPieces) × HaveNoValue k len pieces.now)
         ⊎ ((e ≡ Refusal.NoMemory) × (¬ HaveNoValue k len pieces.now))) }
 {
+    if k as usize > FEW_PIECES {
+        return value_of_many(alloc, k, len, pieces);
+    }
+    let mut room: [&[u8]; FEW_PIECES] = [&[]; FEW_PIECES];
+    value_in(alloc, k, len, pieces, &mut room)
+}
+
+/// `value_bytes` with room for the most fragments. To make this room costs as much as to decode a small value, so this
+/// is not inlined; otherwise each call would pay for it.
+#[inline(never)]
+fn value_of_many(alloc: Global, k: u8, len: u32, pieces: &[Piece]) -> Result<Vec<u8>, Refusal>
+    requires lawful { AreLawful k len pieces.now }
+    requires bytes { AreOfBytes pieces.now }
+    ensures interpolated { IfOk result (λ value. IsInterpolated k len pieces.now value.items) }
+    ensures refused { IfErr result (λ e. ((e ≡ Refusal.BadPieces) × HaveNoValue k len pieces.now)
+        ⊎ ((e ≡ Refusal.NoMemory) × (¬ HaveNoValue k len pieces.now))) }
+{
+    let mut room: [&[u8]; MOST_MEMBERS] = [&[]; MOST_MEMBERS];
+    value_in(alloc, k, len, pieces, &mut room)
+}
+
+/// `value_bytes` with this room for fragments.
+fn value_in<'a>(
+    alloc: Global,
+    k: u8,
+    len: u32,
+    pieces: &'a [Piece],
+    room: &mut [&'a [u8]],
+) -> Result<Vec<u8>, Refusal>
+    requires room { k ≤ length room.old }
+    requires lawful { AreLawful k len pieces.now }
+    requires bytes { AreOfBytes pieces.now }
+    ensures interpolated { IfOk result (λ value. IsInterpolated k len pieces.now value.items) }
+    ensures refused { IfErr result (λ e. ((e ≡ Refusal.BadPieces) × HaveNoValue k len pieces.now)
+        ⊎ ((e ≡ Refusal.NoMemory) × (¬ HaveNoValue k len pieces.now))) }
+{
     let points = points(pieces);
-    let fragments = fragments(pieces);
+    fill_fragments(room, pieces);
     make_value(
         alloc,
         k,
         len as usize,
         points.as_slice(),
-        &fragments[..k as usize],
+        &room[..k as usize],
     )
 }

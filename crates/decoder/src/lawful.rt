@@ -85,18 +85,15 @@ fn has_len(fragment: &[u8], len: usize) -> bool
     fragment.len() == len
 }
 
-/// Returns the fragments of the pieces, and empty ones after them.
-pub(crate) fn fragments(pieces: &[Piece]) -> [&[u8]; MOST_MEMBERS]
-    requires { length pieces.now ≤ MOST_MEMBERS }
-    ensures len { length result ≡ MOST_MEMBERS }
-    ensures fragments { (i : ℕ) (d : PieceOf) → i < length pieces.now
-        → slice_index_or (bytes_of result) i [] ≡ (slice_index_or pieces.now i d).bytes }
+/// Sets the first of `fragments` to the fragments of the pieces.
+pub(crate) fn fill_fragments<'a>(fragments: &mut [&'a [u8]], pieces: &'a [Piece])
+    requires { length pieces.now ≤ length fragments.old }
+    ensures { (i : ℕ) (d : PieceOf) → i < length pieces.now
+        → slice_index_or (bytes_of fragments.new) i [] ≡ (slice_index_or pieces.now i d).bytes }
 {
-    let mut fragments: [&[u8]; MOST_MEMBERS] = [&[]; MOST_MEMBERS];
     for i in 0..pieces.len() {
         fragments[i] = pieces[i].bytes.as_slice();
     }
-    fragments
 }
 
 /// Returns the points of the pieces.

@@ -80,14 +80,25 @@ fn write_fragments(k: u8, first: usize, n: usize, value: &[u8], out: &mut [u8])
     requires room { length out.old ≡ n * fragment_len k (length value.now) }
     ensures { AreFragmentRows out.new n value.now k first }
 {
-    // To make room for the most blocks costs as much as to code a small value.
-    if k as usize <= FEW_BLOCKS {
-        let mut room: [&[u8]; FEW_BLOCKS] = [&[]; FEW_BLOCKS];
-        write_blocks(&mut room[..k as usize], first, n, value, out);
-    } else {
-        let mut room: [&[u8]; MOST_BLOCKS] = [&[]; MOST_BLOCKS];
-        write_blocks(&mut room[..k as usize], first, n, value, out);
+    if k as usize > FEW_BLOCKS {
+        return write_many(k, first, n, value, out);
     }
+    let mut room: [&[u8]; FEW_BLOCKS] = [&[]; FEW_BLOCKS];
+    write_blocks(&mut room[..k as usize], first, n, value, out);
+}
+
+/// `write_fragments` with room for the most blocks. To make this room costs as much as to code a small value, so this
+/// is not inlined; otherwise each call would pay for it.
+#[inline(never)]
+fn write_many(k: u8, first: usize, n: usize, value: &[u8], out: &mut [u8])
+    requires threshold { 1 ≤ k }
+    requires points { first + n ≤ 256 }
+    requires longest { length value.now ≤ LONGEST_VALUE }
+    requires room { length out.old ≡ n * fragment_len k (length value.now) }
+    ensures { AreFragmentRows out.new n value.now k first }
+{
+    let mut room: [&[u8]; MOST_BLOCKS] = [&[]; MOST_BLOCKS];
+    write_blocks(&mut room[..k as usize], first, n, value, out);
 }
 
 /// `write_fragments` of a value that is cut into as many blocks as `blocks` has room for.
