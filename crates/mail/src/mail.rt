@@ -72,9 +72,9 @@ impl Mail {
         &self.messages[place]
     }
 
-    /// Returns a place before which there is no message of the call. It is found by binary search, without a look at
-    /// each message. From this place on there may be messages of other calls, but none that was posted before the first
-    /// message of this call or of a call with a greater number.
+    /// Returns a place before which there is no message of the call. The search looks at this place and the later ones.
+    /// From this place on there may be messages of other calls, but none that was posted before the first message of
+    /// this call or of a call with a greater number.
     pub fn first_place(&self, call: CallId) -> usize
         ensures { AreOthers call result self.now }
     {
@@ -135,10 +135,9 @@ impl Mail {
         ensures message { slice_get self.old place ≡ Some result }
         ensures rest { self.new ≡ remove self.old place }
     {
-        let message = self.messages.remove(place);
+        self.bytes -= self.messages[place].bytes();
         self.bounds.remove(place);
-        self.bytes -= message.bytes();
-        message
+        self.messages.remove(place)
     }
 
     /// Removes the message at a place, so that it is lost. Later messages move forward by one place.
@@ -197,24 +196,21 @@ fn last_of(bounds: &[CallId]) -> CallId
     }
 }
 
-// The place of the first bound that is at least `call`, or the number of bounds where there is none. The search is
-// binary, since the bounds rise.
+// The place of the first bound that is at least `call`, or the number of bounds where there is none. The search goes
+// from the last bound to earlier ones, since the bounds rise.
 fn first_at_least(bounds: &[CallId], call: CallId) -> usize
     requires { AreRising bounds.now }
     ensures within { result ≤ length bounds.now }
     ensures below { (place : ℕ) → place < result → slice_index bounds.now place < call }
 {
-    let mut low = 0;
-    let mut high = bounds.len();
-    while low < high {
-        let middle = low + (high - low) / 2;
-        if bounds[middle] < call {
-            low = middle + 1;
-        } else {
-            high = middle;
+    let mut first = bounds.len();
+    while first > 0 {
+        if bounds[first - 1] < call {
+            return first;
         }
+        first -= 1;
     }
-    low
+    0
 }
 
 // The number of bytes of the pieces in the messages.

@@ -15,7 +15,7 @@ pub invariant_of-self : goal.invariant_of-self
 invariant_of-self c = record {
   within = grind (arith, common_steps);
   bounded =
-      rw (c.remove-message.ensures.items, c.remove.ensures.items)
+      rw (c.remove-2.ensures.items, c.remove.ensures.items)
       (bounds_remove 0 c.self.inside.messages.items c.self.inside.bounds.items c.args.place c.self.invariant.bounded);
   sum = grind (arith, common_steps);
 }
@@ -23,6 +23,6 @@ invariant_of-self c = record {
 pub returns-clause-message : goal.returns-clause-message
 returns-clause-message c =
     rw (← c.self.view_is)
-    (slice_get_read c.self.inside.messages.items (length c.self.inside.messages.items) c.args.place c.remove-message.result refl
+    (slice_get_read c.self.inside.messages.items (length c.self.inside.messages.items) c.args.place c.remove-2.result refl
     (let same : length c.self.inside.messages.items ≡ length c.args.self.now = ap length c.self.view_is in omega arith)
-    c.remove-message.ensures.value)
+    c.remove-2.ensures.value)
