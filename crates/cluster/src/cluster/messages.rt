@@ -18,7 +18,7 @@ use crate::cluster::mailing::{exchanged, waiting};
 use crate::servers::Servers;
 use mail::{Body, Message};
 use phase::Took;
-use register::{Act, Answered, Register};
+use register::{Act, Register};
 use tag::{MOST_BYTES, MOST_STEPS, Refusal, Stamp};
 
 impl Cluster {
@@ -78,9 +78,31 @@ impl Cluster {
             (object_cause self.old name.entry.now (λ object. take_cause (next self.old) object place)) result }
         ensures unchanged { OnErr result (self.new ≡ self.old) }
     {
-        let Answered::Took(took) = self.act(name, Act::Take(place))? else {
-            unreachable!();
+        let Some(object) = self.find(name) else {
+            return Err(Refusal::NoObject);
         };
+        self.take_at(name, object, place)
+    }
+
+    /// The call that the reply at a place names takes the reply, as by `take`. `object` must be the index of the object
+    /// of this name.
+    pub fn take_at(&mut self, name: &str, object: u32, place: usize) -> Result<Took, Refusal>
+        requires { IsObjectAt self.old name.now object }
+        ensures step { OnOk result (self.new ≡ with_step self.old name.entry.now (Step.Take place)) }
+        ensures may { OnOk result (MayMake self.old name.entry.now (Step.Take place)) }
+        ensures took { IfOk result
+            (λ t. if_named self.old name.entry.now (λ object. Some (took_at object place)) ≡ Some t) }
+        ensures cause { IsExactlyByCause
+            (object_cause self.old name.entry.now (λ object. take_cause (next self.old) object place)) result }
+        ensures unchanged { OnErr result (self.new ≡ self.old) }
+    {
+        let register = &mut self.objects[object as usize];
+        register.allowed_steps_may_be_made();
+        let now = self.counter + 1;
+        let waited = waiting(register);
+        let took = register.take(place, now)?;
+        self.mailed = exchanged(self.mailed, waited, waiting(register));
+        self.counter = now;
         Ok(took)
     }
 

@@ -8,8 +8,8 @@ ghost use Rattle.std.specs.Prelude.{◌≡◌, pred, true, Some, None, IfOk, OnO
 ghost use Rattle.tag.specs.Refusal.{IsByCause, IsExactlyByCause};
 ghost use Rattle.record.specs.Steps.{Step};
 ghost use Rattle.register.specs.Causes.{number_cause, advance_cause, again_cause, answer_cause, post_cause};
-ghost use Rattle.register.specs.Causes.{supply_cause, settle_cause, take_cause};
-ghost use Rattle.register.specs.View.{receipt_at, took_at, want_at};
+ghost use Rattle.register.specs.Causes.{supply_cause, settle_cause};
+ghost use Rattle.register.specs.View.{receipt_at, want_at};
 ghost use Rattle.cluster.specs.Causes.{next, object_cause};
 ghost use Rattle.cluster.specs.Cluster.{if_named, named, place_of};
 ghost use Rattle.cluster.specs.Places.{IsObjectAt};
@@ -19,7 +19,6 @@ ghost use Rattle.cluster.specs.Steps.{with_step};
 use crate::cluster::Cluster;
 use decoder::Decoded;
 use encoder::Coded;
-use phase::Took;
 use record::Want;
 use register::{Act, Answered, Receipt, Register};
 use tag::{CallId, Refusal};
@@ -159,22 +158,5 @@ impl Cluster {
             unreachable!();
         };
         Ok(receipt)
-    }
-
-    /// The call that the reply at a place names takes the reply, as by `take`.
-    pub fn take_at(&mut self, name: &str, object: u32, place: usize) -> Result<Took, Refusal>
-        requires { IsObjectAt self.old name.now object }
-        ensures step { OnOk result (self.new ≡ with_step self.old name.entry.now (Step.Take place)) }
-        ensures may { OnOk result (MayMake self.old name.entry.now (Step.Take place)) }
-        ensures took { IfOk result
-            (λ t. if_named self.old name.entry.now (λ object. Some (took_at object place)) ≡ Some t) }
-        ensures cause { IsExactlyByCause
-            (object_cause self.old name.entry.now (λ object. take_cause (next self.old) object place)) result }
-        ensures unchanged { OnErr result (self.new ≡ self.old) }
-    {
-        let Answered::Took(took) = self.act_at(name, object, Act::Take(place))? else {
-            unreachable!();
-        };
-        Ok(took)
     }
 }
