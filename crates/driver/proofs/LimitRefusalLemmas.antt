@@ -10,7 +10,6 @@ use Rattle.encoder.specs.Fragment.{fragment}
 use Rattle.mail.specs.declared.message.Message.{Message}
 use Rattle.mail.specs.Mail.{mail_cause, is_within}
 use Rattle.record.specs.Records.{Call, Object}
-use Rattle.record.specs.Legal.{due_of}
 use Rattle.record.specs.Steps.{Step, stepped}
 use Rattle.record.specs.Wants.{current_phase, want_of}
 use Rattle.record.specs.declared.stage.Want.{Want}

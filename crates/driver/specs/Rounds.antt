@@ -1,6 +1,6 @@
 -- The contracts that docs/trusted.md lists do not depend on this file; other contracts and proofs do.
 -- What a round of the driver does.
-use Rattle.std.specs.Prelude.{◌≡◌, ◌≢◌, ℕ, pred, Bool, List, Some, None}
+use Rattle.std.specs.Prelude.{◌≡◌, ◌≢◌, ℕ, pred, Bool, true, false, List, Some, None}
 use Rattle.encoder.specs.Coded.{IsCodable}
 use Rattle.piece.specs.declared.piece.Piece.{Piece}
 use Rattle.decoder.specs.Pieces.{IsInterpolated}
@@ -56,3 +56,10 @@ module _ {C : Type 0} (chooses : C → ℕ → ℕ → C → Type 0) (name : Lis
   MakesRound again old before new after (round.Answered receipt) =
       IsAnswerTurn chooses name call again old before new after receipt
   MakesRound again old before new after round.Late = ⊥
+
+  -- the round of a call that wants replies or to advance, or nothing, if the call wants something else
+  abbrev pub MakesStep : (old : Cluster) → (before : C) → (new : Cluster) → (after : C) → (is_made : Bool) → Type 0
+  MakesStep old before new after true = MakesRound false old before new after round.Stepped
+  MakesStep old before new after false =
+      (new ≡ old) × (after ≡ before) × (wanted old name call ≢ Some want.Replies)
+      × (wanted old name call ≢ Some want.Advance)

@@ -1,12 +1,12 @@
 //! The driver of one call, for one thread.
-ghost use Rattle.std.specs.Prelude.{◌≡◌, IfOk, IfErr, OnErr, MatchOption};
+ghost use Rattle.std.specs.Prelude.{◌≡◌, Some, IfOk, IfErr, OnErr, MatchOption};
 ghost use Rattle.cluster.specs.Places.{IsObjectAt};
 ghost use Rattle.driver.specs.Driver.{asks_again, IsAnswerTurn, FinishesCall, IsNotAnswered, IsRefused, IsTurn};
-ghost use Rattle.driver.specs.Driver.{IsUnfinished};
+ghost use Rattle.driver.specs.Driver.{IsUnfinished, wanted};
 
 use crate::Chooser;
 use crate::coding::{settle_pieces, supply_value};
-use crate::round::{Round, make_round_at};
+use crate::round::{Round, make_round_at, make_step_at};
 use cluster::Cluster;
 use record::Want;
 use register::Receipt;
@@ -88,6 +88,38 @@ fn make_turn<C: Chooser>(
     ensures unchanged { OnErr result (cluster.new ≡ cluster.old) }
 {
     let want = cluster.want_at(name, object, call)?;
+    if !asks_again && make_step_at(cluster, name, object, call, want, chooser)? {
+        return Ok(None);
+    }
+    make_other_turn(
+        alloc, cluster, name, object, call, want, asks_again, chooser,
+    )
+}
+
+// Makes one step of a call that wants this, by `make_round_at`.
+fn make_other_turn<C: Chooser>(
+    alloc: Global,
+    cluster: &mut Cluster,
+    name: &str,
+    object: u32,
+    call: CallId,
+    want: Want,
+    asks_again: bool,
+    chooser: &mut C,
+) -> Result<Option<Receipt>, Refusal>
+    requires wanted { wanted cluster.old name.now call ≡ Some want }
+    requires placed { IsObjectAt cluster.old name.now object }
+    ensures turn { IfOk result
+        (λ o. MatchOption o
+        (IsTurn C.chooses name.entry.now call asks_again cluster.old chooser.old cluster.new chooser.new
+        × IsNotAnswered cluster.new name.entry.now call)
+        (λ r. IsAnswerTurn C.chooses name.entry.now call asks_again cluster.old chooser.old cluster.new chooser.new
+        r)) }
+
+    ensures refused { IfErr result
+        (λ e. IsRefused C.chooses name.entry.now call cluster.old asks_again chooser.old chooser.new e) }
+    ensures unchanged { OnErr result (cluster.new ≡ cluster.old) }
+{
     match make_round_at(cluster, name, object, call, want, asks_again, chooser)? {
         Round::Stepped => Ok(None),
         Round::Encode { value, k, n } => {

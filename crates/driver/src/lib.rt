@@ -6,7 +6,7 @@ pub use chooser::{Chooser, First};
 pub use coding::{settle, supply};
 pub use driver::finish;
 pub use messages::{Handled, handle, handle_at};
-pub use round::{Round, make_round, make_round_at};
+pub use round::{Round, make_round, make_round_at, make_step_at};
 pub use whole_call::{NotAnswered, move_to, read, write};
 
 mod choices;

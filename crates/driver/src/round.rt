@@ -1,9 +1,9 @@
 //! One round of the driver, without the coding.
-ghost use Rattle.std.specs.Prelude.{◌≡◌, true, Some, IfOk, IfErr, OnErr};
+ghost use Rattle.std.specs.Prelude.{◌≡◌, true, false, Some, IfOk, IfErr, OnErr};
 ghost use Rattle.record.specs.declared.stage.Want.TheVariants as want;
 ghost use Rattle.cluster.specs.Places.{IsObjectAt};
 ghost use Rattle.driver.specs.Driver.{wanted, IsRefused};
-ghost use Rattle.driver.specs.Rounds.{MakesRound};
+ghost use Rattle.driver.specs.Rounds.{MakesRound, MakesStep};
 
 use crate::Chooser;
 use crate::coding::{pieces_to_decode, value_to_encode};
@@ -110,6 +110,37 @@ pub fn make_round_at<C: Chooser>(
         Want::Answer => Ok(Round::Answered(cluster.answer_at(name, object, call)?)),
         Want::Done => Err(Refusal::NotNow),
     }
+}
+
+/// Makes the step of a call that wants replies or to advance: the round that `make_round_at` makes without asking
+/// again. Returns false, and changes nothing, if the call wants something else. Such a round hands out nothing, so it
+/// is cheaper than one of `make_round_at`. `want` must be what the call wants now, and `object` the index that
+/// `Cluster::place` returns.
+///
+/// Is refused with `Stuck` if the call wants replies and none of its messages can be handled, and with `Full` if the
+/// step meets a limit.
+pub fn make_step_at<C: Chooser>(
+    cluster: &mut Cluster,
+    name: &str,
+    object: u32,
+    call: CallId,
+    want: Want,
+    chooser: &mut C,
+) -> Result<bool, Refusal>
+    requires wanted { wanted cluster.old name.now call ≡ Some want }
+    requires placed { IsObjectAt cluster.old name.now object }
+    ensures step { IfOk result
+        (λ b. MakesStep C.chooses name.entry.now call cluster.old chooser.old cluster.new chooser.new b) }
+    ensures refused { IfErr result
+        (λ e. IsRefused C.chooses name.entry.now call cluster.old false chooser.old chooser.new e) }
+    ensures unchanged { OnErr result (cluster.new ≡ cluster.old) }
+{
+    match want {
+        Want::Replies => handle_chosen(cluster, name, object, call, chooser)?,
+        Want::Advance => cluster.advance_at(name, object, call)?,
+        _ => return Ok(false),
+    }
+    Ok(true)
 }
 
 // The current phase of the call resends its requests. Where these have pieces, the value to encode is returned instead.
