@@ -12,6 +12,7 @@ use Rattle.locked_steps.specs.Orders.{MoveGoesNot, has_pending_move, move_cause_
 use Rattle.locked_steps.specs.Rounds.{SeatGoesNot, pending_cause, round_cause}
 use Rattle.locked_steps.specs.Seats.{SeatState, Pending}
 use Rattle.locked_steps.specs.declared.handed_in.HandedIn.{HandedIn}
+use Rattle.locked_steps.specs.declared.handed_in.HandedIn.TheVariants as hand
 use Rattle.client.specs.Refusals.{IsMovingHand, IsMovingRefused, IsPendingHand, IsPendingRefused, IsSeatRefused}
 use Rattle.client.proofs.RefusalCauseLemmas.{same_refusal, held_going, refused_goes}
 
@@ -20,6 +21,15 @@ pub err_from : {T : Type 0} (r : Result T Refusal) (P : T → Type 0) (Q S : Ref
     → ((e : Refusal) → Q e → S e) → IfErr r S
 err_from (Ok x) P Q S holds use_it = tt
 err_from (Err e) P Q S holds use_it = use_it e holds
+
+-- nothing is handed in, whatever is pending
+pub nothing_held : (first : Cluster) (p : Option Pending) → IsPendingHand first p hand.Empty
+nothing_held first None = tt
+nothing_held first (Some p) = tt
+
+pub no_move_held : (first : Cluster) (m : Option Moving) → IsMovingHand first m hand.Empty
+no_move_held first None = tt
+no_move_held first (Some m) = tt
 
 -- A seat
 

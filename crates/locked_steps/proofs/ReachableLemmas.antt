@@ -1,12 +1,12 @@
 -- A cluster has become what one step more, or none, makes of it.
-use Rattle.std.proofs.Common.{◌≡◌, suc, inl, Bool, List, ℕ, subst, sym, Result, Ok, Err, IfOk, OnOk, OnErr}
+use Rattle.std.proofs.Common.{◌≡◌, suc, inl, Bool, true, false, List, ℕ, subst, sym, Result, Ok, Err, IfOk, OnOk, OnErr}
 use Rattle.tag.specs.declared.refusal.Refusal.{Refusal}
 use Rattle.record.specs.Steps.{Step}
 use Rattle.cluster.specs.Cluster.{Cluster}
 use Rattle.cluster.specs.Preconditions.{MayMake}
 use Rattle.cluster.specs.Steps.{with_step}
 use Rattle.driver.specs.Driver.{IsTurn}
-use Rattle.driver.specs.Rounds.{MakesRound}
+use Rattle.driver.specs.Rounds.{MakesRound, MakesStep}
 use Rattle.driver.specs.declared.round.Round.{Round}
 use Rattle.driver.specs.declared.round.Round.TheVariants as round
 use Rattle.locked_steps.specs.Course.{IsStep, IsReachable, IsSoundCluster, PreservesReachable}
@@ -46,3 +46,11 @@ module _ {C : Type 0} (chooses : C → ℕ → ℕ → C → Type 0) (name : Lis
       → OnErr answer (new ≡ old) → PreservesReachable old new
   goes_on_round_both (Ok r) h same = goes_on_round r h
   goes_on_round_both (Err e) h same = goes_on_same old new same
+
+-- a step that was made, not made or refused
+pub goes_on_step_both : {C : Type 0} (chooses : C → ℕ → ℕ → C → Type 0) (name : List ℕ) (call : ℕ) (answer : Result Bool Refusal)
+    (old : Cluster) (before : C) (new : Cluster) (after : C) → IfOk answer (λ b. MakesStep chooses name call old before new after b)
+    → OnErr answer (new ≡ old) → PreservesReachable old new
+goes_on_step_both chooses name call (Ok true) old before new after h same = goes_on_turn chooses name call false old before new after h.0
+goes_on_step_both chooses name call (Ok false) old before new after h same = goes_on_same old new h.0
+goes_on_step_both chooses name call (Err e) old before new after h same = goes_on_same old new same

@@ -29,7 +29,7 @@ use Rattle.cluster.specs.Steps as of
 use Rattle.locked_steps.specs.Calls.{client_calls}
 use Rattle.driver.specs.Choices.{handling}
 use Rattle.driver.specs.Driver.{wanted, asking, IsWaitingStep, IsNext, IsTurn, IsRefused}
-use Rattle.driver.specs.Rounds.{MakesRound}
+use Rattle.driver.specs.Rounds.{MakesRound, MakesStep}
 use Rattle.locked_steps.specs.Rounds.{Goes, Copies, tells}
 use Rattle.driver.specs.declared.round.Round.{Round}
 use Rattle.driver.specs.declared.round.Round.TheVariants as round
@@ -94,6 +94,14 @@ module _ {C : Type 0} (chooses : C → ℕ → ℕ → C → Type 0) (name : Lis
         → OnErr answer (new ≡ old) → client_calls new ≡ client_calls old
     counted_round_both (Ok r) h same = counted_round r h
     counted_round_both (Err e) h same = ap client_calls same
+
+  -- a step that was made, not made or refused
+  pub counted_step_both : (answer : Result Bool Refusal) (old : Cluster) (before : C) (new : Cluster) (after : C)
+      → IfOk answer (λ b. MakesStep chooses name call old before new after b) → OnErr answer (new ≡ old)
+      → client_calls new ≡ client_calls old
+  counted_step_both (Ok true) old before new after h same = counted_round false old before new after round.Stepped h
+  counted_step_both (Ok false) old before new after h same = ap client_calls h.0
+  counted_step_both (Err e) old before new after h same = ap client_calls same
 
 -- What an answer tells
 

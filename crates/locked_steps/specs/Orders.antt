@@ -17,6 +17,7 @@ use Rattle.register.specs.declared.receipt.Receipt.{Receipt}
 use Rattle.locked_steps.specs.Seats.{call_count}
 use Rattle.locked_steps.specs.declared.admin.Order.{Order}
 use Rattle.locked_steps.specs.declared.admin.Order.TheVariants as order
+use Rattle.driver.specs.Rounds.{MakesStep}
 use Rattle.driver.specs.declared.round.Round.{Round}
 use Rattle.driver.specs.declared.round.Round.TheVariants as round
 use Rattle.locked_steps.specs.declared.handed_in.HandedIn.{HandedIn}
@@ -108,6 +109,12 @@ module _ {C : Type 0} (chooses : C → ℕ → ℕ → C → Type 0) where
       → Type 0
   MoveGoesNot None h again old before after r = ⊥
   MoveGoesNot (Some m) h again old before after r = GoesNot chooses m.name m.call h again old before after r
+
+  -- a round of the pending move that wants replies or to advance; nothing, if it wants something else
+  abbrev pub MoveSteps : Option Moving → (old : Cluster) → (before : C) → (new : Cluster) → (after : C)
+      → (is_made : Bool) → Type 0
+  MoveSteps None old before new after b = ⊥
+  MoveSteps (Some m) old before new after b = MakesStep chooses m.name m.call old before new after b
 
 -- the administrator after a round: an answer ends its move, and any other round leaves it as it is
 abbrev pub RoundLeaves : AdminState → Round → AdminState → Type 0

@@ -14,7 +14,7 @@ use Rattle.cluster.specs.Causes.{next, object_cause}
 use Rattle.cluster.specs.Steps.{with_step}
 use Rattle.driver.specs.Driver.{IsRefused}
 use Rattle.locked_steps.specs.Moves.{asked_if}
-use Rattle.driver.specs.Rounds.{MakesRound}
+use Rattle.driver.specs.Rounds.{MakesRound, MakesStep}
 use Rattle.locked_steps.specs.Seats.{SeatState, Pending, SettlesPending, asked_once, unless_stranger}
 use Rattle.driver.specs.declared.round.Round.{Round}
 use Rattle.driver.specs.declared.round.Round.TheVariants as round
@@ -91,6 +91,12 @@ module _ {C : Type 0} (chooses : C → ℕ → ℕ → C → Type 0) where
       → Type 0
   SeatGoesNot None h again old before after r = ⊥
   SeatGoesNot (Some p) h again old before after r = GoesNot p.name p.kept.call h again old before after r
+
+  -- a round of a seat's pending call that wants replies or to advance; nothing, if it wants something else
+  abbrev pub SeatSteps : Option Pending → (old : Cluster) → (before : C) → (new : Cluster) → (after : C)
+      → (is_made : Bool) → Type 0
+  SeatSteps None old before new after b = ⊥
+  SeatSteps (Some p) old before new after b = MakesStep chooses p.name p.kept.call old before new after b
 
 -- the seat after a round: an answer settles its call, and any other round leaves the seat as it is
 abbrev pub SeatKeeps : SeatState → Round → SeatState → Type 0

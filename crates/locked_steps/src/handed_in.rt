@@ -18,7 +18,7 @@ pub enum HandedIn {
 
 impl HandedIn {
     /// Returns whether nothing is handed in.
-    pub(crate) fn is_empty(&self) -> bool
+    pub fn is_empty(&self) -> bool
         ensures { IsTrue result ↔ (self.now ≡ hands.Empty) }
     {
         match self {

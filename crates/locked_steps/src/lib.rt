@@ -18,6 +18,7 @@ pub use orders::admin_in;
 pub use retiring::retire_in;
 pub use rounds::round_in;
 pub use seat::Seat;
+pub use steps::{move_step_in, step_in};
 
 mod admin;
 mod begin;
@@ -34,3 +35,4 @@ mod orders;
 mod retiring;
 mod rounds;
 mod seat;
+mod steps;

@@ -182,8 +182,8 @@ fn kept_value(round: &Round, copy: Option<Bytes>) -> Option<Bytes>
     }
 }
 
-// What the call wants now, where a round of it may be made, and the index of its object.
-fn want_to_go(
+/// Returns what the call wants now, where a round of it may be made, and the index of its object.
+pub(crate) fn want_to_go(
     cluster: &Cluster,
     name: &str,
     guess: u32,

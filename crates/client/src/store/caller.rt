@@ -14,7 +14,8 @@ ghost use Rattle.client.specs.Refusals.{IsMovingHand, IsMovingRefused, IsPending
 
 use driver::{Chooser, Round};
 use locked_steps::{
-    Admin, Booked, HandedIn, Seat, StoreName, has_move_in, move_round_in, round_in,
+    Admin, Booked, HandedIn, Seat, StoreName, has_move_in, move_round_in, move_step_in, round_in,
+    step_in,
 };
 use tag::Refusal;
 
@@ -31,6 +32,17 @@ pub(crate) trait Caller<L: StoreName> {
 
     /// Why a round of the caller's pending call is refused in this state of the store.
     ghost is_refused: { ClusterOf → Self → RefusalOf → Type 0 };
+
+    /// Makes the step of the caller's pending call, if the call wants replies or to advance. Returns false, and makes
+    /// no step, if it wants something else.
+    fn step<C: Chooser>(
+        &self,
+        booked: &mut Booked<L>,
+        chooser: &mut C,
+        turns: u64,
+    ) -> Result<bool, Refusal>
+        ensures state { IsStateOf L.first booked.old }
+        ensures refused { IfErr result (λ e. is_refused booked.old self.now e) };
 
     /// Makes one round of the caller's pending call.
     fn round<C: Chooser>(
@@ -60,6 +72,15 @@ impl<L: StoreName> Caller<L> for Seat<L> {
 
     ghost is_refused = { λ cluster seat e. IsSeatRefused L.first cluster seat e };
 
+    fn step<C: Chooser>(
+        &self,
+        booked: &mut Booked<L>,
+        chooser: &mut C,
+        turns: u64,
+    ) -> Result<bool, Refusal> {
+        step_in(booked, self, chooser, turns)
+    }
+
     fn round<C: Chooser>(
         &mut self,
         booked: &mut Booked<L>,
@@ -80,6 +101,19 @@ impl<L: StoreName> Caller<L> for Admin<L> {
     ghost holds = { λ admin hand. IsMovingHand L.first admin.moving hand };
 
     ghost is_refused = { λ cluster admin e. IsMovingRefused L.first cluster admin.moving e };
+
+    fn step<C: Chooser>(
+        &self,
+        booked: &mut Booked<L>,
+        chooser: &mut C,
+        turns: u64,
+    ) -> Result<bool, Refusal> {
+        if has_move_in(booked, self) {
+            move_step_in(booked, self, chooser, turns)
+        } else {
+            Err(Refusal::NoCall)
+        }
+    }
 
     fn round<C: Chooser>(
         &mut self,

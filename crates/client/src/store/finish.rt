@@ -39,6 +39,13 @@ impl<L: StoreName> Store<L> {
         let mut left = turns;
         let mut hand = HandedIn::Empty;
         for _ in rt.forever() {
+            if !asks_again
+                && hand.is_empty()
+                && caller.step(&mut *self.booked.lock(rt), chooser, left)?
+            {
+                left = left.saturating_sub(1);
+                continue;
+            }
             let round = caller.round(&mut *self.booked.lock(rt), chooser, hand, asks_again, left)?;
             asks_again = false;
             match round {
