@@ -1,6 +1,4 @@
-//! An example: a program that embeds a `Cluster` and delivers every message itself. It writes a value and reads it
-//! back.
-#![tactic(auto)]
+//! An example that embeds a `Cluster` and delivers every message itself. It writes a value and reads it back.
 
 ghost use Rattle.cluster.specs.Atomic.{AreAtomic, AreFragments};
 
@@ -13,9 +11,7 @@ use layout::Layout;
 use record::Want;
 use register::Receipt;
 use std::alloc::Global;
-use std::process::ExitCode;
 use tag::{CallId, Refusal};
-use words::Hexadecimal;
 
 /// The name of the object.
 const NAME: &str = "greeting";
@@ -23,19 +19,8 @@ const NAME: &str = "greeting";
 /// A limit on the turns of one call, above what a write or a read takes here.
 const MOST_TURNS: u64 = 1000;
 
-fn main(rt: HostRuntime) -> ExitCode {
-    let printed = match write_and_read(rt.alloc()) {
-        Ok(value) => println!(rt; "{}", Hexadecimal(value.as_slice())),
-        Err(refusal) => println!(rt; "refused {refusal}"),
-    };
-    match printed {
-        Ok(()) => ExitCode::SUCCESS,
-        Err(_) => ExitCode::FAILURE,
-    }
-}
-
 /// Writes `hello` to an object of four servers, any two of which give the value back, and reads it.
-fn write_and_read(alloc: Global) -> Result<Bytes, Refusal> {
+pub(crate) fn write_and_read(alloc: Global) -> Result<Bytes, Refusal> {
     let mut cluster = Cluster::new(alloc, 4);
     let layout = cluster.add_layout(Layout::new(2, &[0, 1, 2, 3])?)?;
     cluster.create(NAME, layout)?;

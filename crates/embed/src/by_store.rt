@@ -1,6 +1,5 @@
-//! An example: a program that embeds a `Store`, the cluster under one lock that client threads share. It writes a value
-//! through a seat, moves the object to another layout, reads the value back, and closes the store.
-#![tactic(auto)]
+//! An example that embeds a `Store`, the cluster under one lock that client threads share. It writes a value through a
+//! seat, moves the object to another layout, reads the value back, and closes the store.
 
 ghost use Rattle.std.specs.Prelude.{◌≡◌, ◌+◌};
 
@@ -10,12 +9,10 @@ use cluster::Cluster;
 use layout::Layout;
 use std::alloc::Global;
 use std::marker::Brand;
-use std::process::ExitCode;
 use std::sync::Wait;
 use std::sync::ledger::Blank;
 use std::thread::Threads;
 use tag::Refusal;
-use words::Hexadecimal;
 
 /// The name of the object.
 const NAME: &str = "greeting";
@@ -31,27 +28,13 @@ const WORKERS: usize = 0;
 
 /// The value that was read back, and the number of receipts that the close accounts for.
 #[derive(Drop)]
-struct Outcome {
-    value: Bytes,
-    receipts: u64,
-}
-
-fn main(rt: HostRuntime) -> ExitCode {
-    let printed = match play(&rt, rt.alloc()) {
-        Ok(outcome) => {
-            let value = Hexadecimal(outcome.value.as_slice());
-            println!(rt; "{value} receipts {}", outcome.receipts)
-        }
-        Err(refusal) => println!(rt; "refused {refusal}"),
-    };
-    match printed {
-        Ok(()) => ExitCode::SUCCESS,
-        Err(_) => ExitCode::FAILURE,
-    }
+pub(crate) struct Outcome {
+    pub(crate) value: Bytes,
+    pub(crate) receipts: u64,
 }
 
 /// Opens the store under a name of its own, and uses it.
-fn play<R: Threads + Wait + Sync>(rt: &R, alloc: Global) -> Result<Outcome, Refusal> {
+pub(crate) fn play<R: Threads + Wait + Sync>(rt: &R, alloc: Global) -> Result<Outcome, Refusal> {
     open_and_close::<Brand, R>(rt, alloc, Blank::new(2), four_servers(alloc)?)
 }
 
