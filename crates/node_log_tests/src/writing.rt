@@ -1,41 +1,37 @@
-//! Entries written and read back.
-use crate::sample::{NOTHING, SET, is_set, set};
-use bytes::Bytes;
-use frames::{Fault, FrameError, MOST_STRINGS};
-use node_log::{Entry, read_entry, write_entry};
+//! Frames written to memory and to a slow writer.
+use crate::commands::{SET, set};
+use crate::slow::Slow;
+use frames::{write_bytes, write_frame};
+use std::io::ErrorKind;
 
 #[test]
-fn an_entry(rt: HostRuntime) {
+fn a_command(rt: HostRuntime) {
     let mut out = Vec::new(rt.alloc());
-    assert!(rt; write_entry(&mut out, &set(&rt, rt.alloc())).is_ok());
+    assert!(rt; write_frame(&mut out, &set(&rt, rt.alloc())).is_ok());
     assert_eq!(rt; out.as_slice(), SET);
 }
 
 #[test]
-fn two_entries_in_a_row(rt: HostRuntime) {
-    let mut log = Vec::new(rt.alloc());
-    assert!(rt; log.extend_from_slice(SET).is_ok());
-    assert!(rt; log.extend_from_slice(NOTHING).is_ok());
-    let mut rest = log.as_slice();
-    let first = read_entry(rt.alloc(), &mut rest);
-    assert!(rt; matches!(&first, Ok(Some(entry)) if is_set(entry.strings())));
-    let second = read_entry(rt.alloc(), &mut rest);
-    assert!(rt; matches!(&second, Ok(Some(entry)) if entry.strings().is_empty()));
-    assert!(rt; matches!(read_entry(rt.alloc(), &mut rest), Ok(None)));
-}
-
-#[test]
-fn the_strings_come_back(rt: HostRuntime) {
-    let strings = set(&rt, rt.alloc()).into_strings();
-    assert!(rt; is_set(&strings));
-}
-
-#[test]
-fn a_string_too_many(rt: HostRuntime) {
-    let mut strings = Vec::new(rt.alloc());
-    for _ in 0..=MOST_STRINGS {
-        strings.push(Bytes::new()).expect(&rt, "memory");
+fn a_writer_that_fails_at_every_byte(rt: HostRuntime) {
+    let frame = set(&rt, rt.alloc());
+    for calls in 0..SET.len() {
+        let mut writer = Slow::new(rt.alloc(), b"", calls);
+        let written = write_frame(&mut writer, &frame);
+        assert!(rt; matches!(written, Err(error) if error.kind() == ErrorKind::ConnectionReset));
+        assert_eq!(rt; writer.written.as_slice(), &SET[..calls]);
     }
-    let refused = Entry::new(rt.alloc(), strings);
-    assert!(rt; matches!(refused, Err(FrameError::Fault(Fault::TooManyStrings))));
+}
+
+#[test]
+fn one_byte_at_a_time(rt: HostRuntime) {
+    let mut writer = Slow::new(rt.alloc(), b"", SET.len());
+    assert!(rt; write_frame(&mut writer, &set(&rt, rt.alloc())).is_ok());
+    assert_eq!(rt; writer.written.as_slice(), SET);
+}
+
+#[test]
+fn bytes_alone(rt: HostRuntime) {
+    let mut out = Vec::new(rt.alloc());
+    assert!(rt; write_bytes(&mut out, b"hello").is_ok());
+    assert_eq!(rt; out.as_slice(), b"hello".as_slice());
 }

@@ -1,8 +1,17 @@
-//! A node in one process, which a test hands its own letters: tests alone. They stand in a crate of their own, so that
-//! `node_objects` is proved once and not twice.
+//! What nodes keep of objects, in one process: a test carries the letters between four nodes, or hands a node its own;
+//! the requests that lead to a bank, and the letters that lead to an object. There are only tests. They stand in a
+//! crate of their own, so that the libraries are proved once and not twice.
 #![tactic(auto)]
 
 #[cfg(test)]
-mod calls;
+mod led_bank;
 #[cfg(test)]
-mod node;
+mod led_object;
+#[cfg(test)]
+mod lone_calls;
+#[cfg(test)]
+mod lone_node;
+#[cfg(test)]
+mod nodes;
+#[cfg(test)]
+mod object_calls;

@@ -1,5 +1,5 @@
 //! Whole calls, and questions.
-use crate::node::{is_ended, lone_node, run};
+use crate::lone_node::{is_ended, lone_node, run};
 use bytes::Bytes;
 
 #[test]

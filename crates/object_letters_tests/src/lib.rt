@@ -1,5 +1,0 @@
-//! Tests of `object_letters`. They stand in a crate of their own, since a crate with tests is proved twice.
-#![tactic(auto)]
-
-#[cfg(test)]
-mod led;
