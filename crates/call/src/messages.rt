@@ -1,7 +1,8 @@
 //! The requests of a phase.
 
-ghost use Rattle.std.specs.Prelude.{◌≡◌, ℕ, List, length, IfOk, IfErr, option_copied};
+ghost use Rattle.std.specs.Prelude.{◌≡◌, ℕ, List, length, IfOk, IfErr, option_copied, None};
 ghost use Rattle.tag.specs.declared.refusal.Refusal.TheVariants.{NoMemory};
+ghost use Rattle.piece.specs.declared.piece.Piece.{Piece};
 ghost use Rattle.mail.specs.declared.message.Body.TheVariants as body;
 ghost use Rattle.record.specs.Sending.{request_to, requests};
 ghost use Rattle.call.specs.Pieces.{piece_from, HavePieces, HavePieceOf};
@@ -30,9 +31,50 @@ pub fn requests(
 
     ensures refused { IfErr result (λ e. e ≡ NoMemory) }
 {
+    match ask.kind {
+        Kind::PreWrite(_) => requests_with_pieces(alloc, ask, members, coded),
+        _ => plain_requests(alloc, ask, members),
+    }
+}
+
+// The requests of a phase that sends pieces.
+fn requests_with_pieces(
+    alloc: Global,
+    ask: Ask,
+    members: u8,
+    coded: Option<&Coded>,
+) -> Result<Vec<Message>, Refusal>
+    requires { HavePieces ask.kind members (option_copied coded) }
+    ensures requests { (servers : List ℕ) → length servers ≡ members
+        → IfOk result (λ ms. ms.items ≡ requests ask.call ask.number ask.kind ask.position servers 0
+        (piece_from (option_copied coded.entry))) }
+
+    ensures refused { IfErr result (λ e. e ≡ NoMemory) }
+{
     let mut messages = Vec::with_capacity(alloc, usize::from(members))?;
     for member in 0..members {
         messages.push(request_to(ask, member, coded)?)?;
+    }
+    Ok(messages)
+}
+
+// The requests of a phase that sends no pieces. Each is built in its place in the list.
+fn plain_requests(alloc: Global, ask: Ask, members: u8) -> Result<Vec<Message>, Refusal>
+    requires { HavePieceOf ask.kind 0 None }
+    ensures requests { (servers : List ℕ) (piece : ℕ → Piece) → length servers ≡ members
+        → IfOk result (λ ms. ms.items ≡ requests ask.call ask.number ask.kind ask.position servers 0 piece) }
+
+    ensures refused { IfErr result (λ e. e ≡ NoMemory) }
+{
+    let mut messages = Vec::with_capacity(alloc, usize::from(members))?;
+    for member in 0..members {
+        messages.push_reserved(Message {
+            call: ask.call,
+            phase: ask.number,
+            position: ask.position,
+            member,
+            body: Body::Request(plain_request(ask.kind)),
+        });
     }
     Ok(messages)
 }
@@ -68,15 +110,26 @@ fn request_of(kind: Kind, member: u8, coded: Option<&Coded>) -> Result<Request, 
     ensures request { IfOk result (λ q. q ≡ request_to kind (piece_from (option_copied coded.entry) member)) }
     ensures refused { IfErr result (λ e. e ≡ NoMemory) }
 {
-    Ok(match kind {
+    match kind {
+        Kind::PreWrite(tag) => match coded {
+            Some(coded) => Ok(Request::PreWrite(tag, coded.piece_at(member).clone()?)),
+            None => unreachable!(),
+        },
+        _ => Ok(plain_request(kind)),
+    }
+}
+
+// The request that a phase of this kind sends to each member, where it sends no piece.
+fn plain_request(kind: Kind) -> Request
+    requires { HavePieceOf kind 0 None }
+    ensures { (piece : Piece) → result ≡ request_to kind piece }
+{
+    match kind {
         Kind::Next => Request::Next,
         Kind::Spread(status) => Request::Spread(status),
         Kind::Query => Request::Query,
-        Kind::PreWrite(tag) => match coded {
-            Some(coded) => Request::PreWrite(tag, coded.piece_at(member).clone()?),
-            None => unreachable!(),
-        },
+        Kind::PreWrite(_) => unreachable!(),
         Kind::Finalize(tag) => Request::Finalize(tag),
         Kind::Fetch(tag) => Request::Fetch(tag),
-    })
+    }
 }

@@ -2,7 +2,7 @@ use Rattle.std.proofs.Common.{◌≡◌}
 use Rattle.std.specs.Option.{option_copied}
 use Rattle.call.specs.Pieces.{piece_from}
 use Rattle.call.proofs.MemberListLemmas.{first_of, requests_for}
-use Rattle.call.proofs.messages.requests.Given as goal
+use Rattle.call.proofs.messages.requests_with_pieces.Given as goal
 
 -- the requests to the members so far
 abbrev pub invariant-loop-member : goal.invariant-loop-member

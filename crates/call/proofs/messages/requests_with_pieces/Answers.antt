@@ -3,7 +3,7 @@ use Rattle.std.specs.Option.{option_copied}
 use Rattle.piece.specs.declared.piece.Piece.{Piece}
 use Rattle.call.specs.Pieces.{piece_from}
 use Rattle.call.proofs.MemberListLemmas.{first_of, requests_for, requests_first}
-use Rattle.call.proofs.messages.requests.Goals as goal
+use Rattle.call.proofs.messages.requests_with_pieces.Goals as goal
 
 pub returns-clause-requests : goal.returns-clause-requests
 returns-clause-requests c servers count =
