@@ -8,8 +8,8 @@ ghost use Rattle.std.specs.Prelude.{◌≡◌, pred, true, Some, None, IfOk, OnO
 ghost use Rattle.tag.specs.Refusal.{IsByCause, IsExactlyByCause};
 ghost use Rattle.record.specs.Steps.{Step};
 ghost use Rattle.register.specs.Causes.{number_cause, advance_cause, again_cause, answer_cause, post_cause};
-ghost use Rattle.register.specs.Causes.{supply_cause, settle_cause};
-ghost use Rattle.register.specs.View.{receipt_at, want_at};
+ghost use Rattle.register.specs.Causes.{supply_cause, settle_cause, supplying_cause, value_cause, pieces_cause};
+ghost use Rattle.register.specs.View.{receipt_at, want_at, coding_at, fetched_pieces};
 ghost use Rattle.cluster.specs.Causes.{next, object_cause};
 ghost use Rattle.cluster.specs.Cluster.{if_named, named, place_of};
 ghost use Rattle.cluster.specs.Places.{IsObjectAt};
@@ -17,8 +17,10 @@ ghost use Rattle.cluster.specs.Preconditions.{MayMake};
 ghost use Rattle.cluster.specs.Steps.{with_step};
 
 use crate::cluster::Cluster;
+use bytes::Bytes;
 use decoder::Decoded;
 use encoder::Coded;
+use piece::Piece;
 use record::Want;
 use register::{Act, Answered, Receipt, Register};
 use tag::{CallId, Refusal};
@@ -88,6 +90,40 @@ impl Cluster {
     {
         self.act_at(name, object, Act::Again(call))?;
         Ok(())
+    }
+
+    /// Returns whether the call of this number may be supplied with its own value, as `may_supply` does.
+    pub fn may_supply_at(&self, name: &str, object: u32, call: CallId) -> Result<(), Refusal>
+        requires { IsObjectAt self.now name.now object }
+        ensures cause { IsExactlyByCause
+            (object_cause self.now name.now (λ object. supplying_cause (next self.now) object call)) result }
+    {
+        self.register_at(name, object)
+            .may_supply(call, self.counter + 1)
+    }
+
+    /// Returns the value whose pieces the call of this number is to send, with k and n, as `value_to_code` does.
+    pub fn value_to_code_at(
+        &self,
+        name: &str,
+        object: u32,
+        call: CallId,
+    ) -> Result<(Bytes, u8, u8), Refusal>
+        requires { IsObjectAt self.now name.now object }
+        ensures value { IfOk result (λ r. if_named self.now name.now (λ object. coding_at object call) ≡ Some r) }
+        ensures cause { IsByCause (object_cause self.now name.now (λ object. value_cause object call)) result }
+    {
+        self.register_at(name, object).value_to_code(call)
+    }
+
+    /// Returns the pieces that the call of this number is to decode, as `pieces` does.
+    pub fn pieces_at(&self, name: &str, object: u32, call: CallId) -> Result<Vec<Piece>, Refusal>
+        requires { IsObjectAt self.now name.now object }
+        ensures pieces { IfOk result
+            (λ ps. if_named self.now name.now (λ object. Some (fetched_pieces object call)) ≡ Some ps.items) }
+        ensures cause { IsByCause (object_cause self.now name.now (λ object. pieces_cause object call)) result }
+    {
+        self.register_at(name, object).pieces(call)
     }
 
     /// Hands in the encoded value of the call of this number, as `supply` does.
