@@ -1,6 +1,7 @@
 -- The places of the messages that pass a test, from a place on.
 use Rattle.std.proofs.Common.{◌≡◌, ℕ, zero, suc, ◌+◌, ◌<◌, ◌≤◌, Bool, true, false, cond, ◌-◌, List, [], ◌∷◌, length, drop, Option, Some}
 use Rattle.std.proofs.Common.{None, slice_get, refl, sym, ap, ◌∙◌, arith, add-one}
+use Rattle.std.specs.Option.{option_or}
 use Rattle.mail.specs.declared.message.Message.{Message}
 use Rattle.register.proofs.ListLemmas.{found, same_some}
 use Rattle.driver.specs.Choices.{places_passing}
@@ -111,7 +112,26 @@ module _ (test : Message → Bool) (mail : List Message) (place : ℕ) (b : Bool
       → slice_get (places_passing test (place + 1) (drop (place + 1) mail)) left ≡ answer
   skipped left answer passes so_far = cc (add-one place, from_is test mail place b within told)
 
+  -- the first of all, where the first so far may be none
+  pub first_here : (first answer : Option ℕ) → b ≡ true → option_or first (slice_get (from test mail place) 0) ≡ answer
+      → option_or (option_or first (Some place)) (slice_get (places_passing test (place + 1) (drop (place + 1) mail)) 0) ≡ answer
+  first_here (Some earlier) answer passes so_far = so_far
+  first_here None answer passes so_far = here 0 answer passes refl so_far
+
+  pub first_later : (first answer : Option ℕ) → b ≡ false → option_or first (slice_get (from test mail place) 0) ≡ answer
+      → option_or first (slice_get (places_passing test (place + 1) (drop (place + 1) mail)) 0) ≡ answer
+  first_later first answer passes so_far = ap (option_or first) (skipped 0 (slice_get (from test mail place) 0) passes refl) ∙ so_far
+
 -- there is none behind the last message
 pub past_last : (test : Message → Bool) (mail : List Message) (place left : ℕ) (answer : Option ℕ) → length mail ≤ place
     → slice_get (from test mail place) left ≡ answer → None ≡ answer
 past_last test mail place left answer past so_far = sym (ap (λ xs. slice_get xs left) (from_end test mail place past)) ∙ so_far
+
+pub first_of_none : (test : Message → Bool) (mail : List Message) (place : ℕ) (first answer : Option ℕ) → length mail ≤ place
+    → option_or first (slice_get (from test mail place) 0) ≡ answer → first ≡ answer
+first_of_none test mail place first answer past so_far =
+    or_none first ∙ ap (option_or first) (past_last test mail place 0 (slice_get (from test mail place) 0) past refl) ∙ so_far
+  where
+    or_none : (o : Option ℕ) → o ≡ option_or o None
+    or_none (Some x) = refl
+    or_none None = refl

@@ -33,17 +33,15 @@ pub fn choose<C: Chooser>(
         (λ place. Picks C.chooses (choices_from cluster.now register.now.object filter from) chooser.old chooser.new
         place) }
 {
-    let count = choice_count(cluster, register, filter, from);
+    let (count, first) = count_choices(cluster, register, filter, from);
     if count == 0 {
         return None;
     }
-    choice_at(
-        cluster,
-        register,
-        filter,
-        from,
-        chooser.choose(count) % count,
-    )
+    let skipped = chooser.choose(count) % count;
+    if skipped == 0 {
+        return first;
+    }
+    choice_at(cluster, register, filter, from, skipped)
 }
 
 /// Returns the place of one of the messages that pass `filter` and that can be handled, from place `from` of the mail
@@ -70,18 +68,26 @@ pub fn choice_at(
     None
 }
 
-// How many messages can be handled, from a place of the mail on.
-fn choice_count(cluster: &Cluster, register: &Register, filter: Filter, from: usize) -> usize
-    ensures { result ≡ length (choices_from cluster.now register.now.object filter from) }
+// How many messages can be handled, from a place of the mail on, and the place of the first of them.
+fn count_choices(
+    cluster: &Cluster,
+    register: &Register,
+    filter: Filter,
+    from: usize,
+) -> (usize, Option<usize>)
+    ensures count { result.0 ≡ length (choices_from cluster.now register.now.object filter from) }
+    ensures first { result.1 ≡ slice_get (choices_from cluster.now register.now.object filter from) 0 }
 {
     let mail = register.mail_view();
     let mut count = 0;
+    let mut first = None;
     for place in from..mail.len() {
         if passes(cluster, register, filter, mail.at(place)) {
             count += 1;
+            first = first.or(Some(place));
         }
     }
-    count
+    (count, first)
 }
 
 // Whether a message passes the filter and can be handled.

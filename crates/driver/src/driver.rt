@@ -123,11 +123,11 @@ fn make_other_turn<C: Chooser>(
     match make_round_at(cluster, name, object, call, want, asks_again, chooser)? {
         Round::Stepped => Ok(None),
         Round::Encode { value, k, n } => {
-            supply_value(alloc, cluster, name, call, value, k, n)?;
+            supply_value(alloc, cluster, name, object, call, value, k, n)?;
             Ok(None)
         }
         Round::Decode { pieces, k, len } => {
-            settle_pieces(alloc, cluster, name, call, k, len, pieces)?;
+            settle_pieces(alloc, cluster, name, object, call, k, len, pieces)?;
             Ok(None)
         }
         Round::Answered(receipt) => Ok(Some(receipt)),

@@ -1,6 +1,7 @@
 //! Handling the messages of a call: which one comes next, and how.
 ghost use Rattle.std.specs.Prelude.{◌≡◌, ◌<◌, [], length, Some, IfOk, IfErr, OnErr, OnOk, MatchOption, false};
 ghost use Rattle.tag.specs.Refusal.{IsByCause, IsExactlyByCause};
+ghost use Rattle.mail.specs.Bounds.{AreOthers};
 ghost use Rattle.record.specs.declared.stage.Want.TheVariants as want;
 ghost use Rattle.cluster.specs.Cluster.{if_named};
 ghost use Rattle.cluster.specs.Causes.{object_cause, place_cause};
@@ -144,6 +145,15 @@ fn chosen<C: Chooser>(
     ensures { MatchOption result ((choices cluster.now call register.now.object ≡ []) × (chooser.new ≡ chooser.old))
         (λ place. Picks C.chooses (choices cluster.now call register.now.object) chooser.old chooser.new place) }
 {
-    let from = register.mail_view().first_place(call);
+    let from = first_place(register, call);
     choose(cluster, register, Filter::Call(call), from, chooser)
+}
+
+// The place in the object's mail from which on the call's messages are looked for. It is a function of its own, so that
+// the search is compiled apart from the choice.
+#[inline(never)]
+fn first_place(register: &Register, call: CallId) -> usize
+    ensures { AreOthers call result register.now.object.mail }
+{
+    register.mail_view().first_place(call)
 }

@@ -83,7 +83,7 @@ pub fn make_round_at<C: Chooser>(
     match want {
         Want::Replies => {
             if asks_again {
-                return ask_again(cluster, name, call, chooser);
+                return ask_again(cluster, name, object, call, chooser);
             }
             handle_chosen(cluster, name, object, call, chooser)?;
             Ok(Round::Stepped)
@@ -93,11 +93,11 @@ pub fn make_round_at<C: Chooser>(
             Ok(Round::Stepped)
         }
         Want::Supply { k: _, n: _ } => {
-            let (value, k, n) = value_to_encode(cluster, name, call)?;
+            let (value, k, n) = value_to_encode(cluster, name, object, call)?;
             Ok(Round::Encode { value, k, n })
         }
         Want::Settle { k, len } => {
-            let pieces = pieces_to_decode(cluster, name, call, k, len)?;
+            let pieces = pieces_to_decode(cluster, name, object, call, k, len)?;
             Ok(Round::Decode { pieces, k, len })
         }
         Want::Again => {
@@ -147,10 +147,12 @@ pub fn make_step_at<C: Chooser>(
 fn ask_again<C: Chooser>(
     cluster: &mut Cluster,
     name: &str,
+    object: u32,
     call: CallId,
     chooser: &C,
 ) -> Result<Round, Refusal>
-    requires { wanted cluster.old name.now call ≡ Some want.Replies }
+    requires wanted { wanted cluster.old name.now call ≡ Some want.Replies }
+    requires placed { IsObjectAt cluster.old name.now object }
     ensures round { IfOk result
         (λ r. MakesRound C.chooses name.entry.now call true cluster.old chooser.entry.now cluster.new
         chooser.entry.now r) }
@@ -158,12 +160,12 @@ fn ask_again<C: Chooser>(
         (λ e. IsRefused C.chooses name.entry.now call cluster.old true chooser.entry.now chooser.entry.now e) }
     ensures unchanged { OnErr result (cluster.new ≡ cluster.old) }
 {
-    cluster.register(name)?.soundness();
-    match cluster.post(name, call) {
+    cluster.register_at(name, object).soundness();
+    match cluster.post_at(name, object, call) {
         Ok(()) => Ok(Round::Stepped),
         Err(refusal) => match refusal {
             Refusal::NotNow => {
-                let (value, k, n) = value_to_encode(cluster, name, call)?;
+                let (value, k, n) = value_to_encode(cluster, name, object, call)?;
                 Ok(Round::Encode { value, k, n })
             }
             _ => Err(refusal),

@@ -6,21 +6,21 @@ use Rattle.driver.proofs.coding.pieces_to_decode.Goals as goal
 
 pub returns-then-counter-ge-MOST_STEPS-clause-given : goal.returns-then-counter-ge-MOST_STEPS-clause-given
 returns-then-counter-ge-MOST_STEPS-clause-given c =
-    given_there c.args.cluster.now c.args.name.now c.args.call c.in_ok-register.field-0.now c.args.k c.args.len
-    c.in_ok-register.ensures.object c.soundness.ensures.sound c.requires
+    given_there c.args.cluster.now c.args.name.now c.args.call c.register_at.result.now c.args.k c.args.len
+    c.register_at.ensures c.soundness.ensures.sound c.requires.wanted
 
 pub returns-clause-given : goal.returns-clause-given
 returns-clause-given c =
-    given_there c.args.cluster.now c.args.name.now c.args.call c.in_ok-register.field-0.now c.args.k c.args.len
-    c.in_ok-register.ensures.object c.soundness.ensures.sound c.requires
+    given_there c.args.cluster.now c.args.name.now c.args.call c.register_at.result.now c.args.k c.args.len
+    c.register_at.ensures c.soundness.ensures.sound c.requires.wanted
 
 pub returns-clause-pieces : goal.returns-clause-pieces
 returns-clause-pieces c =
     let less = c.if-counter-ge-MOST_STEPS.false in
     let is = c.counter.ensures in
     let within : suc c.args.cluster.now.counter ≤ MOST_STEPS = omega (arith, less, is) in
-    IfOk-weaker c.pieces.result _ _
-    (λ ps e. to_decode c.args.cluster.now c.args.name.now c.args.call c.in_ok-register.field-0.now c.args.k c.args.len ps.items
-    c.in_ok-register.ensures.object
-    c.soundness.ensures.sound c.requires within e)
-    c.pieces.ensures.pieces
+    IfOk-weaker c.pieces_at.result _ _
+    (λ ps e. to_decode c.args.cluster.now c.args.name.now c.args.call c.register_at.result.now c.args.k c.args.len ps.items
+    c.register_at.ensures
+    c.soundness.ensures.sound c.requires.wanted within e)
+    c.pieces_at.ensures.pieces

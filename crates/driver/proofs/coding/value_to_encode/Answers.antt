@@ -4,12 +4,12 @@ use Rattle.driver.proofs.coding.value_to_encode.Goals as goal
 
 pub returns-clause-value : goal.returns-clause-value
 returns-clause-value c =
-    IfOk-weaker c.value_to_code.result _ _
-    (λ r e. to_encode c.args.cluster.now c.args.name.now c.args.call c.in_ok-register.field-0.now r.1 r.2 r.0
-    c.in_ok-register.ensures.object c.soundness.ensures.sound c.in_ok-may_supply.ensures.cause e)
-    c.value_to_code.ensures.value
+    IfOk-weaker c.value_to_code_at.result _ _
+    (λ r e. to_encode c.args.cluster.now c.args.name.now c.args.call c.register_at.result.now r.1 r.2 r.0
+    c.register_at.ensures c.soundness.ensures.sound c.in_ok-may_supply_at.ensures.cause e)
+    c.value_to_code_at.ensures.value
 
 pub returns-clause-cause : goal.returns-clause-cause
 returns-clause-cause c =
-    value_by c.args.cluster.now c.args.name.now c.args.call c.value_to_code.result c.in_ok-may_supply.ensures.cause
-    c.value_to_code.ensures.cause
+    value_by c.args.cluster.now c.args.name.now c.args.call c.value_to_code_at.result c.in_ok-may_supply_at.ensures.cause
+    c.value_to_code_at.ensures.cause

@@ -1,5 +1,4 @@
 use Rattle.std.proofs.Common.{ℕ, List, [], ◌≡◌, MatchOption, subst}
-use Rattle.mail.specs.Bounds.{AreOthers}
 use Rattle.driver.specs.Choices.{Picks}
 use Rattle.driver.proofs.OtherCallMessageLemmas.{choices_behind}
 use Rattle.driver.proofs.messages.chosen.Goals as goal
@@ -9,4 +8,4 @@ returns g c =
     subst (λ (candidates : List ℕ). MatchOption c.choose.result ((candidates ≡ []) × (c.choose.new.chooser ≡ c.args.chooser.now))
     (λ place. Picks g.C.Chooser.chooses candidates c.args.chooser.now c.choose.new.chooser place))
     (choices_behind c.args.cluster.now c.args.call c.first_place-from.result c.args.register.now.object
-    (subst (AreOthers c.args.call c.first_place-from.result) c.mail_view.ensures c.first_place-from.ensures)) c.choose.ensures
+    c.first_place-from.ensures) c.choose.ensures

@@ -4,14 +4,14 @@ use Rattle.driver.proofs.round.ask_again.Goals as goal
 
 pub returns-in_err-value-in-NotNow-clause-refused : goal.returns-in_err-value-in-NotNow-clause-refused
 returns-in_err-value-in-NotNow-clause-refused g c =
-    err_of _ _ _ c.from_residual-in_err-value-in-NotNow.ensures.1
+    err_of _ _ _ c.from_residual.ensures.1
     (asked_value_refused_at g.C.Chooser.chooses c.args.name.now c.args.call c.args.cluster.now c.args.chooser.now
-    c.in_ok-register.field-0.now c.in_ok-register.ensures.object
-    c.soundness.ensures.sound c.requires c.in_err-value-in-NotNow.field-0.0 c.post.new.self c.in-Err.ensures.unchanged
+    c.register_at.result.now c.register_at.ensures
+    c.soundness.ensures.sound c.requires.wanted c.in_err-value-in-NotNow.field-0.0 c.post_at.new.self c.in-Err.ensures.unchanged
     (rw c.in-NotNow.is at c.in-Err.ensures.cause) c.in_err-value-in-NotNow.ensures.cause)
 
 pub returns-in_default-clause-refused : goal.returns-in_default-clause-refused
 returns-in_default-clause-refused g c =
-    post_refused g.C.Chooser.chooses c.args.name.now c.args.call c.args.cluster.now c.args.chooser.now c.in_ok-register.field-0.now
-    c.in_ok-register.ensures.object
-    c.soundness.ensures.sound c.requires c.in-Err.refusal c.in_default.not-NotNow c.in-Err.ensures.cause
+    post_refused g.C.Chooser.chooses c.args.name.now c.args.call c.args.cluster.now c.args.chooser.now c.register_at.result.now
+    c.register_at.ensures
+    c.soundness.ensures.sound c.requires.wanted c.in-Err.refusal c.in_default.not-NotNow c.in-Err.ensures.cause
