@@ -3,7 +3,7 @@
 #![tactic(auto)]
 
 use coding_commands::Fault;
-use commands::run_words_on;
+use commands::run_words;
 use std::io::{BufWriter, IsTerminal};
 use std::process::ExitCode;
 use std::rt::Stdout;
@@ -14,13 +14,7 @@ fn main(rt: HostRuntime) -> ExitCode {
     let mut err = rt.stderr();
     let is_terminal = err.is_terminal();
     let status = match begun(&rt) {
-        Ok((words, mut out)) => run_words_on(
-            &rt,
-            words.as_slice(),
-            &mut out,
-            &mut err,
-            is_terminal,
-        ),
+        Ok((words, mut out)) => run_words(&rt, words.as_slice(), &mut out, &mut err, is_terminal),
         Err(fault) => fault.report(&mut err),
     };
     ExitCode::from(status)

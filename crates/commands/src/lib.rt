@@ -2,7 +2,7 @@
 #![tactic(auto)]
 
 pub use file::run_opened;
-pub use program::{run_words, run_words_on};
+pub use program::run_words;
 
 mod arguments;
 mod file;

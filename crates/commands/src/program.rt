@@ -18,21 +18,9 @@ use std::time::Clock;
 /// Carries out the words after the program's name, and returns the exit status: 0 if the line of the answer is written
 /// or the script of the file is played to its end, 1 for a refusal or lost output, 2 for words that spell no request
 /// and for a script that is bad or cannot be read. A soak ends with the status of its summary. If the program ends
-/// early, a text on `err` says why.
+/// early, a text on `err` says why. If `err` is a terminal, a line there also shows how far a soak of two seconds or
+/// more has come.
 pub fn run_words<R: Files + AllocGlobal + Threads + Wait + Clock + Sync, O: Write, E: Write>(
-    rt: &R,
-    words: &[String],
-    out: &mut O,
-    err: &mut E,
-) -> u8
-    ensures { EndsBy (map string_bytes words.now) (O.contents out.old) (O.contents out.new) result }
-{
-    run_words_on(rt, words, out, err, false)
-}
-
-/// Carries out the words as `run_words` does. If `err` is a terminal, a line there also shows how far a soak of two
-/// seconds or more has come.
-pub fn run_words_on<R: Files + AllocGlobal + Threads + Wait + Clock + Sync, O: Write, E: Write>(
     rt: &R,
     words: &[String],
     out: &mut O,
