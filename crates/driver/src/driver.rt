@@ -1,5 +1,5 @@
 //! The driver of one call, for one thread.
-ghost use Rattle.std.specs.Prelude.{◌≡◌, Some, IfOk, IfErr, OnErr, MatchOption};
+ghost use Rattle.std.specs.Prelude.{◌≡◌, Some, IfOk, IfErr, OnErr, MatchOption, false, true};
 ghost use Rattle.cluster.specs.Places.{IsObjectAt};
 ghost use Rattle.driver.specs.Driver.{asks_again, IsAnswerTurn, FinishesCall, IsNotAnswered, IsRefused, IsTurn};
 ghost use Rattle.driver.specs.Driver.{IsUnfinished, wanted};
@@ -47,6 +47,9 @@ pub fn finish<C: Chooser>(
     let object = cluster.place(name)?;
     for turn in 0..turns {
         let again = asks_again(resumed, turn);
+        if make_step(cluster, name, object, call, again, chooser)? {
+            continue;
+        }
         if let Some(receipt) = make_turn(alloc, cluster, name, object, call, again, chooser)? {
             return Ok(receipt);
         }
@@ -62,6 +65,33 @@ fn asks_again(resumed: bool, count: u64) -> bool
     ensures { result ≡ asks_again resumed count }
 {
     resumed && count == 0
+}
+
+// Makes the turn of a call that wants replies or to advance, unless it may ask again. Returns false, and changes
+// nothing, where the turn is another one. It hands out nothing, so it is cheaper than `make_turn`.
+fn make_step<C: Chooser>(
+    cluster: &mut Cluster,
+    name: &str,
+    object: u32,
+    call: CallId,
+    asks_again: bool,
+    chooser: &mut C,
+) -> Result<bool, Refusal>
+    requires { IsObjectAt cluster.old name.now object }
+    ensures turn { IfOk result (λ b. b ≡ true
+        → IsTurn C.chooses name.entry.now call asks_again cluster.old chooser.old cluster.new chooser.new
+        × IsNotAnswered cluster.new name.entry.now call) }
+
+    ensures same { IfOk result (λ b. b ≡ false → (cluster.new ≡ cluster.old) × (chooser.new ≡ chooser.old)) }
+    ensures refused { IfErr result
+        (λ e. IsRefused C.chooses name.entry.now call cluster.old asks_again chooser.old chooser.new e) }
+    ensures unchanged { OnErr result (cluster.new ≡ cluster.old) }
+{
+    if asks_again {
+        return Ok(false);
+    }
+    let want = cluster.want_at(name, object, call)?;
+    make_step_at(cluster, name, object, call, want, chooser)
 }
 
 // Makes one step of the call, encoding or decoding where the step needs it. Returns the receipt where the step answers
@@ -88,38 +118,6 @@ fn make_turn<C: Chooser>(
     ensures unchanged { OnErr result (cluster.new ≡ cluster.old) }
 {
     let want = cluster.want_at(name, object, call)?;
-    if !asks_again && make_step_at(cluster, name, object, call, want, chooser)? {
-        return Ok(None);
-    }
-    make_other_turn(
-        alloc, cluster, name, object, call, want, asks_again, chooser,
-    )
-}
-
-// Makes one step of a call that wants this, by `make_round_at`.
-fn make_other_turn<C: Chooser>(
-    alloc: Global,
-    cluster: &mut Cluster,
-    name: &str,
-    object: u32,
-    call: CallId,
-    want: Want,
-    asks_again: bool,
-    chooser: &mut C,
-) -> Result<Option<Receipt>, Refusal>
-    requires wanted { wanted cluster.old name.now call ≡ Some want }
-    requires placed { IsObjectAt cluster.old name.now object }
-    ensures turn { IfOk result
-        (λ o. MatchOption o
-        (IsTurn C.chooses name.entry.now call asks_again cluster.old chooser.old cluster.new chooser.new
-        × IsNotAnswered cluster.new name.entry.now call)
-        (λ r. IsAnswerTurn C.chooses name.entry.now call asks_again cluster.old chooser.old cluster.new chooser.new
-        r)) }
-
-    ensures refused { IfErr result
-        (λ e. IsRefused C.chooses name.entry.now call cluster.old asks_again chooser.old chooser.new e) }
-    ensures unchanged { OnErr result (cluster.new ≡ cluster.old) }
-{
     match make_round_at(cluster, name, object, call, want, asks_again, chooser)? {
         Round::Stepped => Ok(None),
         Round::Encode { value, k, n } => {
