@@ -86,6 +86,7 @@ fn handle_as(
 }
 
 /// Handles the chosen one of the call's messages that can be handled. Is refused with `Stuck` if there is none.
+#[inline(always)]
 pub(crate) fn handle_chosen<C: Chooser>(
     cluster: &mut Cluster,
     name: &str,
