@@ -2,115 +2,173 @@
 
 ghost use Rattle.std.specs.Prelude.{◌≤◌, length};
 
-use crate::same::assert_same;
+use crate::same::{assert_row, byte_at, filled};
 use encoder::{encode_into, piece};
 use gf256::mul;
+use piece::Piece;
 use std::alloc::Global;
 use std::process::Abort;
 
 /// Byte `b` of the fragment of `value` at the point `x`, as it is defined: the sum of `x^j` times byte `b` of block j.
 fn fragment_byte(k: u8, x: u8, value: &[u8], b: usize) -> u8 {
     let block_len = value.len().div_ceil(k.max(1) as usize);
+    let mut place = b;
     let mut sum = 0;
     let mut power = 1;
-    for block in value.chunks(block_len.max(1)) {
-        sum ^= mul(power, block.get(b).copied().unwrap_or(0));
+    for _ in 0..k {
+        sum ^= mul(power, byte_at(value, place));
         power = mul(power, x);
+        place = place.saturating_add(block_len);
     }
     sum
 }
 
-fn assert_defined(rt: &impl Abort, k: u8, x: u8, value: &[u8], made: &[u8]) {
-    for (b, byte) in made.iter().enumerate() {
-        let defined = fragment_byte(k, x, value, b);
-        assert_same(
-            rt,
-            "k, x, the place and the byte",
-            (k, x, b, *byte),
-            (k, x, b, defined),
-        );
-    }
-}
-
-fn assert_piece(rt: &impl Abort, alloc: Global, k: u8, x: u8, len: usize)
-    requires { 1 ≤ k }
-{
-    let text =
-        b"Thirty-two bytes go at once, so lengths near its multiples are those that a loop over lanes gets wrong.";
-    assert!(rt; len <= text.len());
-    let value = &text[..len];
-    let made = piece(alloc, k, x, value).expect(rt, "a piece");
-    let fragment = made.bytes.as_slice();
-    let expected = (x, len, len.div_ceil(k as usize));
-    let found = (made.point, made.len as usize, fragment.len());
-    assert_same(rt, "the point and the lengths", found, expected);
-    assert_defined(rt, k, x, value, fragment);
-}
-
-#[test]
-fn meets_the_definition_at_each_length(rt: HostRuntime) {
-    for (k, x) in [(1, 0), (1, 7), (2, 1), (3, 2), (5, 31), (32, 255)] {
-        for len in [0, 1, 31, 32, 33, 63, 64, 65, 95, 96, 97, 99] {
-            assert_piece(&rt, rt.alloc(), k, x, len);
+/// Returns whether each byte of the fragment that was made for the point `x` is as it is defined.
+fn is_fragment(k: u8, x: u8, value: &[u8], made: &[u8]) -> bool {
+    for b in 0..made.len() {
+        if made[b] != fragment_byte(k, x, value, b) {
+            return false;
         }
     }
+    true
 }
 
-/// The most bytes of a value, and of all fragments of one, in the test below.
-const MOST_BYTES: usize = 255 * 65;
+fn is_piece(made: &Piece, k: u8, x: u8, value: &[u8]) -> bool
+    requires { 1 ≤ k }
+{
+    made.point == x
+        && made.len as usize == value.len()
+        && made.bytes.len() == value.len().div_ceil(k as usize)
+        && is_fragment(k, x, value, made.bytes.as_slice())
+}
 
-/// Returns whether each byte of the first seven fragments, and of the last one, is as it is defined.
-fn are_fragments(k: u8, n: u8, value: &[u8]) -> bool
+fn makes_piece(alloc: Global, k: u8, x: u8, value: &[u8]) -> bool
     requires threshold { 1 ≤ k }
     requires most { length value.now ≤ MOST_BYTES }
 {
-    let mut room = [0xAA; MOST_BYTES];
-    let block_len = value.len().div_ceil(k as usize);
-    let Some(out) = room.get_mut(..n as usize * block_len) else {
-        return false;
-    };
-    encode_into(k, n, value, out);
+    match piece(alloc, k, x, value) {
+        Ok(made) => is_piece(&made, k, x, value),
+        Err(_) => false,
+    }
+}
+
+static TEXT: &[u8; 103] =
+    b"Thirty-two bytes go at once, so lengths near its multiples are those that a loop over lanes gets wrong.";
+
+static LENGTHS: [usize; 12] = [0, 1, 31, 32, 33, 63, 64, 65, 95, 96, 97, 99];
+
+/// Returns whether the pieces of the text's first bytes at the point `x` are as they are defined, at each length.
+fn makes_each_length(alloc: Global, k: u8, x: u8) -> bool
+    requires { 1 ≤ k }
+{
+    for len in &LENGTHS {
+        match TEXT.get(..*len) {
+            Some(value) if makes_piece(alloc, k, x, value) => {}
+            _ => return false,
+        }
+    }
+    true
+}
+
+/// Numbers of blocks, and points.
+static POINTS: [(u8, u8); 6] = [(1, 0), (1, 7), (2, 1), (3, 2), (5, 31), (32, 255)];
+
+#[test]
+fn meets_the_definition_at_each_length(rt: HostRuntime) {
+    for place in 0..POINTS.len() {
+        let (k, x) = POINTS[place];
+        let holds = k >= 1 && makes_each_length(rt.alloc(), k, x);
+        assert_row(&rt, place, holds);
+    }
+}
+
+/// The most bytes of a value in the test below.
+const MOST_BYTES: usize = 255 * 65;
+
+fn fragment_in(made: &[u8], x: u8, block_len: usize) -> Option<&[u8]>
+    requires { block_len ≤ MOST_BYTES }
+{
+    made.get(x as usize * block_len..(x as usize + 1) * block_len)
+}
+
+/// Returns whether the first seven of these fragments, and the last one, are as they are defined.
+fn are_fragments(k: u8, n: u8, value: &[u8], block_len: usize, made: &[u8]) -> bool
+    requires { block_len ≤ MOST_BYTES }
+{
     for x in 0..n {
         if x < 7 || x == n - 1 {
-            for b in 0..block_len {
-                let made = out.get(x as usize * block_len + b).copied();
-                if made != Some(fragment_byte(k, x, value, b)) {
-                    return false;
-                }
+            match fragment_in(made, x, block_len) {
+                Some(fragment) if is_fragment(k, x, value, fragment) => {}
+                _ => return false,
             }
         }
     }
     true
 }
 
-fn assert_shapes(rt: &impl Abort, k: u8, value: &[u8])
+fn makes_fragments(rt: &impl Abort, alloc: Global, k: u8, n: u8, value: &[u8]) -> bool
+    requires threshold { 1 ≤ k }
+    requires most { length value.now ≤ MOST_BYTES }
+{
+    let block_len = value.len().div_ceil(k as usize);
+    let mut made = vec![in alloc; 0xAA; n as usize * block_len].expect(rt, "so many bytes");
+    encode_into(k, n, value, &mut made);
+    are_fragments(k, n, value, block_len, &made)
+}
+
+fn makes_each_n(rt: &impl Abort, alloc: Global, k: u8, value: &[u8]) -> bool
     requires threshold { 1 ≤ k }
     requires most { length value.now ≤ MOST_BYTES }
 {
     for n in [1, 2, 3, 4, 5, 6, 7, 255] {
-        assert_same(
-            rt,
-            "k, n and its fragments",
-            (k, n, are_fragments(k, n, value)),
-            (k, n, true),
-        );
+        if !makes_fragments(rt, alloc, k, n, value) {
+            return false;
+        }
     }
+    true
 }
+
+fn makes_shape(rt: &impl Abort, alloc: Global, k: u8, len: usize) -> bool {
+    let value = filled(rt, alloc, len);
+    k >= 1 && value.len() <= MOST_BYTES && makes_each_n(rt, alloc, k, &value)
+}
+
+/// Numbers of blocks, and lengths of values in blocks of 1, 31, 32, 33, 63, 64 and 65 bytes. The last block is one byte
+/// short where there are 64 or more.
+static SHAPES: [(u8, usize); 27] = [
+    (1, 1),
+    (1, 31),
+    (1, 32),
+    (1, 33),
+    (1, 63),
+    (1, 64),
+    (2, 2),
+    (2, 62),
+    (2, 64),
+    (2, 66),
+    (2, 126),
+    (2, 127),
+    (2, 129),
+    (3, 3),
+    (3, 93),
+    (3, 96),
+    (3, 99),
+    (3, 189),
+    (3, 191),
+    (3, 194),
+    (255, 255),
+    (255, 7905),
+    (255, 8160),
+    (255, 8415),
+    (255, 16_065),
+    (255, 16_319),
+    (255, 16_574),
+];
 
 #[test]
 fn meets_the_definition_at_each_shape(rt: HostRuntime) {
-    let mut bytes = [0; MOST_BYTES];
-    let mut byte = 1u8;
-    for b in bytes.iter_mut() {
-        *b = byte;
-        byte = byte.wrapping_mul(5).wrapping_add(7);
-    }
-    for k in [1, 2, 3, 255] {
-        for block_len in [1, 31, 32, 33, 63, 64, 65] {
-            // The last block is one byte short, where it has 64 or more.
-            let len = k as usize * block_len - block_len / 64;
-            assert!(rt; len <= MOST_BYTES);
-            assert_shapes(&rt, k, &bytes[..len]);
-        }
+    for place in 0..SHAPES.len() {
+        let (k, len) = SHAPES[place];
+        assert_row(&rt, place, makes_shape(&rt, rt.alloc(), k, len));
     }
 }

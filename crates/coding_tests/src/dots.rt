@@ -2,21 +2,16 @@
 
 ghost use Rattle.std.specs.Prelude.{◌≡◌, ◌≤◌, ◌+◌, ◌%◌, length};
 
-use crate::same::assert_same;
+use crate::same::{are_all, assert_row, byte_at, fill};
 use dot_kernel::{Tables, differences_of, dot, dots_of, powers_of};
 use gf256::mul;
-use std::process::Abort;
 
 const LENGTHS: [usize; 8] = [0, 1, 31, 32, 33, 64, 65, 100];
 
 /// Bytes of which each value of a byte comes up, from another one on at another `seed`.
 fn bytes(seed: u8) -> [u8; 300] {
     let mut bytes = [0; 300];
-    let mut byte = seed;
-    for b in bytes.iter_mut() {
-        *b = byte;
-        byte = byte.wrapping_mul(5).wrapping_add(7);
-    }
+    fill(seed, &mut bytes);
     bytes
 }
 
@@ -29,7 +24,7 @@ fn sums_by_hand(rt: HostRuntime) {
         &[Tables::new(2), Tables::new(3)],
         &[&[0x80], &[0x01]],
     );
-    assert_same(&rt, "the sum", out, [0x1E]);
+    assert!(rt; out[0] == 0x1E);
 }
 
 // By hand: 3 times 0x80 is 0x9D, 2 times 0x01 is 0x02, and the sum of both is 0x9F, as that of 0x80 and 2 times 0x81.
@@ -43,77 +38,115 @@ fn sums_differences_by_hand(rt: HostRuntime) {
         100,
         true,
     );
-    assert_same(&rt, "the sums", &out, &[0x9F; 100]);
+    assert!(rt; are_all(&out, 0x9F));
 }
 
-// The first 256 bytes of `value`, each by `c` with the field's product.
-fn products(c: u8, value: &[u8; 300]) -> [u8; 256] {
-    let mut products = [0; 256];
+/// Returns whether the sums of one row are the products by `c`.
+fn multiplies(c: u8, value: &[u8; 300]) -> bool {
+    let mut out = [0; 256];
+    dot(&mut out, &[Tables::new(c)], &[value]);
+    are_products(&out, c, value)
+}
+
+/// Returns whether these bytes are those of `value`, each by `c` with the field's product.
+fn are_products(out: &[u8; 256], c: u8, value: &[u8; 300]) -> bool {
     for b in 0..256 {
-        products[b] = mul(c, value[b]);
+        if out[b] != mul(c, value[b]) {
+            return false;
+        }
     }
-    products
+    true
 }
 
 #[test]
 fn multiplies_all_bytes(rt: HostRuntime) {
     let value = bytes(0);
     for c in 0..=255 {
-        let mut out = [0; 256];
-        dot(&mut out, &[Tables::new(c)], &[&value]);
-        assert_same(&rt, "products", (c, &out), (c, &products(c, &value)));
+        assert_row(&rt, c as usize, multiplies(c, &value));
     }
+}
+
+fn multiplies_coefficient(a: u8) -> bool {
+    let mut out = [0; 1];
+    dot(
+        &mut out,
+        &[Tables::new(a).product(&Tables::new(0x53))],
+        &[&[1]],
+    );
+    out[0] == mul(a, 0x53)
 }
 
 #[test]
 fn multiplies_coefficients(rt: HostRuntime) {
     for a in 0..=255u8 {
-        let mut out = [0; 1];
-        dot(
-            &mut out,
-            &[Tables::new(a).product(&Tables::new(0x53))],
-            &[&[1]],
-        );
-        assert_same(&rt, "a product", (a, out), (a, [mul(a, 0x53)]));
+        assert_row(&rt, a as usize, multiplies_coefficient(a));
     }
 }
 
-/// The bytes of a row of sums are those of both sources, each by its coefficient, with the field's product. After its
-/// end a source has zeros.
-fn assert_row(rt: &impl Abort, sums: &[u8], row: [u8; 2], first: &[u8], second: &[u8]) {
-    for (b, sum) in sums.iter().enumerate() {
-        let one = mul(row[0], first.get(b).copied().unwrap_or(0));
-        let other = mul(row[1], second.get(b).copied().unwrap_or(0));
-        assert_same(rt, "a byte of a row", (b, row, *sum), (b, row, one ^ other));
+/// Returns whether the bytes of a row of sums are those of both sources, each by its coefficient, with the field's
+/// product. After its end a source has zeros.
+fn is_row(sums: &[u8], row: [u8; 2], first: &[u8], second: &[u8]) -> bool {
+    for b in 0..sums.len() {
+        let one = mul(row[0], byte_at(first, b));
+        let other = mul(row[1], byte_at(second, b));
+        if sums[b] != one ^ other {
+            return false;
+        }
     }
+    true
 }
 
 const ROWS: [[u8; 2]; 4] = [[1, 1], [1, 2], [0, 255], [29, 128]];
 
-fn assert_rows(rt: &impl Abort, tables: &[Tables; 8], first: &[u8], second: &[u8])
+fn are_rows(sums: &[u8; 400], size: usize, first: &[u8], second: &[u8]) -> bool
+    requires { size ≤ 100 }
+{
+    for r in 0..4 {
+        if !is_row(&sums[r * size..(r + 1) * size], ROWS[r], first, second) {
+            return false;
+        }
+    }
+    true
+}
+
+fn sums_rows(tables: &[Tables; 8], first: &[u8], second: &[u8]) -> bool
     requires { length first.now ≤ 100 }
 {
     let size = first.len();
     let mut out = [0xAA; 400];
     dots_of::<4>(&mut out[..4 * size], tables, &[first, second], size);
-    for r in 0..4 {
-        assert_row(rt, &out[r * size..(r + 1) * size], ROWS[r], first, second);
-    }
+    are_rows(&out, size, first, second)
 }
 
-// The sums are computed byte by byte with the field's product. The second source ends early.
-#[test]
-fn sums_rows_as_the_byte_loop_does(rt: HostRuntime) {
-    let (first, second) = (bytes(3), bytes(7));
+fn tables_of_rows() -> [Tables; 8] {
     let mut tables = [Tables::zero(); 8];
     for r in 0..4 {
         tables[r] = Tables::new(ROWS[r][0]);
         tables[4 + r] = Tables::new(ROWS[r][1]);
     }
-    for size in LENGTHS {
-        for short in 0..=size {
-            assert_rows(&rt, &tables, &first[..size], &second[..short]);
+    tables
+}
+
+// The second source ends early.
+fn sums_each_end(tables: &[Tables; 8], first: &[u8], second: &[u8; 300]) -> bool
+    requires { length first.now ≤ 100 }
+{
+    for short in 0..=first.len() {
+        if !sums_rows(tables, first, &second[..short]) {
+            return false;
         }
+    }
+    true
+}
+
+// The sums are computed byte by byte with the field's product.
+#[test]
+fn sums_rows_as_the_byte_loop_does(rt: HostRuntime) {
+    let first = bytes(3);
+    let second = bytes(7);
+    let tables = tables_of_rows();
+    for size in LENGTHS {
+        assert_row(&rt, size, sums_each_end(&tables, &first[..size], &second));
     }
 }
 
@@ -122,46 +155,65 @@ fn power_sum(sources: &[&[u8]], point: u8, b: usize) -> u8 {
     let mut sum = 0;
     let mut power = 1;
     for source in sources {
-        sum ^= mul(power, source.get(b).copied().unwrap_or(0));
+        sum ^= mul(power, byte_at(source, b));
         power = mul(power, point);
     }
     sum
 }
 
-fn assert_power_row(rt: &impl Abort, sums: &[u8], point: u8, sources: &[&[u8]]) {
-    for (b, sum) in sums.iter().enumerate() {
-        let expected = power_sum(sources, point, b);
-        assert_same(
-            rt,
-            "a byte at a point",
-            (b, point, *sum),
-            (b, point, expected),
-        );
+fn is_power_row(sums: &[u8], point: u8, sources: &[&[u8]]) -> bool {
+    for b in 0..sums.len() {
+        if sums[b] != power_sum(sources, point, b) {
+            return false;
+        }
     }
+    true
+}
+
+fn are_power_rows(sums: &[u8; 800], size: usize, first: usize, sources: &[&[u8]]) -> bool
+    requires size { size ≤ 100 }
+    requires points { first + 7 ≤ 256 }
+{
+    for r in 0..7 {
+        if !is_power_row(&sums[r * size..(r + 1) * size], (first + r) as u8, sources) {
+            return false;
+        }
+    }
+    true
+}
+
+fn sums_powers(size: usize, first: usize, sources: &[&[u8]]) -> bool
+    requires size { size ≤ 100 }
+    requires even { first % 2 ≡ 0 }
+    requires points { first + 7 ≤ 256 }
+    requires some { 1 ≤ length sources.now }
+{
+    let mut out = [0xAA; 800];
+    powers_of::<7>(&mut out[..7 * size], sources, size, first);
+    are_power_rows(&out, size, first, sources)
 }
 
 // The last source ends early.
-fn assert_power_rows(rt: &impl Abort, size: usize, first: usize)
+fn sums_powers_at(size: usize, first: usize) -> bool
     requires size { size ≤ 100 }
     requires even { first % 2 ≡ 0 }
     requires points { first + 7 ≤ 256 }
 {
-    let (one, two, three) = (bytes(3), bytes(7), bytes(11));
-    let sources = [&one[..size], &two[..size], &three[..size / 2]];
-    let mut out = [0xAA; 800];
-    powers_of::<7>(&mut out[..7 * size], &sources, size, first);
-    for r in 0..7 {
-        let sums = &out[r * size..(r + 1) * size];
-        assert_power_row(rt, sums, (first + r) as u8, &sources);
-    }
+    let one = bytes(3);
+    let two = bytes(7);
+    let three = bytes(11);
+    sums_powers(
+        size,
+        first,
+        &[&one[..size], &two[..size], &three[..size / 2]],
+    )
 }
 
 #[test]
 fn sums_by_powers_as_the_byte_loop_does(rt: HostRuntime) {
     for size in LENGTHS {
-        for first in [0, 2, 246] {
-            assert_power_rows(&rt, size, first);
-        }
+        let holds = sums_powers_at(size, 0) && sums_powers_at(size, 2) && sums_powers_at(size, 246);
+        assert_row(&rt, size, holds);
     }
 }
 
@@ -170,5 +222,5 @@ fn sums_by_powers_as_the_byte_loop_does(rt: HostRuntime) {
 fn sums_powers_by_hand(rt: HostRuntime) {
     let mut out = [0xAA; 3];
     powers_of::<3>(&mut out, &[&[1], &[2], &[3]], 1, 0);
-    assert_same(&rt, "the sums", out, [1, 0, 9]);
+    assert!(rt; out[0] == 1 && out[1] == 0 && out[2] == 9);
 }

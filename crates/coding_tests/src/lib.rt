@@ -3,9 +3,9 @@
 #![tactic(auto)]
 
 #[cfg(test)]
-mod decoded;
+mod by_hand;
 #[cfg(test)]
-mod decoded_into;
+mod decoded;
 #[cfg(test)]
 mod defined;
 #[cfg(test)]
@@ -14,6 +14,8 @@ mod dots;
 mod encoded;
 #[cfg(test)]
 mod lanes;
+#[cfg(test)]
+mod made;
 #[cfg(test)]
 mod products;
 #[cfg(test)]

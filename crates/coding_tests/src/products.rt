@@ -1,9 +1,9 @@
 //! Products, inverses and powers of the field.
-use crate::same::assert_same;
+use crate::same::assert_row;
 use gf256::{div, inv, mul, pow};
 
 // The values are printed by `gf_mul` of Intel's library ISA-L 2.30, which multiplies modulo the same polynomial.
-const PRODUCTS: [(u8, u8, u8); 19] = [
+static PRODUCTS: [(u8, u8, u8); 19] = [
     (0x80, 0x02, 0x1D),
     (0x80, 0x80, 0x13),
     (0x03, 0x03, 0x05),
@@ -27,13 +27,14 @@ const PRODUCTS: [(u8, u8, u8); 19] = [
 
 #[test]
 fn products(rt: HostRuntime) {
-    for &(a, b, product) in &PRODUCTS {
-        assert_same(&rt, "a product", (a, b, mul(a, b)), (a, b, product));
+    for place in 0..PRODUCTS.len() {
+        let (a, b, product) = PRODUCTS[place];
+        assert_row(&rt, place, mul(a, b) == product);
     }
 }
 
 // The values are printed by `gf_inv` of the same library.
-const INVERSES: [(u8, u8); 8] = [
+static INVERSES: [(u8, u8); 8] = [
     (0x01, 0x01),
     (0x02, 0x8E),
     (0x03, 0xF4),
@@ -46,15 +47,15 @@ const INVERSES: [(u8, u8); 8] = [
 
 #[test]
 fn inverses(rt: HostRuntime) {
-    for &(a, inverse) in &INVERSES {
-        assert!(rt; a > 0);
-        let found = (a, inv(a), div(1, a));
-        assert_same(&rt, "an inverse", found, (a, inverse, inverse));
+    for place in 0..INVERSES.len() {
+        let (a, inverse) = INVERSES[place];
+        let holds = a > 0 && inv(a) == inverse && div(1, a) == inverse;
+        assert_row(&rt, place, holds);
     }
 }
 
 // By hand: x^8 is x^4 + x^3 + x^2 + 1; the empty product is 1; the 255 elements that are not zero form a group.
-const POWERS: [(u8, u32, u8); 4] = [
+static POWERS: [(u8, u32, u8); 4] = [
     (0x02, 8, 0x1D),
     (0x00, 0, 0x01),
     (0x00, 1, 0x00),
@@ -63,12 +64,8 @@ const POWERS: [(u8, u32, u8); 4] = [
 
 #[test]
 fn powers(rt: HostRuntime) {
-    for &(a, exponent, power) in &POWERS {
-        assert_same(
-            &rt,
-            "a power",
-            (a, exponent, pow(a, exponent)),
-            (a, exponent, power),
-        );
+    for place in 0..POWERS.len() {
+        let (a, exponent, power) = POWERS[place];
+        assert_row(&rt, place, pow(a, exponent) == power);
     }
 }

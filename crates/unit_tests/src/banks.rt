@@ -1,29 +1,16 @@
 //! One server's bank: the table of requests and replies, and the tags in rising order.
-use crate::pieces::{held, piece};
-use crate::same::assert_same;
+use crate::pieces::{is_piece, piece};
+use crate::same::assert_row;
 use bank::{Answer, Bank, Kind, Label, Pointer, Reply, Request, Row, Status};
 use std::alloc::Global;
 use std::process::Abort;
-use tag::{Stamp, Tag};
+use tag::{Refusal, Stamp, Tag};
 
 const FIRST: Tag = Tag { number: 1, call: 1 };
 
 const SECOND: Tag = Tag { number: 2, call: 2 };
 
-// The request of this kind. What is pre-written is always the same piece.
-fn request_of(rt: &impl Abort, alloc: Global, kind: Kind) -> Request {
-    match kind {
-        Kind::Next => Request::Next,
-        Kind::Spread(status) => Request::Spread(status),
-        Kind::Query => Request::Query,
-        Kind::PreWrite(tag) => Request::PreWrite(tag, piece(rt, alloc)),
-        Kind::Finalize(tag) => Request::Finalize(tag),
-        Kind::Fetch(tag) => Request::Fetch(tag),
-    }
-}
-
 // What a bank answers, where each piece is the one that is always pre-written.
-#[derive(Clone, Copy)]
 enum Said {
     Done,
     Pointer(Status),
@@ -32,53 +19,55 @@ enum Said {
     Piece,
 }
 
-fn answer_of(rt: &impl Abort, alloc: Global, said: Said) -> Answer {
-    match said {
-        Said::Done => Answer::Done,
-        Said::Pointer(status) => Answer::Pointer(status),
-        Said::Greatest(tag) => Answer::Greatest(tag),
-        Said::NoPiece => Answer::Piece(None),
-        Said::Piece => Answer::Piece(Some(held(rt, alloc))),
+// What is done to a bank, or looked at there.
+enum Deed {
+    // The step, the request, where what is pre-written is always the same piece, and what is said to it.
+    Serve(Stamp, Kind, Said),
+    Retire(Stamp),
+    Bytes(u64),
+    Pointer(Pointer),
+    // How many tags there are.
+    Count(usize),
+    // The tag at this place in rising order, its label, and the step at which its piece came.
+    Kept(usize, Tag, Label, Option<Stamp>),
+    // A tag, and whether its piece is there. It came in any case.
+    Piece(Tag, bool),
+}
+
+fn request_of(kind: Kind) -> Request {
+    match kind {
+        Kind::Next => Request::Next,
+        Kind::Spread(status) => Request::Spread(status),
+        Kind::Query => Request::Query,
+        Kind::PreWrite(tag) => Request::PreWrite(tag, piece()),
+        Kind::Finalize(tag) => Request::Finalize(tag),
+        Kind::Fetch(tag) => Request::Fetch(tag),
     }
 }
 
-fn assert_reply(rt: &impl Abort, alloc: Global, reply: &Reply, step: Stamp, said: Said) {
-    let answer = answer_of(rt, alloc, said);
-    assert_same(rt, "a reply", reply, &Reply { step, answer });
-}
-
-fn assert_serves(
-    rt: &impl Abort,
-    alloc: Global,
-    bank: &mut Bank,
-    step: Stamp,
-    kind: Kind,
-    said: Said,
-) {
-    let reply = bank
-        .serve(&request_of(rt, alloc, kind), step)
-        .expect(rt, "a reply");
-    assert_reply(rt, alloc, &reply, step, said);
-}
-
-// Serves one request after another. Each row has the step, the request and what is said to it.
-fn assert_table(rt: &impl Abort, alloc: Global, bank: &mut Bank, table: &[(Stamp, Kind, Said)]) {
-    for &(step, kind, said) in table {
-        assert_serves(rt, alloc, bank, step, kind, said);
+fn says(answer: &Answer, said: &Said) -> bool {
+    match answer {
+        Answer::Done => matches!(said, Said::Done),
+        Answer::Pointer(status) => matches!(said, Said::Pointer(found) if *found == *status),
+        Answer::Greatest(tag) => matches!(said, Said::Greatest(found) if found.is(*tag)),
+        Answer::Piece(None) => matches!(said, Said::NoPiece),
+        Answer::Piece(Some(held)) => matches!(said, Said::Piece) && is_piece(held.piece()),
     }
 }
 
-fn new_bank(rt: &impl Abort, alloc: Global, delta: Option<u32>) -> Bank {
-    Bank::new(alloc, 1, delta, 1).expect(rt, "a bank")
+fn is_reply(reply: &Reply, step: Stamp, said: &Said) -> bool {
+    reply.step == step && says(&reply.answer, said)
 }
 
-fn pre_write(rt: &impl Abort, alloc: Global, bank: &mut Bank, tag: Tag, step: Stamp) {
-    bank.pre_write(tag, piece(rt, alloc), step)
-        .expect(rt, "a reply");
+fn replies(reply: Result<Reply, Refusal>, step: Stamp, said: &Said) -> bool {
+    match reply {
+        Ok(reply) => is_reply(&reply, step, said),
+        Err(_) => false,
+    }
 }
 
-fn finalize(rt: &impl Abort, bank: &mut Bank, tag: Tag, step: Stamp) {
-    bank.finalize(tag, step).expect(rt, "a reply");
+fn serves(bank: &mut Bank, step: Stamp, kind: Kind, said: &Said) -> bool {
+    replies(bank.serve(&request_of(kind), step), step, said)
 }
 
 // The step at which a row's piece came.
@@ -89,162 +78,157 @@ fn came_at(row: &Row) -> Option<Stamp> {
     }
 }
 
-type Kept = (Tag, Label, Option<Stamp>);
-
-fn assert_kept(rt: &impl Abort, bank: &Bank, i: usize, expected: Kept) {
-    assert!(rt; i < bank.count());
-    let (tag, row) = bank.kept(i);
-    assert_same(rt, "a row", (tag, row.label, came_at(row)), expected);
+fn keeps(bank: &Bank, i: usize, tag: Tag, label: Label, came: Option<Stamp>) -> bool {
+    if i >= bank.count() {
+        return false;
+    }
+    let (kept, row) = bank.kept(i);
+    kept.is(tag) && row.label == label && came_at(row) == came
 }
 
-// The tags that a bank keeps in rising order, each with its label and the step at which its piece came.
-fn assert_keeps(rt: &impl Abort, bank: &Bank, rows: &[Kept]) {
-    assert_same(rt, "how many rows", bank.count(), rows.len());
-    for (i, expected) in rows.iter().enumerate() {
-        assert_kept(rt, bank, i, *expected);
+// Whether a piece came for the tag, which the bank knows, and is there or not.
+fn has_piece(bank: &Bank, tag: Tag, there: bool) -> bool {
+    for i in 0..bank.count() {
+        let (kept, row) = bank.kept(i);
+        if kept.is(tag) {
+            return row.arrival.is_some() && row.piece().is_some() == there;
+        }
+    }
+    false
+}
+
+fn is_done(bank: &mut Bank, deed: &Deed) -> bool {
+    match deed {
+        Deed::Serve(step, kind, said) => serves(bank, *step, *kind, said),
+        Deed::Retire(step) => {
+            bank.retire(*step);
+            true
+        }
+        Deed::Bytes(bytes) => bank.bytes_anew() == *bytes,
+        Deed::Pointer(pointer) => bank.pointer() == *pointer,
+        Deed::Count(count) => bank.count() == *count,
+        Deed::Kept(i, tag, label, came) => keeps(bank, *i, *tag, *label, *came),
+        Deed::Piece(tag, there) => has_piece(bank, *tag, *there),
     }
 }
 
-fn assert_bytes(rt: &impl Abort, bank: &Bank, bytes: u64) {
-    assert_same(rt, "bytes", bank.bytes_anew(), bytes);
+fn play(rt: &impl Abort, bank: &mut Bank, deeds: &[Deed]) {
+    for place in 0..deeds.len() {
+        assert_row(rt, place, is_done(bank, &deeds[place]));
+    }
 }
 
-const REQUESTS: [(Stamp, Kind, Said); 11] = [
-    (2, Kind::Finalize(FIRST), Said::Done),
-    (3, Kind::Query, Said::Greatest(FIRST)),
-    (4, Kind::Fetch(FIRST), Said::NoPiece),
-    (5, Kind::PreWrite(FIRST), Said::Done),
-    (6, Kind::Fetch(FIRST), Said::Piece),
-    (7, Kind::PreWrite(FIRST), Said::Done),
-    (8, Kind::PreWrite(SECOND), Said::Done),
-    (9, Kind::Query, Said::Greatest(FIRST)),
-    (10, Kind::Spread(Status::Final), Said::Done),
-    (11, Kind::Spread(Status::Pending), Said::Done),
-    (12, Kind::Next, Said::Pointer(Status::Final)),
-];
+fn assert_story(rt: &impl Abort, alloc: Global, delta: Option<u32>, deeds: &[Deed]) {
+    let mut bank = Bank::new(alloc, 1, delta, 1).expect(rt, "a bank");
+    play(rt, &mut bank, deeds);
+}
 
-const KEPT_AFTER_REQUESTS: [Kept; 3] = [
-    (Tag::OPENING, Label::Finalized { since: 1 }, Some(1)),
-    (FIRST, Label::Finalized { since: 2 }, Some(5)),
-    (SECOND, Label::PreWritten { since: 8 }, Some(8)),
+static REQUESTS: [Deed; 16] = [
+    Deed::Serve(2, Kind::Finalize(FIRST), Said::Done),
+    Deed::Serve(3, Kind::Query, Said::Greatest(FIRST)),
+    Deed::Serve(4, Kind::Fetch(FIRST), Said::NoPiece),
+    Deed::Serve(5, Kind::PreWrite(FIRST), Said::Done),
+    Deed::Serve(6, Kind::Fetch(FIRST), Said::Piece),
+    Deed::Serve(7, Kind::PreWrite(FIRST), Said::Done),
+    Deed::Serve(8, Kind::PreWrite(SECOND), Said::Done),
+    Deed::Serve(9, Kind::Query, Said::Greatest(FIRST)),
+    Deed::Serve(10, Kind::Spread(Status::Final), Said::Done),
+    Deed::Serve(11, Kind::Spread(Status::Pending), Said::Done),
+    Deed::Serve(12, Kind::Next, Said::Pointer(Status::Final)),
+    Deed::Pointer(Pointer::Final {
+        pending: 10,
+        since: 10,
+    }),
+    Deed::Count(3),
+    Deed::Kept(0, Tag::OPENING, Label::Finalized { since: 1 }, Some(1)),
+    Deed::Kept(1, FIRST, Label::Finalized { since: 2 }, Some(5)),
+    Deed::Kept(2, SECOND, Label::PreWritten { since: 8 }, Some(8)),
 ];
 
 #[test]
 fn answers_the_table_of_requests(rt: HostRuntime) {
-    let mut bank = new_bank(&rt, rt.alloc(), None);
-    assert_table(&rt, rt.alloc(), &mut bank, &REQUESTS);
-    let pointer = Pointer::Final {
-        pending: 10,
-        since: 10,
-    };
-    assert_same(&rt, "the pointer", bank.pointer(), pointer);
-    assert_keeps(&rt, &bank, &KEPT_AFTER_REQUESTS);
+    assert_story(&rt, rt.alloc(), None, &REQUESTS);
 }
 
-// Four of the calls that `serve` makes, each by itself.
-fn assert_calls(rt: &impl Abort, alloc: Global, bank: &mut Bank) {
-    bank.fetch(SECOND, 4).expect(rt, "a reply");
-    assert_reply(rt, alloc, &bank.query(5), 5, Said::Greatest(SECOND));
-    bank.put_next(Status::Pending, 6);
-    assert_reply(
-        rt,
-        alloc,
-        &bank.ask_next(7),
-        7,
-        Said::Pointer(Status::Pending),
-    );
+// The calls that `serve` makes, each by itself.
+fn puts(bank: &mut Bank) -> bool {
+    replies(bank.pre_write(SECOND, piece(), 2), 2, &Said::Done)
+        && replies(bank.finalize(FIRST, 3), 3, &Said::Done)
+        && replies(bank.fetch(SECOND, 4), 4, &Said::Piece)
 }
 
-const KEPT_IN_RISING_ORDER: [Kept; 3] = [
-    (Tag::OPENING, Label::Finalized { since: 1 }, Some(1)),
-    (FIRST, Label::Finalized { since: 3 }, None),
-    (SECOND, Label::Finalized { since: 4 }, Some(2)),
+fn asks(bank: &mut Bank) -> bool {
+    replies(Ok(bank.query(5)), 5, &Said::Greatest(SECOND))
+        && replies(Ok(bank.put_next(Status::Pending, 6)), 6, &Said::Done)
+        && replies(Ok(bank.ask_next(7)), 7, &Said::Pointer(Status::Pending))
+}
+
+static KEPT_IN_RISING_ORDER: [Deed; 5] = [
+    Deed::Count(3),
+    Deed::Kept(0, Tag::OPENING, Label::Finalized { since: 1 }, Some(1)),
+    Deed::Kept(1, FIRST, Label::Finalized { since: 3 }, None),
+    Deed::Kept(2, SECOND, Label::Finalized { since: 4 }, Some(2)),
+    Deed::Bytes(3),
 ];
 
 #[test]
 fn keeps_tags_in_rising_order(rt: HostRuntime) {
-    let Ok(mut bank) = Bank::new(rt.alloc(), 1, None, 1) else {
-        panic!(rt; "no bank");
-    };
-    assert_same(&rt, "bytes", bank.bytes(), 0);
-    pre_write(&rt, rt.alloc(), &mut bank, SECOND, 2);
-    finalize(&rt, &mut bank, FIRST, 3);
-    assert_calls(&rt, rt.alloc(), &mut bank);
-    assert_keeps(&rt, &bank, &KEPT_IN_RISING_ORDER);
-    assert_bytes(&rt, &bank, 3);
-}
-
-// What a bank keeps for a tag that it knows: whether a piece came, and whether it is there.
-fn piece_at(bank: &Bank, tag: Tag) -> Option<(bool, bool)> {
-    for i in 0..bank.count() {
-        let (kept, row) = bank.kept(i);
-        if kept == tag {
-            return Some((row.arrival.is_some(), row.piece().is_some()));
-        }
-    }
-    None
-}
-
-fn assert_piece(rt: &impl Abort, bank: &Bank, tag: Tag, came: bool, there: bool) {
-    assert_same(
-        rt,
-        "a piece",
-        (tag, piece_at(bank, tag)),
-        (tag, Some((came, there))),
-    );
+    let mut bank = Bank::new(rt.alloc(), 1, None, 1).expect(&rt, "a bank");
+    assert!(rt; bank.bytes() == 0 && puts(&mut bank) && asks(&mut bank));
+    play(&rt, &mut bank, &KEPT_IN_RISING_ORDER);
 }
 
 // With delta 0 only the newest final tag keeps its piece. Each piece has 3 bytes, that of the opening tag none.
-#[test]
-fn drops_what_is_older(rt: HostRuntime) {
-    let mut bank = new_bank(&rt, rt.alloc(), Some(0));
-    pre_write(&rt, rt.alloc(), &mut bank, FIRST, 2);
-    pre_write(&rt, rt.alloc(), &mut bank, SECOND, 3);
-    assert_bytes(&rt, &bank, 6);
-    finalize(&rt, &mut bank, FIRST, 4);
-    assert_piece(&rt, &bank, Tag::OPENING, true, false);
-    assert_piece(&rt, &bank, FIRST, true, true);
-    finalize(&rt, &mut bank, SECOND, 5);
-    assert_piece(&rt, &bank, FIRST, true, false);
-    assert_piece(&rt, &bank, SECOND, true, true);
-    assert_bytes(&rt, &bank, 3);
-}
-
-const LATE_REQUESTS: [(Stamp, Kind, Said); 6] = [
-    (2, Kind::PreWrite(FIRST), Said::Done),
-    (3, Kind::Finalize(SECOND), Said::Done),
-    (4, Kind::Fetch(FIRST), Said::NoPiece),
-    (5, Kind::PreWrite(FIRST), Said::Done),
-    (6, Kind::PreWrite(SECOND), Said::Done),
-    (7, Kind::Fetch(SECOND), Said::Piece),
+static ONE_KEPT: [Deed; 10] = [
+    Deed::Serve(2, Kind::PreWrite(FIRST), Said::Done),
+    Deed::Serve(3, Kind::PreWrite(SECOND), Said::Done),
+    Deed::Bytes(6),
+    Deed::Serve(4, Kind::Finalize(FIRST), Said::Done),
+    Deed::Piece(Tag::OPENING, false),
+    Deed::Piece(FIRST, true),
+    Deed::Serve(5, Kind::Finalize(SECOND), Said::Done),
+    Deed::Piece(FIRST, false),
+    Deed::Piece(SECOND, true),
+    Deed::Bytes(3),
 ];
 
-// A piece that comes for an older final tag is not kept, one that is fetched there is dropped first.
 #[test]
-fn keeps_nothing_that_comes_late(rt: HostRuntime) {
-    let mut bank = new_bank(&rt, rt.alloc(), Some(0));
-    assert_table(&rt, rt.alloc(), &mut bank, &LATE_REQUESTS);
-    assert_piece(&rt, &bank, FIRST, true, false);
-    assert_bytes(&rt, &bank, 3);
+fn drops_what_is_older(rt: HostRuntime) {
+    assert_story(&rt, rt.alloc(), Some(0), &ONE_KEPT);
 }
 
-fn assert_retires(rt: &impl Abort, alloc: Global, bank: &mut Bank) {
-    bank.retire(6);
-    assert_bytes(rt, bank, 0);
-    let reply = bank.fetch(SECOND, 7).expect(rt, "a reply");
-    assert_reply(rt, alloc, &reply, 7, Said::NoPiece);
+// A piece that comes for an older final tag is not kept, one that is fetched there is dropped first.
+static LATE_REQUESTS: [Deed; 8] = [
+    Deed::Serve(2, Kind::PreWrite(FIRST), Said::Done),
+    Deed::Serve(3, Kind::Finalize(SECOND), Said::Done),
+    Deed::Serve(4, Kind::Fetch(FIRST), Said::NoPiece),
+    Deed::Serve(5, Kind::PreWrite(FIRST), Said::Done),
+    Deed::Serve(6, Kind::PreWrite(SECOND), Said::Done),
+    Deed::Serve(7, Kind::Fetch(SECOND), Said::Piece),
+    Deed::Piece(FIRST, false),
+    Deed::Bytes(3),
+];
+
+#[test]
+fn keeps_nothing_that_comes_late(rt: HostRuntime) {
+    assert_story(&rt, rt.alloc(), Some(0), &LATE_REQUESTS);
 }
 
 // With delta 1 the two newest final tags keep theirs; a retired bank keeps none.
+static TWO_AND_THEN_NONE: [Deed; 10] = [
+    Deed::Serve(2, Kind::PreWrite(FIRST), Said::Done),
+    Deed::Serve(3, Kind::Finalize(FIRST), Said::Done),
+    Deed::Serve(4, Kind::PreWrite(SECOND), Said::Done),
+    Deed::Serve(5, Kind::Finalize(SECOND), Said::Done),
+    Deed::Piece(Tag::OPENING, false),
+    Deed::Piece(FIRST, true),
+    Deed::Bytes(6),
+    Deed::Retire(6),
+    Deed::Bytes(0),
+    Deed::Serve(7, Kind::Fetch(SECOND), Said::NoPiece),
+];
+
 #[test]
 fn keeps_two_and_then_none(rt: HostRuntime) {
-    let mut bank = new_bank(&rt, rt.alloc(), Some(1));
-    for (step, tag) in [(2, FIRST), (4, SECOND)] {
-        pre_write(&rt, rt.alloc(), &mut bank, tag, step);
-        finalize(&rt, &mut bank, tag, step + 1);
-    }
-    assert_piece(&rt, &bank, Tag::OPENING, true, false);
-    assert_piece(&rt, &bank, FIRST, true, true);
-    assert_bytes(&rt, &bank, 6);
-    assert_retires(&rt, rt.alloc(), &mut bank);
+    assert_story(&rt, rt.alloc(), Some(1), &TWO_AND_THEN_NONE);
 }

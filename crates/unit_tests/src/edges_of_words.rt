@@ -1,5 +1,5 @@
 //! Words that are just inside or outside the form of numbers or bytes, and lines with each kind of end.
-use crate::same::assert_same;
+use crate::same::assert_row;
 use std::alloc::Global;
 use std::process::Abort;
 use words::{Hexadecimal, first_digit, parse_bytes, parse_number, split_lines, with_digit};
@@ -23,8 +23,9 @@ static NUMBERS: [(&str, Option<u64>); 14] = [
 
 #[test]
 fn numbers(rt: HostRuntime) {
-    for &(word, number) in &NUMBERS {
-        assert_same(&rt, word, parse_number(word), number);
+    for place in 0..NUMBERS.len() {
+        let (word, number) = NUMBERS[place];
+        assert_row(&rt, place, parse_number(word) == number);
     }
 }
 
@@ -39,28 +40,44 @@ static BYTES: [(&str, Option<&str>); 8] = [
     ("-", None),
 ];
 
-fn text_of(rt: &impl Abort, alloc: Global, bytes: &[u8]) -> String {
-    format!(in alloc; "{}", Hexadecimal(bytes)).expect(rt, "a text")
+fn is_printed(rt: &impl Abort, alloc: Global, bytes: &[u8], expected: &str) -> bool {
+    let text = format!(in alloc; "{}", Hexadecimal(bytes)).expect(rt, "a text");
+    text.as_str() == expected
 }
 
-// The bytes of a word as they are printed, or nothing where the word has not the form of bytes.
-fn printed(rt: &impl Abort, alloc: Global, word: &str) -> Option<String> {
+// Whether the bytes of a word are printed so, or there are none where it has not the form of bytes.
+fn prints(rt: &impl Abort, alloc: Global, word: &str, expected: Option<&str>) -> bool {
     match parse_bytes(alloc, word).expect(rt, "an answer") {
-        Some(bytes) => Some(text_of(rt, alloc, bytes.as_slice())),
-        None => None,
+        Some(bytes) => match expected {
+            Some(expected) => is_printed(rt, alloc, bytes.as_slice(), expected),
+            None => false,
+        },
+        None => expected.is_none(),
     }
-}
-
-fn assert_prints(rt: &impl Abort, alloc: Global, word: &str, expected: Option<&str>) {
-    let found = printed(rt, alloc, word);
-    assert_same(rt, word, found.as_deref(), expected);
 }
 
 #[test]
 fn bytes_of_words(rt: HostRuntime) {
-    for &(word, expected) in &BYTES {
-        assert_prints(&rt, rt.alloc(), word, expected);
+    for place in 0..BYTES.len() {
+        let (word, expected) = BYTES[place];
+        assert_row(&rt, place, prints(&rt, rt.alloc(), word, expected));
     }
+}
+
+// Whether these are the lines.
+fn are_lines(found: &[&[u8]], lines: &[&str]) -> bool {
+    for place in 0..found.len() {
+        match lines.get(place) {
+            Some(line) if *found[place] == *line.as_bytes() => {}
+            _ => return false,
+        }
+    }
+    found.len() == lines.len()
+}
+
+fn splits(rt: &impl Abort, alloc: Global, text: &str, lines: &[&str]) -> bool {
+    let found = split_lines(alloc, text.as_bytes()).expect(rt, "lines");
+    are_lines(&found, lines)
 }
 
 static TEXTS: [(&str, &[&str]); 5] = [
@@ -73,23 +90,19 @@ static TEXTS: [(&str, &[&str]); 5] = [
 
 #[test]
 fn lines_of_texts(rt: HostRuntime) {
-    for &(text, lines) in &TEXTS {
-        let found = split_lines(rt.alloc(), text.as_bytes()).expect(&rt, "lines");
-        assert_same(&rt, text, found.len(), lines.len());
-        for (line, expected) in found.iter().zip(lines) {
-            let is_same = *line == expected.as_bytes();
-            assert_same(&rt, text, is_same, true);
-        }
+    for place in 0..TEXTS.len() {
+        let (text, lines) = TEXTS[place];
+        assert_row(&rt, place, splits(&rt, rt.alloc(), text, lines));
     }
 }
 
 #[test]
 fn digits(rt: HostRuntime) {
-    assert_same(&rt, "9", first_digit(b'9', "bad"), Ok(9));
-    assert_same(&rt, "+", first_digit(b'+', "bad"), Err("bad"));
-    let up_to_255 = |number, byte| with_digit(number, byte, 255, "bad", "above");
-    assert_same(&rt, "255", up_to_255(25, b'5'), Ok(255));
-    assert_same(&rt, "256", up_to_255(25, b'6'), Err("above"));
-    assert_same(&rt, "01", up_to_255(0, b'1'), Err("bad"));
-    assert_same(&rt, "1x", up_to_255(1, b'x'), Err("bad"));
+    assert!(rt; first_digit(b'9', 1) == Ok(9) && first_digit(b'+', 1) == Err(1));
+    assert!(rt;
+        with_digit(25, b'5', 255, 1, 2) == Ok(255) && with_digit(25, b'6', 255, 1, 2) == Err(2)
+    );
+    assert!(rt;
+        with_digit(0, b'1', 255, 1, 2) == Err(1) && with_digit(1, b'x', 255, 1, 2) == Err(1)
+    );
 }

@@ -1,7 +1,6 @@
 //! Layouts, with quorums counted by hand, and members of layouts.
-use crate::same::assert_same;
+use crate::same::assert_row;
 use layout::{Layout, MemberSet};
-use std::process::Abort;
 use tag::Refusal;
 
 // Each server once.
@@ -15,19 +14,23 @@ fn servers() -> [u8; 256] {
     servers
 }
 
-// The quorum of the first `n` servers.
-fn assert_quorum(rt: &impl Abort, servers: &[u8], n: usize, k: u8, quorum: u8) {
-    let members = servers.get(..n).expect(rt, "so many servers");
-    let layout = Layout::new(k, members).expect(rt, "a layout");
-    assert_same(
-        rt,
-        "n, k and the quorum",
-        (n, k, layout.quorum()),
-        (n, k, quorum),
-    );
+// Whether the first `n` servers have this quorum.
+fn has_quorum(servers: &[u8; 256], n: usize, k: u8, quorum: u8) -> bool {
+    match servers.get(..n) {
+        Some(members) => is_quorum(k, members, quorum),
+        None => false,
+    }
 }
 
-const QUORUMS: [(usize, u8, u8); 9] = [
+fn is_quorum(k: u8, members: &[u8], quorum: u8) -> bool {
+    match Layout::new(k, members) {
+        Ok(layout) => layout.quorum() == quorum,
+        Err(_) => false,
+    }
+}
+
+// The number of members, k, and the quorum.
+static QUORUMS: [(usize, u8, u8); 9] = [
     (3, 1, 2),
     (4, 2, 3),
     (5, 3, 4),
@@ -43,50 +46,44 @@ const QUORUMS: [(usize, u8, u8); 9] = [
 #[test]
 fn gives_quorums(rt: HostRuntime) {
     let servers = servers();
-    for &(n, k, quorum) in &QUORUMS {
-        assert_quorum(&rt, &servers, n, k, quorum);
+    for place in 0..QUORUMS.len() {
+        let (n, k, quorum) = QUORUMS[place];
+        assert_row(&rt, place, has_quorum(&servers, n, k, quorum));
     }
+}
+
+fn is_layout(layout: &Layout) -> bool {
+    layout.k() == 2
+        && layout.n() == 3
+        && layout.member(1) == 9
+        && layout.point_of(8) == Some(2)
+        && layout.point_of(0) == None
 }
 
 #[test]
 fn names_members_by_their_points(rt: HostRuntime) {
     let layout = Layout::new(2, &[7, 9, 8]).expect(&rt, "a layout");
-    assert_same(&rt, "k and n", (layout.k(), layout.n()), (2, 3));
-    assert_same(&rt, "a member", layout.member(1), 9);
-    assert_same(&rt, "the point of a member", layout.point_of(8), Some(2));
-    assert_same(&rt, "the point of no member", layout.point_of(0), None);
-    assert_same(
-        &rt,
-        "a copy",
-        &layout.clone().expect(&rt, "a copy"),
-        &layout,
-    );
+    assert!(rt; layout.n() == 3 && is_layout(&layout));
+    let copy = layout.clone().expect(&rt, "a copy");
+    assert!(rt; copy == layout);
 }
 
-fn assert_refuses(rt: &impl Abort, k: u8, members: &[u8]) {
-    let made = Layout::new(k, members);
-    assert_same(
-        rt,
-        "k and the refusal",
-        (k, made.err()),
-        (k, Some(Refusal::BadLayout)),
-    );
+fn is_refused(k: u8, members: &[u8]) -> bool {
+    match Layout::new(k, members).err() {
+        Some(refusal) => matches!(refusal, Refusal::BadLayout),
+        None => false,
+    }
 }
 
 #[test]
 fn refuses_bad_layouts(rt: HostRuntime) {
-    for (k, members) in [(1, [0, 0]), (0, [0, 1]), (3, [0, 1])] {
-        assert_refuses(&rt, k, &members);
-    }
-    assert_refuses(&rt, 1, &servers());
+    assert!(rt; is_refused(1, &[0, 0]) && is_refused(0, &[0, 1]) && is_refused(3, &[0, 1]));
+    assert!(rt; is_refused(1, &servers()));
 }
 
 #[test]
 fn counts_each_member_once(rt: HostRuntime) {
     let mut members = MemberSet::default();
-    let added = (members.insert(254), members.insert(254));
-    assert_same(&rt, "added once and again", added, (true, false));
-    let found = (members.has(254), members.has(0));
-    assert_same(&rt, "a member and another", found, (true, false));
-    assert_same(&rt, "how many", members.count(), 1);
+    assert!(rt; members.insert(254) && !members.insert(254));
+    assert!(rt; members.has(254) && !members.has(0) && members.count() == 1);
 }

@@ -1,6 +1,5 @@
 //! Messages that wait, in their places, and the bytes that they carry.
 use crate::pieces::{held, piece};
-use crate::same::assert_same;
 use bank::{Answer, Reply, Request, Status};
 use mail::{Body, Mail, Message};
 use std::alloc::Global;
@@ -19,6 +18,12 @@ fn request_to(member: u8, request: Request) -> Message {
     }
 }
 
+fn post(rt: &impl Abort, messages: &mut Vec<Message>, member: u8, request: Request) {
+    messages
+        .push(request_to(member, request))
+        .expect(rt, "room for a message");
+}
+
 // A mail in which these messages wait.
 fn mail_of(rt: &impl Abort, alloc: Global, messages: Vec<Message>) -> Mail {
     let mut mail = Mail::new(alloc);
@@ -27,35 +32,30 @@ fn mail_of(rt: &impl Abort, alloc: Global, messages: Vec<Message>) -> Mail {
     mail
 }
 
-fn post(rt: &impl Abort, messages: &mut Vec<Message>, member: u8, request: Request) {
-    messages
-        .push(request_to(member, request))
-        .expect(rt, "room for a message");
-}
-
 fn answer_at(rt: &impl Abort, mail: &mut Mail, place: usize, answer: Answer) {
     let reply = Reply { step: 3, answer };
-    assert!(rt; place < mail.len());
-    assert!(rt; mail.bytes() + reply.answer.bytes() <= MOST_BYTES);
+    assert!(rt; place < mail.len() && mail.bytes() + reply.answer.bytes() <= MOST_BYTES);
     mail.reply_in_place(place, reply);
 }
 
-fn assert_asks(rt: &impl Abort, mail: &Mail, place: usize, member: u8) {
-    assert!(rt; place < mail.len());
-    assert_same(
-        rt,
-        "a message",
-        mail.at(place),
-        &request_to(member, Request::Next),
-    );
+// Whether this member is asked for its next pointer.
+fn asks(message: &Message, member: u8) -> bool {
+    message.call == 1
+        && message.phase == 1
+        && message.position == 0
+        && message.member == member
+        && matches!(message.body, Body::Request(Request::Next))
 }
 
-// The members that are asked for their next pointer, in the order of the messages' places.
-fn assert_order(rt: &impl Abort, mail: &Mail, members: &[u8]) {
-    assert_same(rt, "how many messages", mail.len(), members.len());
-    for (place, &member) in members.iter().enumerate() {
-        assert_asks(rt, mail, place, member);
+// Whether these members are asked for their next pointer, in the order of the messages' places.
+fn are_asked(mail: &Mail, members: &[u8]) -> bool {
+    for place in 0..mail.len() {
+        match members.get(place) {
+            Some(member) if asks(mail.at(place), *member) => {}
+            _ => return false,
+        }
     }
+    mail.len() == members.len()
 }
 
 fn asking(rt: &impl Abort, alloc: Global, members: u8) -> Vec<Message> {
@@ -66,44 +66,45 @@ fn asking(rt: &impl Abort, alloc: Global, members: u8) -> Vec<Message> {
     requests
 }
 
+fn take_out_the_answer(rt: &impl Abort, mail: &mut Mail) {
+    answer_at(rt, mail, 2, Answer::Pointer(Status::Unset));
+    assert!(rt; 2 < mail.len());
+    assert!(rt; mail.take_out(2).member == 2);
+}
+
 #[test]
 fn keeps_the_order_of_places(rt: HostRuntime) {
     let mut mail = mail_of(&rt, rt.alloc(), asking(&rt, rt.alloc(), 4));
-    answer_at(&rt, &mut mail, 2, Answer::Pointer(Status::Unset));
-    assert!(rt; 2 < mail.len());
-    assert_same(&rt, "the member", mail.take_out(2).member, 2);
+    take_out_the_answer(&rt, &mut mail);
     assert!(rt; 0 < mail.len());
     mail.repeat(0).expect(&rt, "room for a message");
-    assert_order(&rt, &mail, &[0, 1, 3, 0]);
+    assert!(rt; are_asked(&mail, &[0, 1, 3, 0]));
 }
 
-fn assert_bytes(rt: &impl Abort, mail: &Mail, len: usize, bytes: u64) {
-    assert_same(
-        rt,
-        "messages and bytes",
-        (mail.len(), mail.bytes()),
-        (len, bytes),
-    );
+fn has(mail: &Mail, len: usize, bytes: u64) -> bool {
+    mail.len() == len && mail.bytes() == bytes
+}
+
+fn pieces_asked(rt: &impl Abort, alloc: Global) -> Vec<Message> {
+    let mut requests = Vec::new(alloc);
+    post(rt, &mut requests, 0, Request::PreWrite(FIRST, piece()));
+    post(rt, &mut requests, 1, Request::Fetch(FIRST));
+    requests
+}
+
+fn answer_both(rt: &impl Abort, alloc: Global, mail: &mut Mail) {
+    answer_at(rt, mail, 1, Answer::Piece(Some(held(rt, alloc))));
+    assert!(rt; has(mail, 2, 6));
+    answer_at(rt, mail, 0, Answer::Done);
+    assert!(rt; has(mail, 2, 3));
 }
 
 #[test]
 fn counts_the_bytes_of_pieces(rt: HostRuntime) {
-    let alloc = rt.alloc();
-    let mut requests = Vec::new(alloc);
-    post(
-        &rt,
-        &mut requests,
-        0,
-        Request::PreWrite(FIRST, piece(&rt, alloc)),
-    );
-    post(&rt, &mut requests, 1, Request::Fetch(FIRST));
-    let mut mail = mail_of(&rt, alloc, requests);
-    assert_bytes(&rt, &mail, 2, 3);
-    answer_at(&rt, &mut mail, 1, Answer::Piece(Some(held(&rt, alloc))));
-    assert_bytes(&rt, &mail, 2, 6);
-    answer_at(&rt, &mut mail, 0, Answer::Done);
-    assert_bytes(&rt, &mail, 2, 3);
+    let mut mail = mail_of(&rt, rt.alloc(), pieces_asked(&rt, rt.alloc()));
+    assert!(rt; has(&mail, 2, 3));
+    answer_both(&rt, rt.alloc(), &mut mail);
     assert!(rt; 0 < mail.len());
     mail.lose(0);
-    assert_bytes(&rt, &mail, 1, 3);
+    assert!(rt; has(&mail, 1, 3));
 }

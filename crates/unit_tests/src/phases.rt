@@ -1,5 +1,5 @@
 //! A phase that records each member until a quorum.
-use crate::same::assert_same;
+use crate::same::assert_row;
 use bank::{Answer, Kind, Reply, Request, Status};
 use mail::{Body, Message};
 use phase::{Ask, Phase, Took};
@@ -28,20 +28,22 @@ fn message(call: CallId, phase: u32, member: u8, body: Body) -> Message {
     }
 }
 
-// Gives the phase a member's reply to a phase of a call.
-fn take(phase: &mut Phase, call: CallId, number: u32, member: u8) -> Took {
-    let reply = Reply {
-        step: 10,
-        answer: Answer::Pointer(Status::Unset),
-    };
-    let body = Body::Reply {
+fn reply() -> Body {
+    Body::Reply {
         kind: Kind::Next,
-        reply,
-    };
-    phase.take(message(call, number, member, body), 11)
+        reply: Reply {
+            step: 10,
+            answer: Answer::Pointer(Status::Unset),
+        },
+    }
 }
 
-const TAKES: [(u64, u32, u8, Took); 7] = [
+// Whether this comes of giving the phase a member's reply to a phase of a call.
+fn takes(phase: &mut Phase, call: CallId, number: u32, member: u8, took: Took) -> bool {
+    phase.take(message(call, number, member, reply()), 11) == took
+}
+
+static TAKES: [(CallId, u32, u8, Took); 7] = [
     (4, 2, 0, Took::Stale), // of another call
     (5, 1, 0, Took::Stale), // of the phase before
     (5, 2, 0, Took::Recorded),
@@ -51,33 +53,40 @@ const TAKES: [(u64, u32, u8, Took); 7] = [
     (5, 2, 3, Took::Stale),
 ];
 
+fn take_all(rt: &impl Abort, phase: &mut Phase) {
+    for place in 0..TAKES.len() {
+        let (call, number, member, took) = TAKES[place];
+        assert_row(rt, place, takes(phase, call, number, member, took));
+    }
+}
+
+// A quorum has replied, without member 3.
+fn is_complete(phase: &Phase) -> bool {
+    phase.complete() && phase.replies().len() == 3 && phase.has_taken(2) && !phase.has_taken(3)
+}
+
 #[test]
 fn records_each_member_until_a_quorum(rt: HostRuntime) {
     let mut phase = begin(&rt, rt.alloc());
-    for &(call, number, member, took) in &TAKES {
-        let taken = take(&mut phase, call, number, member);
-        assert_same(
-            &rt,
-            "a member and its reply",
-            (member, taken),
-            (member, took),
-        );
-    }
-    assert_same(&rt, "at the end", phase.complete(), true);
-    assert_same(&rt, "how many replies", phase.replies().len(), 3);
-    let taken = (phase.has_taken(2), phase.has_taken(3));
-    assert_same(&rt, "the last members", taken, (true, false));
+    take_all(&rt, &mut phase);
+    assert!(rt; is_complete(&phase));
+}
+
+fn asks(phase: &Phase) -> bool {
+    phase.number() == 2
+        && phase.kind() == Kind::Next
+        && phase.position() == 7
+        && phase.members() == 4
+        && phase.quorum() == 3
+}
+
+fn takes_no_request(phase: &mut Phase) -> bool {
+    let request = message(5, 2, 0, Body::Request(Request::Next));
+    phase.take(request, 10) == Took::Stale && !phase.complete() && phase.lacks_pieces()
 }
 
 #[test]
 fn tells_what_it_asks(rt: HostRuntime) {
     let mut phase = begin(&rt, rt.alloc());
-    let took = phase.take(message(5, 2, 0, Body::Request(Request::Next)), 10);
-    assert_same(&rt, "a request", took, Took::Stale);
-    assert_same(&rt, "at the end", phase.complete(), false);
-    assert_same(&rt, "without pieces", phase.lacks_pieces(), true);
-    let asked = (phase.number(), phase.kind(), phase.position());
-    assert_same(&rt, "what is asked", asked, (2, Kind::Next, 7));
-    let sizes = (phase.members(), phase.quorum());
-    assert_same(&rt, "of how many", sizes, (4, 3));
+    assert!(rt; takes_no_request(&mut phase) && asks(&phase));
 }

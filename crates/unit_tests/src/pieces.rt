@@ -5,16 +5,24 @@ use piece::Piece;
 use std::alloc::Global;
 use std::process::Abort;
 
-/// Returns the fragment of `hello` at point 1 for two blocks, 68656c and 6c6f00: their sum.
-pub(crate) fn piece(rt: &impl Abort, alloc: Global) -> Piece {
+/// The fragment of `hello` at point 1 for two blocks, 68656c and 6c6f00: their sum.
+const FRAGMENT: &[u8] = b"\x04\x0a\x6c";
+
+/// Returns the piece of this fragment.
+pub(crate) fn piece() -> Piece {
     Piece {
         point: 1,
         len: 5,
-        bytes: Bytes::copy_from_slice(alloc, &[0x04, 0x0a, 0x6c]).expect(rt, "three bytes"),
+        bytes: Bytes::from_static(FRAGMENT),
     }
+}
+
+/// Returns whether this is the same piece.
+pub(crate) fn is_piece(piece: &Piece) -> bool {
+    piece.point == 1 && piece.len == 5 && piece.bytes.as_slice() == FRAGMENT
 }
 
 /// Returns the same piece, as an answer holds it.
 pub(crate) fn held(rt: &impl Abort, alloc: Global) -> HeldPiece {
-    HeldPiece::new(alloc, piece(rt, alloc)).expect(rt, "a piece")
+    HeldPiece::new(alloc, piece()).expect(rt, "a piece")
 }

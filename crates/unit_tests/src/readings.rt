@@ -1,5 +1,4 @@
 //! A reading over three positions, and what replies show.
-use crate::same::assert_same;
 use bank::{Answer, Kind, Reply, Status};
 use phase::Taken;
 use successor::{Reading, greatest_status, greatest_tag};
@@ -13,33 +12,20 @@ fn reply(member: u8, answer: Answer) -> Taken {
     }
 }
 
-const PHASES: [Option<(Kind, u32)>; 4] = [
-    Some((Kind::Next, 0)),
-    Some((Kind::Spread(Status::Final), 0)),
-    Some((Kind::Spread(Status::Pending), 1)),
-    None,
-];
+fn asks(reading: Reading, kind: Kind, position: u32) -> bool {
+    reading.next_phase() == Some((kind, position))
+}
 
 #[test]
 fn reads_three_positions(rt: HostRuntime) {
     let first = Reading::start(0);
+    assert!(rt; asks(first, Kind::Next, 0));
     let second = first.found(Status::Final);
+    assert!(rt; asks(second, Kind::Spread(Status::Final), 0));
     let third = second.spread().found(Status::Pending);
+    assert!(rt; asks(third, Kind::Spread(Status::Pending), 1) && third.last() == None);
     let last = third.spread().found(Status::Unset);
-    let phases = [
-        first.next_phase(),
-        second.next_phase(),
-        third.next_phase(),
-        last.next_phase(),
-    ];
-    assert_same(&rt, "the phases", &phases, &PHASES);
-    assert_same(&rt, "the third position", third.last(), None);
-    assert_same(
-        &rt,
-        "the end",
-        (last.last_final(), last.last()),
-        (1, Some(2)),
-    );
+    assert!(rt; last.next_phase() == None && last.last_final() == 1 && last.last() == Some(2));
 }
 
 fn pointers() -> [Taken; 3] {
@@ -60,16 +46,13 @@ fn tags() -> [Taken; 3] {
     ]
 }
 
+fn show(replies: &[Taken], status: Status, tag: Tag) -> bool {
+    greatest_status(replies) == status && greatest_tag(replies).is(tag)
+}
+
 #[test]
 fn finds_the_greatest_that_replies_show(rt: HostRuntime) {
-    let pointers = pointers();
-    let statuses = (greatest_status(&pointers), greatest_status(&[]));
-    assert_same(
-        &rt,
-        "the greatest status",
-        statuses,
-        (Status::Final, Status::Unset),
-    );
-    let greatest = (greatest_tag(&tags()), greatest_tag(&pointers));
-    assert_same(&rt, "the greatest tag", greatest, (LATER, Tag::OPENING));
+    assert!(rt; show(&pointers(), Status::Final, Tag::OPENING));
+    assert!(rt; show(&tags(), Status::Unset, LATER));
+    assert!(rt; show(&[], Status::Unset, Tag::OPENING));
 }

@@ -1,13 +1,7 @@
-//! The assertion of all tests. A call costs a check far less than the macro written out in each test.
-use std::fmt::Debug;
+//! The assertion of a table's row. A call costs a check far less than the macro written out in each test.
 use std::process::Abort;
 
-/// Both values are the same; `what` names them if they differ.
-pub(crate) fn assert_same<T: Copy + Debug + PartialEq>(
-    rt: &impl Abort,
-    what: &str,
-    found: T,
-    expected: T,
-) {
-    assert_eq!(rt; found, expected, "{what}");
+/// What is tested of the row of this place in its table holds; if not, the message has the place.
+pub(crate) fn assert_row(rt: &impl Abort, place: usize, holds: bool) {
+    assert!(rt; holds, "row {place}");
 }

@@ -1,5 +1,5 @@
 //! The phases of a move, of a write with the next tag, and of a read that goes on.
-use crate::same::assert_same;
+use crate::same::assert_row;
 use bank::{Answer, Kind, Reply, Status};
 use bytes::Bytes;
 use mail::{Body, Message};
@@ -23,6 +23,23 @@ fn answer_to(kind: Kind) -> Answer {
     }
 }
 
+// The only member's reply to a phase of this kind.
+fn reply_to(kind: Kind, position: u32) -> Message {
+    Message {
+        call: 2,
+        phase: 1,
+        position,
+        member: 0,
+        body: Body::Reply {
+            kind,
+            reply: Reply {
+                step: 6,
+                answer: answer_to(kind),
+            },
+        },
+    }
+}
+
 // A phase that this member's reply completes; a fetch needs so many pieces.
 fn complete(rt: &impl Abort, alloc: Global, kind: Kind, position: u32, needed: u8) -> Phase {
     let ask = Ask {
@@ -32,20 +49,7 @@ fn complete(rt: &impl Abort, alloc: Global, kind: Kind, position: u32, needed: u
         position,
     };
     let mut phase = Phase::new(alloc, ask, 1, 1, needed, 5).expect(rt, "a phase");
-    let reply = Reply {
-        step: 6,
-        answer: answer_to(kind),
-    };
-    phase.take(
-        Message {
-            call: 2,
-            phase: 1,
-            position,
-            member: 0,
-            body: Body::Reply { kind, reply },
-        },
-        7,
-    );
+    phase.take(reply_to(kind, position), 7);
     phase
 }
 
@@ -55,7 +59,22 @@ fn add(rt: &impl Abort, alloc: Global, done: &mut Vec<Phase>, kind: Kind, positi
         .expect(rt, "room for a phase");
 }
 
-const PHASES: [(Kind, u32); 6] = [
+// Whether this is what is due.
+fn is_phase(due: Option<(Kind, u32)>, kind: Kind, position: u32) -> bool {
+    due == Some((kind, position))
+}
+
+// Whether this is the stage, and its tag.
+fn is_stage(stage: Stage, expected: Stage, tag: Option<Tag>) -> bool {
+    stage == expected && stage_tag(stage) == tag
+}
+
+// Whether a move from this position, of which these phases are done, has this phase next.
+fn goes_on(from: u32, done: &[Phase], kind: Kind, position: u32) -> bool {
+    from < 9 && is_phase(next_phase(from, done), kind, position)
+}
+
+static PHASES: [(Kind, u32); 6] = [
     (Kind::Spread(Status::Pending), 4),
     (Kind::Query, 4),
     (Kind::Fetch(FIRST), 4),
@@ -67,39 +86,30 @@ const PHASES: [(Kind, u32); 6] = [
 #[test]
 fn moves_in_six_phases(rt: HostRuntime) {
     let mut done = Vec::new(rt.alloc());
-    for &(kind, position) in &PHASES {
-        assert_same(
-            &rt,
-            "the next phase",
-            next_phase(4, &done),
-            Some((kind, position)),
-        );
+    for place in 0..PHASES.len() {
+        let (kind, position) = PHASES[place];
+        assert_row(&rt, place, goes_on(4, &done, kind, position));
         add(&rt, rt.alloc(), &mut done, kind, position);
     }
-    assert_same(&rt, "the next phase", next_phase(4, &done), None);
+    assert!(rt; next_phase(4, &done) == None);
 }
+
+const QUERY: Stage = Stage::QueryFrom {
+    position: 0,
+    last: 0,
+    greatest: Tag::OPENING,
+    shown_at: 0,
+};
 
 #[test]
 fn writes_with_the_next_tag(rt: HostRuntime) {
     let write = CallKind::Write(Bytes::new());
     let query = complete(&rt, rt.alloc(), Kind::Query, 0, 0);
     assert!(rt; greatest_tag(query.replies()).number < 9);
-    let stage = Stage::QueryFrom {
-        position: 0,
-        last: 0,
-        greatest: Tag::OPENING,
-        shown_at: 0,
-    };
-    let stage = passed(&write, 2, stage, &query);
+    let stage = passed(&write, 2, QUERY, &query);
     let tag = Tag { number: 2, call: 2 };
-    assert_same(&rt, "the stage", stage, Stage::PreWriteAt { last: 0, tag });
-    assert_same(
-        &rt,
-        "what is due",
-        due(stage),
-        Some((Kind::PreWrite(tag), 0)),
-    );
-    assert_same(&rt, "its tag", stage_tag(stage), Some(tag));
+    assert!(rt; is_stage(stage, Stage::PreWriteAt { last: 0, tag }, Some(tag)));
+    assert!(rt; is_phase(due(stage), Kind::PreWrite(tag), 0));
 }
 
 const SPREAD: Stage = Stage::ReadSpread {
@@ -108,61 +118,51 @@ const SPREAD: Stage = Stage::ReadSpread {
     status: Status::Final,
 };
 
-fn assert_reads_on(rt: &impl Abort, alloc: Global) {
-    let told = complete(rt, alloc, Kind::Spread(Status::Final), 5, 0);
+#[test]
+fn reads_on_where_a_pointer_was_found(rt: HostRuntime) {
+    let stage = first_stage(&CallKind::Read, 0);
+    assert!(rt; is_phase(due(begun_at(stage, 5)), Kind::Next, 5));
+    let next = complete(&rt, rt.alloc(), Kind::Next, 5, 0);
+    assert!(rt;
+        is_stage(
+            passed(&CallKind::Read, 2, begun_at(stage, 5), &next),
+            SPREAD,
+            None
+        )
+    );
+}
+
+#[test]
+fn reads_the_next_position_once_it_has_spread(rt: HostRuntime) {
+    let told = complete(&rt, rt.alloc(), Kind::Spread(Status::Final), 5, 0);
     let next = Stage::ReadNext {
         position: 6,
         finalized: 6,
     };
-    let stage = passed(&CallKind::Read, 2, SPREAD, &told);
-    assert_same(rt, "the stage", stage, next);
+    assert!(rt; is_stage(passed(&CallKind::Read, 2, SPREAD, &told), next, None));
 }
 
-#[test]
-fn reads_on_where_a_pointer_was_found(rt: HostRuntime) {
-    let stage = first_stage(&CallKind::Read, 0);
-    assert_same(
-        &rt,
-        "what is due",
-        due(begun_at(stage, 5)),
-        Some((Kind::Next, 5)),
-    );
-    let next = complete(&rt, rt.alloc(), Kind::Next, 5, 0);
-    let stage = passed(&CallKind::Read, 2, begun_at(stage, 5), &next);
-    assert_same(&rt, "the stage", stage, SPREAD);
-    assert_reads_on(&rt, rt.alloc());
-}
-
-// A move from position 3, whose fetch lacks pieces, queries anew.
-fn assert_queries_anew(rt: &impl Abort, alloc: Global, fetch: Phase) {
-    let mut done = Vec::new(alloc);
-    add(rt, alloc, &mut done, Kind::Spread(Status::Pending), 3);
-    add(rt, alloc, &mut done, Kind::Query, 3);
-    done.push(fetch).expect(rt, "room for a phase");
-    assert_same(
-        rt,
-        "the next phase",
-        next_phase(3, &done),
-        Some((Kind::Query, 3)),
-    );
-}
+const FETCH: Stage = Stage::FetchAt {
+    shown_at: 3,
+    last: 4,
+    tag: FIRST,
+};
 
 #[test]
 fn begins_anew_where_pieces_are_lacking(rt: HostRuntime) {
     let fetch = complete(&rt, rt.alloc(), Kind::Fetch(FIRST), 3, 1);
-    let stage = Stage::FetchAt {
-        shown_at: 3,
-        last: 4,
-        tag: FIRST,
-    };
-    let stage = passed(&CallKind::Read, 2, stage, &fetch);
-    assert_same(&rt, "the stage", stage, Stage::ReadBegin);
-    assert_same(
-        &rt,
-        "what is due",
-        due(begun_at(stage, 3)),
-        Some((Kind::Next, 3)),
-    );
-    assert_same(&rt, "its tag", stage_tag(stage), None);
-    assert_queries_anew(&rt, rt.alloc(), fetch);
+    let stage = passed(&CallKind::Read, 2, FETCH, &fetch);
+    assert!(rt; is_stage(stage, Stage::ReadBegin, None));
+    assert!(rt; is_phase(due(begun_at(stage, 3)), Kind::Next, 3));
+}
+
+// A move from position 3, whose fetch lacks pieces, queries anew.
+#[test]
+fn queries_anew_where_pieces_are_lacking(rt: HostRuntime) {
+    let mut done = Vec::new(rt.alloc());
+    add(&rt, rt.alloc(), &mut done, Kind::Spread(Status::Pending), 3);
+    add(&rt, rt.alloc(), &mut done, Kind::Query, 3);
+    let fetch = complete(&rt, rt.alloc(), Kind::Fetch(FIRST), 3, 1);
+    done.push(fetch).expect(&rt, "room for a phase");
+    assert!(rt; goes_on(3, &done, Kind::Query, 3));
 }
