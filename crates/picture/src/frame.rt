@@ -7,7 +7,7 @@ use crate::text::{FRONT, Front};
 use printing::operation_word;
 use record::{Entry, Operation};
 use std::fmt;
-use tag::Stamp;
+use tag::{CallId, Stamp};
 
 /// The upper edge of the vertical lines and of the bands.
 const GRID_TOP: u64 = 450;
@@ -109,12 +109,25 @@ pub(crate) fn draw_order<W: fmt::Write>(
     let y = plan.order_y();
     let left = Px(MARGIN);
     writeln!(f, "<text class='head' x='{left}' y='{y}'>order</text>")?;
-    for (index, call) in order.iter().take(plan.ordered(order.len())).enumerate() {
-        if let Some(lane) = plan.lanes.get(call.saturating_sub(1) as usize) {
-            draw_ordered(f, plan, index as u64, &lane.entry)?;
-        }
+    let mut index = 0u64;
+    for call in &order[..plan.ordered(order.len())] {
+        draw_call(f, plan, index, *call)?;
+        index = index.saturating_add(1);
     }
     Ok(())
+}
+
+// The call of this number, at an index of the order.
+fn draw_call<W: fmt::Write>(
+    f: &mut fmt::Formatter<W>,
+    plan: &Plan,
+    index: u64,
+    call: CallId,
+) -> fmt::Result {
+    match plan.lanes.get(call.saturating_sub(1) as usize) {
+        Some(lane) => draw_ordered(f, plan, index, &lane.entry),
+        None => Ok(()),
+    }
 }
 
 // The call at an index of the order.

@@ -32,12 +32,24 @@ pub(crate) fn draw_replies<W: fmt::Write>(
     plan: &Plan,
     register: &Register,
 ) -> fmt::Result {
-    for lane in plan.lanes.iter().take(shown_calls(plan, register)) {
-        let call = lane.entry.call;
-        for index in 0..register.phase_count(call) {
-            if let Some(phase) = register.phase_view(call, index) {
-                draw_replies_of(f, plan, call, phase)?;
-            }
+    for index in 0..shown_calls(plan, register) {
+        if let Some(lane) = plan.lanes.get(index) {
+            draw_replies_to(f, plan, register, lane.entry.call)?;
+        }
+    }
+    Ok(())
+}
+
+// The replies that one call took.
+fn draw_replies_to<W: fmt::Write>(
+    f: &mut fmt::Formatter<W>,
+    plan: &Plan,
+    register: &Register,
+    call: CallId,
+) -> fmt::Result {
+    for index in 0..register.phase_count(call) {
+        if let Some(phase) = register.phase_view(call, index) {
+            draw_replies_of(f, plan, call, phase)?;
         }
     }
     Ok(())
@@ -84,7 +96,7 @@ pub(crate) fn draw_losses<W: fmt::Write>(
     register: &Register,
     losses: &[Loss],
 ) -> fmt::Result {
-    for loss in losses.iter().take(MOST_REPLIES) {
+    for loss in &losses[..losses.len().min(MOST_REPLIES)] {
         draw_loss(f, plan, register, loss)?;
     }
     Ok(())

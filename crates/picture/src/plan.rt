@@ -1,5 +1,5 @@
 //! Where lanes and steps are drawn. All lengths are in tenths of a pixel.
-ghost use Rattle.std.specs.Prelude.{◌≡◌, ◌<◌, IfOk, map};
+ghost use Rattle.std.specs.Prelude.{◌≡◌, ◌<◌, ◌≤◌, IfOk, map};
 ghost use Rattle.picture.specs.Plan.{bar_end, right_of, x_of};
 
 use crate::lane::Lane;
@@ -174,7 +174,9 @@ impl Plan {
     }
 
     /// Returns how many of `calls` calls are shown in the order.
-    pub(crate) fn ordered(&self, calls: usize) -> usize {
+    pub(crate) fn ordered(&self, calls: usize) -> usize
+        ensures { result ≤ calls }
+    {
         calls.min(self.columns().saturating_mul(MOST_ROWS) as usize)
     }
 

@@ -20,34 +20,25 @@ impl fmt::Display for BankLine<'_> {
         let bank = self.0;
         write!(f, "next {}", status_word(bank.pointer().status()))?;
         for i in 0..bank.count() {
-            let (tag, row) = bank.kept(i);
-            write!(f, "; {}", RowText { tag, row })?;
+            write!(f, "; {}", RowText(bank.kept(i)))?;
         }
         Ok(())
     }
 }
 
-// What the bank keeps for a tag.
+// A tag, and what the bank keeps for it.
 #[derive(Clone, Copy)]
-struct RowText<'a> {
-    tag: Tag,
-    row: &'a Row,
-}
+struct RowText<'a>((Tag, &'a Row));
 
 impl fmt::Display for RowText<'_> {
-    ghost output = { λ text. Some (row_text text.tag text.row.now) };
+    ghost output = { λ text. Some (row_text text.0.0 text.0.1.now) };
 
     fn fmt<W: fmt::Write>(&self, f: &mut fmt::Formatter<W>) -> fmt::Result {
-        let bytes = match self.row.piece() {
+        let (tag, row) = self.0;
+        let bytes = match row.piece() {
             Some(piece) => Some(piece.bytes.len() as u64),
             None => None,
         };
-        write!(
-            f,
-            "{} {} {}",
-            self.tag,
-            label_word(self.row.label),
-            NumberOrDash(bytes)
-        )
+        write!(f, "{tag} {} {}", label_word(row.label), NumberOrDash(bytes))
     }
 }
