@@ -1,9 +1,10 @@
 //! How calls of seats begin.
 
-ghost use Rattle.std.specs.Prelude.{◌≡◌, ◌+◌, suc, IfOk, OnOk, OnErr};
-ghost use Rattle.tag.specs.Refusal.{IsByCause};
+ghost use Rattle.std.specs.Prelude.{◌≡◌, ◌+◌, ◌≤◌, suc, None, Some, IfOk, IfErr, OnOk, OnErr};
+ghost use Rattle.tag.specs.declared.refusal.Refusal.TheVariants.{NoMemory};
+ghost use Rattle.tag.specs.Refusal.{IsByCause, IsExactlyByCause};
 ghost use Rattle.cluster.specs.Causes.{next, object_cause};
-ghost use Rattle.cluster.specs.Cluster.{next_call_id, named};
+ghost use Rattle.cluster.specs.Cluster.{next_call_id, named, place_of};
 ghost use Rattle.cluster.specs.Steps.{with_step};
 ghost use Rattle.locked_steps.specs.Calls.{client_calls};
 ghost use Rattle.locked_steps.specs.Course.{PreservesReachable, IsStateOf};
@@ -14,7 +15,7 @@ use crate::booked::{Booked, StoreName};
 use crate::call_record::{Begin, CallRecord};
 use crate::seat::{Seat, make_room_for};
 use cluster::Cluster;
-use tag::{CallId, Refusal};
+use tag::{CallId, Refusal, Stamp};
 
 /// Begins a read or a write of a seat: one step, with its record in the seat.
 ///
@@ -39,32 +40,72 @@ pub fn begin_in<L: StoreName>(
     ensures kept { OnErr result (seat.new ≡ seat.old) }
 {
     booked.cluster.invariant();
-    if seat.floor > booked.cluster.counter() {
-        return Err(Refusal::Stranger);
-    }
-    let object = booked.cluster.place(name)?;
-    if seat.pending.is_some() {
-        return Err(Refusal::NotNow);
-    }
-    booked.cluster.may_call(name, what.len())?;
+    let object = may_begin(&booked.cluster, seat, name, &what)?;
     make_room_for(&mut seat.name, &mut seat.records, name)?;
-    let operation = what.operation();
-    let written = what.written()?;
-    let call = begin_call(&mut booked.cluster, name, what)?;
+    let record = begin_recorded(&mut booked.cluster, name, object, seat.floor, what)?;
     booked.book.add(&mut seat.share, 1);
-    seat.pending = Some(CallRecord {
-        object,
-        call,
-        kind: operation,
-        written,
-        floor: seat.floor,
-        called: booked.cluster.counter(),
-        receipt: None,
-    });
+    keep(&mut seat.pending, record);
     Ok(())
 }
 
-// Makes the step that begins the call, and returns the call's number.
+// Whether the seat may begin such a call, and the index of its object.
+fn may_begin<L: StoreName>(
+    cluster: &Cluster,
+    seat: &Seat<L>,
+    name: &str,
+    what: &Begin,
+) -> Result<u32, Refusal>
+    ensures place { IfOk result (λ p. p ≡ place_of cluster.now.objects name.now) }
+    ensures floor { OnOk result (seat.now.floor ≤ cluster.now.counter) }
+    ensures free { OnOk result (seat.now.pending ≡ None) }
+    ensures may { OnOk result (object_cause cluster.now name.now (λ object.
+        calling_cause what.now (next cluster.now) object) ≡ None) }
+    ensures cause { IsExactlyByCause (begin_cause cluster.now seat.now name.now what.now) result }
+{
+    if seat.floor > cluster.counter() {
+        return Err(Refusal::Stranger);
+    }
+    let object = cluster.place(name)?;
+    if seat.pending.is_some() {
+        return Err(Refusal::NotNow);
+    }
+    cluster.may_call(name, what.len())?;
+    Ok(object)
+}
+
+// Makes the step that begins the call, and returns the call's record.
+fn begin_recorded(
+    cluster: &mut Cluster,
+    name: &str,
+    object: u32,
+    floor: Stamp,
+    what: Begin,
+) -> Result<CallRecord, Refusal>
+    requires place { object ≡ place_of cluster.old.objects name.now }
+    requires may { object_cause cluster.old name.now (λ object. calling_cause what (next cluster.old) object) ≡ None }
+    ensures step { OnOk result (cluster.new
+        ≡ with_step cluster.old name.entry.now (call_step (next_call_id cluster.old name.entry.now) what)) }
+    ensures begun { IfOk result (λ r. r ≡ record_begun cluster.old name.entry.now floor what) }
+    ensures count { OnOk result (client_calls cluster.new ≡ client_calls cluster.old + 1) }
+    ensures course { PreservesReachable cluster.old cluster.new }
+    ensures refused { IfErr result (λ r. r ≡ NoMemory) }
+    ensures unchanged { OnErr result (cluster.new ≡ cluster.old) }
+{
+    let kind = what.operation();
+    let written = what.written()?;
+    let call = begin_call(cluster, name, what)?;
+    Ok(CallRecord {
+        object,
+        call,
+        kind,
+        written,
+        floor,
+        called: cluster.counter(),
+        receipt: None,
+    })
+}
+
+// Makes the step alone, and returns the call's number.
 fn begin_call(cluster: &mut Cluster, name: &str, what: Begin) -> Result<CallId, Refusal>
     ensures step { OnOk result (cluster.new
         ≡ with_step cluster.old name.entry.now (call_step (next_call_id cluster.old name.entry.now) what)) }
@@ -79,4 +120,11 @@ fn begin_call(cluster: &mut Cluster, name: &str, what: Begin) -> Result<CallId, 
         Begin::Read => cluster.call_read(name),
         Begin::Write(value) => cluster.call_write(name, value),
     }
+}
+
+// Keeps the record of the pending call.
+fn keep(pending: &mut Option<CallRecord>, begun: CallRecord)
+    ensures { pending.new ≡ Some begun }
+{
+    *pending = Some(begun);
 }
