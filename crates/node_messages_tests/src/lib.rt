@@ -3,11 +3,9 @@
 #![tactic(auto)]
 
 #[cfg(test)]
+mod bodies;
+#[cfg(test)]
 mod faults;
-#[cfg(test)]
-mod replies;
-#[cfg(test)]
-mod requests;
 #[cfg(test)]
 mod samples;
 #[cfg(test)]

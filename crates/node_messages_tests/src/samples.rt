@@ -1,16 +1,17 @@
 //! Frames that are made of strings, and what they say.
 use bytes::Bytes;
 use frames::Frame;
-use mail::Body;
-use node_messages::{NodeMessage, frame_of, read_message};
-use piece::Piece;
+use node_messages::{NodeMessage, read_message};
 use std::alloc::Global;
 use std::process::Abort;
-use tag::Tag;
+
+/// Strings of a frame.
+#[derive(Clone, Copy)]
+pub(crate) struct Strings(pub(crate) &'static [&'static [u8]]);
 
 /// The strings before the body: a digest, a name, k = 2 with the members 3, 4, 5 and 6, call 7, phase 2, position 1 and
 /// member 3.
-pub(crate) static HEAD: [&[u8]; 7] = [
+pub(crate) static HEAD: Strings = Strings(&[
     b"0123456789abcdef",
     b"photo",
     b"\x02\x03\x04\x05\x06",
@@ -18,51 +19,34 @@ pub(crate) static HEAD: [&[u8]; 7] = [
     b"2",
     b"1",
     b"3",
-];
+]);
 
-/// The strings of a layout with k = 1 and the members 9 and 0.
+/// The string of a layout with k = 1 and the members 9 and 0.
 pub(crate) const NEXT: &[u8] = b"\x01\x09\x00";
 
-/// The tag of number 12 and call 345.
-pub(crate) const TAG: Tag = Tag {
-    number: 12,
-    call: 345,
-};
+/// The body of a request Next.
+pub(crate) static ASK_NEXT: Strings = Strings(&[b"request", b"next"]);
 
-pub(crate) fn text<R: Abort>(rt: &R, alloc: Global, text: &[u8]) -> Bytes {
-    Bytes::copy_from_slice(alloc, text).expect(rt, "memory")
+fn push_all<R: Abort>(rt: &R, list: &mut Vec<Bytes>, strings: Strings) {
+    for string in strings.0 {
+        list.push(Bytes::from_static(string)).expect(rt, "memory");
+    }
 }
 
-/// Returns the piece with the point 3, of a value of 11 bytes, with the bytes `abcd` and CR LF.
-pub(crate) fn piece<R: Abort>(rt: &R, alloc: Global) -> Piece {
-    Piece {
-        point: 3,
-        len: 11,
-        bytes: text(rt, alloc, b"abcd\r\n"),
-    }
+/// Returns these strings in a row.
+pub(crate) fn list<R: Abort>(rt: &R, alloc: Global, head: Strings, tail: Strings) -> Vec<Bytes> {
+    let mut list = Vec::new(alloc);
+    push_all(rt, &mut list, head);
+    push_all(rt, &mut list, tail);
+    list
 }
 
 /// Returns the frame of these strings.
-pub(crate) fn frame<R: Abort>(rt: &R, alloc: Global, head: &[&[u8]], tail: &[&[u8]]) -> Frame {
-    let mut strings = Vec::new(alloc);
-    for string in head {
-        strings.push(text(rt, alloc, string)).expect(rt, "memory");
-    }
-    for string in tail {
-        strings.push(text(rt, alloc, string)).expect(rt, "memory");
-    }
-    Frame::new(strings).expect(rt, "a frame")
+pub(crate) fn frame<R: Abort>(rt: &R, alloc: Global, head: Strings, tail: Strings) -> Frame {
+    Frame::new(list(rt, alloc, head, tail)).expect(rt, "a frame")
 }
 
 /// Returns the message of the frame with `HEAD` and these strings behind it.
-pub(crate) fn message<R: Abort>(rt: &R, alloc: Global, tail: &[&[u8]]) -> NodeMessage {
-    read_message(alloc, frame(rt, alloc, &HEAD, tail)).expect(rt, "a message")
-}
-
-/// The strings are those of a message with this body, and they are written again from it.
-pub(crate) fn assert_body<R: Abort>(rt: &R, alloc: Global, tail: &[&[u8]], body: &Body) {
-    let read = message(rt, alloc, tail);
-    assert!(rt; read.message.body == *body);
-    let written = frame_of(alloc, &read).expect(rt, "a frame");
-    assert!(rt; written.strings() == frame(rt, alloc, &HEAD, tail).strings());
+pub(crate) fn message<R: Abort>(rt: &R, alloc: Global, tail: Strings) -> NodeMessage {
+    read_message(alloc, frame(rt, alloc, HEAD, tail)).expect(rt, "a message")
 }

@@ -1,71 +1,146 @@
 //! Messages that have no frame, and why.
-use crate::samples::{message, text};
-use bank::{Answer, Request, Status};
+use bank::{Answer, Kind, Reply, Request, Status};
+use bytes::Bytes;
 use frames::LONGEST_STRING;
 use layout::Layout;
-use mail::Body;
+use mail::{Body, Message};
 use node_messages::{Fault, MessageError, NodeMessage, frame_of};
 use piece::Piece;
 use std::alloc::Global;
+use std::process::Abort;
 use tag::Tag;
 
-fn fault_of(alloc: Global, message: &NodeMessage) -> Option<Fault> {
-    match frame_of(alloc, message) {
-        Err(MessageError::Fault(fault)) => Some(fault),
-        _ => None,
+fn layout<R: Abort>(rt: &R, k: u8, members: &[u8]) -> Layout {
+    Layout::new(k, members).expect(rt, "a layout")
+}
+
+/// A message about the object of this name to this member of four.
+fn message<R: Abort>(
+    rt: &R,
+    name: &'static [u8],
+    member: u8,
+    next: Option<Layout>,
+    body: Body,
+) -> NodeMessage {
+    NodeMessage {
+        digest: *b"0123456789abcdef",
+        name: Bytes::from_static(name),
+        layout: layout(rt, 2, &[3, 4, 5, 6]),
+        next,
+        message: Message {
+            call: 7,
+            phase: 2,
+            position: 1,
+            member,
+            body,
+        },
     }
+}
+
+/// The message has this fault, or none and a frame.
+fn assert_fault<R: Abort>(rt: &R, alloc: Global, message: NodeMessage, wanted: Option<Fault>) {
+    let found = match frame_of(alloc, &message).err() {
+        None => None,
+        Some(MessageError::Fault(fault)) => Some(fault),
+        Some(MessageError::NoMemory) => panic!(rt; "memory"),
+    };
+    assert!(rt; found == wanted);
+}
+
+fn assert_named<R: Abort>(rt: &R, alloc: Global, name: &'static [u8], wanted: Option<Fault>) {
+    let message = message(rt, name, 3, None, Body::Request(Request::Next));
+    assert_fault(rt, alloc, message, wanted);
+}
+
+fn assert_names<R: Abort>(rt: &R, alloc: Global) {
+    assert_named(rt, alloc, &[b'a'; 255], None);
+    assert_named(rt, alloc, &[b'a'; 256], Some(Fault::NameTooLong));
 }
 
 #[test]
 fn a_long_name(rt: HostRuntime) {
-    let mut read = message(&rt, rt.alloc(), &[b"request", b"next"]);
-    read.name = text(&rt, rt.alloc(), &[b'a'; 255]);
-    assert!(rt; frame_of(rt.alloc(), &read).is_ok());
-    read.name = text(&rt, rt.alloc(), &[b'a'; 256]);
-    assert_eq!(rt; fault_of(rt.alloc(), &read), Some(Fault::NameTooLong));
+    assert_names(&rt, rt.alloc());
+}
+
+fn assert_no_member<R: Abort>(rt: &R, alloc: Global) {
+    let message = message(rt, b"photo", 4, None, Body::Request(Request::Next));
+    assert_fault(rt, alloc, message, Some(Fault::NoMember));
 }
 
 #[test]
 fn no_member(rt: HostRuntime) {
-    let mut read = message(&rt, rt.alloc(), &[b"request", b"next"]);
-    read.message.member = 4;
-    assert_eq!(rt; fault_of(rt.alloc(), &read), Some(Fault::NoMember));
+    assert_no_member(&rt, rt.alloc());
+}
+
+fn assert_body<R: Abort>(
+    rt: &R,
+    alloc: Global,
+    next: Option<Layout>,
+    body: Body,
+    wanted: Option<Fault>,
+) {
+    assert_fault(rt, alloc, message(rt, b"photo", 3, next, body), wanted);
+}
+
+fn assert_bad_answer<R: Abort>(rt: &R, alloc: Global) {
+    let answer = Answer::Piece(None);
+    let body = Body::Reply {
+        kind: Kind::Spread(Status::Final),
+        reply: Reply { step: 99, answer },
+    };
+    assert_body(rt, alloc, None, body, Some(Fault::BadAnswer));
 }
 
 #[test]
 fn an_answer_to_another_kind(rt: HostRuntime) {
-    let mut read = message(&rt, rt.alloc(), &[b"reply", b"spread", b"final", b"99"]);
-    if let Body::Reply { kind: _, reply } = &mut read.message.body {
-        reply.answer = Answer::Piece(None);
-    }
-    assert_eq!(rt; fault_of(rt.alloc(), &read), Some(Fault::BadAnswer));
+    assert_bad_answer(&rt, rt.alloc());
+}
+
+fn assert_next<R: Abort>(
+    rt: &R,
+    alloc: Global,
+    next: Option<Layout>,
+    request: Request,
+    wanted: Option<Fault>,
+) {
+    assert_body(rt, alloc, next, Body::Request(request), wanted);
+}
+
+fn next<R: Abort>(rt: &R) -> Option<Layout> {
+    Some(layout(rt, 1, &[9, 0]))
+}
+
+const PENDING: Request = Request::Spread(Status::Pending);
+
+fn assert_nexts<R: Abort>(rt: &R, alloc: Global) {
+    assert_next(rt, alloc, next(rt), Request::Next, Some(Fault::BadNext));
+    assert_next(rt, alloc, next(rt), PENDING, None);
+    assert_next(rt, alloc, None, PENDING, Some(Fault::BadNext));
 }
 
 #[test]
 fn a_next_layout_too_few_or_too_many(rt: HostRuntime) {
-    let mut read = message(&rt, rt.alloc(), &[b"request", b"next"]);
-    read.next = Layout::new(1, &[9, 0]).ok();
-    assert_eq!(rt; fault_of(rt.alloc(), &read), Some(Fault::BadNext));
-    read.message.body = Body::Request(Request::Spread(Status::Pending));
-    assert!(rt; frame_of(rt.alloc(), &read).is_ok());
-    read.next = None;
-    assert_eq!(rt; fault_of(rt.alloc(), &read), Some(Fault::BadNext));
+    assert_nexts(&rt, rt.alloc());
+}
+
+/// A request to pre-write a piece of so many zeros has this fault, or none.
+fn assert_zeros<R: Abort>(rt: &R, alloc: Global, len: usize, wanted: Option<Fault>) {
+    let zeros = vec![in alloc; 0; len].expect(rt, "memory");
+    let piece = Piece {
+        point: 0,
+        len: 5,
+        bytes: Bytes::from_vec(zeros).expect(rt, "memory"),
+    };
+    let request = Request::PreWrite(Tag::OPENING, piece);
+    assert_next(rt, alloc, None, request, wanted);
+}
+
+fn assert_pieces<R: Abort>(rt: &R, alloc: Global) {
+    assert_zeros(rt, alloc, LONGEST_STRING, None);
+    assert_zeros(rt, alloc, LONGEST_STRING + 1, Some(Fault::PieceTooLong));
 }
 
 #[test]
 fn a_long_piece(rt: HostRuntime) {
-    let mut read = message(&rt, rt.alloc(), &[b"request", b"next"]);
-    for (len, fault) in [
-        (LONGEST_STRING, None),
-        (LONGEST_STRING + 1, Some(Fault::PieceTooLong)),
-    ] {
-        let zeros = vec![in rt.alloc(); 0; len].expect(&rt, "memory");
-        let piece = Piece {
-            point: 0,
-            len: 5,
-            bytes: text(&rt, rt.alloc(), &zeros),
-        };
-        read.message.body = Body::Request(Request::PreWrite(Tag::OPENING, piece));
-        assert_eq!(rt; fault_of(rt.alloc(), &read), fault);
-    }
+    assert_pieces(&rt, rt.alloc());
 }

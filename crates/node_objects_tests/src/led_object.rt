@@ -23,10 +23,10 @@ fn new_object(rt: &impl Abort, alloc: Global) -> LocalObject {
     LocalObject::new(alloc, 4, Some(0), layout(rt, &[6, 4, 2])).expect(rt, "an object")
 }
 
-// A request to node 4 at position 0.
-fn letter(rt: &impl Abort, request: Request, next: Option<Layout>) -> Letter {
+// A request to member 1 of position 0, which has this layout.
+fn letter(layout: Layout, next: Option<Layout>, request: Request) -> Letter {
     Letter {
-        layout: layout(rt, &[6, 4, 2]),
+        layout,
         next,
         message: Message {
             call: 9,
@@ -38,71 +38,92 @@ fn letter(rt: &impl Abort, request: Request, next: Option<Layout>) -> Letter {
     }
 }
 
-fn serve(rt: &impl Abort, object: &mut LocalObject, request: Request, next: Option<Layout>) {
-    let reply = object.serve(letter(rt, request, next)).expect(rt, "memory");
+// Node 4 replies to the letter.
+fn serve(rt: &impl Abort, object: &mut LocalObject, next: Option<Layout>, request: Request) {
+    let first = layout(rt, &[6, 4, 2]);
+    let reply = object
+        .serve(letter(first, next, request))
+        .expect(rt, "memory");
     assert!(rt; reply.is_some());
 }
 
-fn pre_write(rt: &impl Abort, alloc: Global, object: &mut LocalObject, tag: Tag) {
+fn pre_write(tag: Tag) -> Request {
     let piece = Piece {
         point: 1,
         len: 6,
-        bytes: Bytes::copy_from_slice(alloc, b"two").expect(rt, "bytes"),
+        bytes: Bytes::from_static(b"two"),
     };
-    serve(rt, object, Request::PreWrite(tag, piece), None);
-    serve(rt, object, Request::Finalize(tag), None);
+    Request::PreWrite(tag, piece)
 }
 
-// How many letters lead to the object, and how many of them have the layout of the next position.
-fn counts(rt: &impl Abort, alloc: Global, object: &LocalObject) -> (usize, usize) {
+// The layout of the members 1, 2 and 3 becomes the pending one.
+fn spread(rt: &impl Abort, object: &mut LocalObject) {
+    let next = layout(rt, &[1, 2, 3]);
+    serve(rt, object, Some(next), Request::Spread(Status::Pending));
+}
+
+fn write_and_spread(rt: &impl Abort, object: &mut LocalObject) {
+    for tag in [FIRST, SECOND] {
+        serve(rt, object, None, pre_write(tag));
+        serve(rt, object, None, Request::Finalize(tag));
+    }
+    spread(rt, object);
+}
+
+fn with_next(letters: &[Letter]) -> usize {
+    let mut count = 0usize;
+    for letter in letters {
+        count = count.wrapping_add(usize::from(letter.next.is_some()));
+    }
+    count
+}
+
+// So many letters lead to the object, and so many of them have the layout of the next position.
+fn assert_counts(rt: &impl Abort, alloc: Global, object: &LocalObject, all: usize, next: usize) {
     let letters = letters_of(alloc, 4, object).expect(rt, "memory");
-    let with_next = letters.iter().filter(|letter| letter.next.is_some());
-    (letters.len(), with_next.count())
+    assert!(rt; letters.len() == all && with_next(&letters) == next);
+}
+
+// The new object serves the letters that lead to this one.
+fn lead(rt: &impl Abort, alloc: Global, object: &LocalObject, copy: &mut LocalObject) {
+    for letter in letters_of(alloc, 4, object).expect(rt, "memory") {
+        assert!(rt; copy.serve(letter).is_ok());
+    }
 }
 
 // Two versions, of which the first one's fragment was dropped, and a pointer that is pending: five letters lead there.
 #[test]
 fn leads_back(rt: HostRuntime) {
-    let alloc = rt.alloc();
-    let mut object = new_object(&rt, alloc);
-    assert_eq!(rt; counts(&rt, alloc, &object), (0, 0));
-    pre_write(&rt, alloc, &mut object, FIRST);
-    pre_write(&rt, alloc, &mut object, SECOND);
-    let next = layout(&rt, &[1, 2, 3]);
-    serve(
-        &rt,
-        &mut object,
-        Request::Spread(Status::Pending),
-        Some(next),
-    );
-    assert_eq!(rt; counts(&rt, alloc, &object), (5, 1));
-    let mut copy = new_object(&rt, alloc);
-    for letter in letters_of(alloc, 4, &object).expect(&rt, "memory") {
-        copy.serve(letter).expect(&rt, "memory");
-    }
-    assert_eq!(rt; counts(&rt, alloc, &copy), (5, 1));
-    assert_eq!(rt; (copy.bytes_stored(), copy.places().len()), (3, 2));
+    assert_led(&rt, rt.alloc());
+}
+
+fn assert_led(rt: &impl Abort, alloc: Global) {
+    let mut object = new_object(rt, alloc);
+    assert_counts(rt, alloc, &object, 0, 0);
+    write_and_spread(rt, &mut object);
+    assert_counts(rt, alloc, &object, 5, 1);
+    assert_leads_back(rt, alloc, &object);
+}
+
+fn assert_leads_back(rt: &impl Abort, alloc: Global, object: &LocalObject) {
+    let mut copy = new_object(rt, alloc);
+    lead(rt, alloc, object, &mut copy);
+    assert_counts(rt, alloc, &copy, 5, 1);
+    assert!(rt; (copy.bytes_stored(), copy.places().len()) == (3, 2));
 }
 
 // Letters lead to an object with a read that is open, but not to one that moves, and at the node that moves objects not
 // to one with a second position.
 #[test]
 fn leads_to_what_stands_still(rt: HostRuntime) {
-    let alloc = rt.alloc();
-    let mut object = new_object(&rt, alloc);
-    object.begin_read(1).expect(&rt, "a read");
-    assert!(rt; can_be_led_to(&object, true));
-    let next = layout(&rt, &[1, 2, 3]);
-    serve(
-        &rt,
-        &mut object,
-        Request::Spread(Status::Pending),
-        Some(next),
-    );
-    assert!(rt; can_be_led_to(&object, false));
-    assert!(rt; !can_be_led_to(&object, true));
-    object
-        .begin_move(2, layout(&rt, &[3, 2, 1]))
-        .expect(&rt, "a move");
-    assert!(rt; !can_be_led_to(&object, false));
+    read_spread_and_move(&rt, &mut new_object(&rt, rt.alloc()));
+}
+
+fn read_spread_and_move(rt: &impl Abort, object: &mut LocalObject) {
+    assert!(rt; object.begin_read(1).is_ok());
+    assert!(rt; can_be_led_to(object, true));
+    spread(rt, object);
+    assert!(rt; can_be_led_to(object, false) && !can_be_led_to(object, true));
+    assert!(rt; object.begin_move(2, layout(rt, &[3, 2, 1])).is_ok());
+    assert!(rt; !can_be_led_to(object, false));
 }

@@ -4,6 +4,8 @@
 #![tactic(auto)]
 
 #[cfg(test)]
+mod checks;
+#[cfg(test)]
 mod led_bank;
 #[cfg(test)]
 mod led_object;

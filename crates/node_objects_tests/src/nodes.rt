@@ -1,8 +1,8 @@
 //! Nodes of one object, and the letters between them.
+use crate::checks::{assert_prints, is_request};
 use bytes::Bytes;
 use layout::Layout;
 use local_object::{Ended, Letter, LocalObject};
-use mail::Body;
 use std::alloc::Global;
 use std::collections::VecDeque;
 use std::process::Abort;
@@ -10,125 +10,149 @@ use std::process::Abort;
 // More letters than any call here takes.
 const ENOUGH: u32 = 10_000;
 
-/// The nodes 0 to 3, and letters that are under way, each with the node that sent it.
-#[derive(Drop)]
-pub(crate) struct Nodes {
-    pub(crate) nodes: Vec<LocalObject>,
-    pub(crate) mail: VecDeque<(u8, Letter)>,
-    // Letters to this node are lost.
-    pub(crate) down: Option<u8>,
-    // The call that was answered last.
-    pub(crate) ended: Option<Ended>,
+/// What a node does with a call.
+#[derive(Clone, Copy)]
+pub(crate) enum Act {
+    Read,
+    Write(&'static [u8]),
+    /// Begins a move to the layout with this k and these members.
+    Move(u8, &'static [u8]),
+    /// Sends the letters again that were not answered.
+    Resend,
 }
 
-pub(crate) fn layout(rt: &impl Abort, k: u8, members: &[u8]) -> Layout {
+/// A step of a test: one node acts, and then all letters are handled, those too that are sent meanwhile.
+pub(crate) struct Step {
+    pub(crate) node: u8,
+    pub(crate) id: u64,
+    pub(crate) act: Act,
+    /// Letters to this node are lost.
+    pub(crate) down: Option<u8>,
+    /// The call that was answered last, as it is printed for debugging.
+    pub(crate) ended: &'static str,
+}
+
+/// The nodes 0 to 3, and letters that are under way, each with the node that sent it.
+#[derive(Drop)]
+struct Nodes {
+    nodes: Vec<LocalObject>,
+    mail: VecDeque<(u8, Letter)>,
+    // Letters to this node are lost.
+    down: Option<u8>,
+    // The call that was answered last.
+    ended: Option<Ended>,
+}
+
+/// Plays these steps at four nodes, which have the members 0, 1 and 2 first.
+pub(crate) fn play(rt: &impl Abort, alloc: Global, steps: &[Step]) {
+    let mut nodes = four_nodes(rt, alloc);
+    for step in steps {
+        nodes.play(rt, alloc, step);
+    }
+}
+
+fn layout(rt: &impl Abort, k: u8, members: &[u8]) -> Layout {
     Layout::new(k, members).expect(rt, "a layout")
 }
 
-pub(crate) fn four_nodes(rt: &impl Abort, alloc: Global) -> Nodes {
-    let mut nodes = Vec::new(alloc);
-    for node in 0..4u8 {
-        let first = layout(rt, 2, &[0, 1, 2]);
-        let object = LocalObject::new(alloc, node, None, first).expect(rt, "memory");
-        nodes.push(object).expect(rt, "memory");
-    }
-    Nodes {
-        nodes,
+fn four_nodes(rt: &impl Abort, alloc: Global) -> Nodes {
+    let mut nodes = Nodes {
+        nodes: Vec::new(alloc),
         mail: VecDeque::new(alloc),
         down: None,
         ended: None,
+    };
+    for node in 0..4u8 {
+        nodes.add(rt, alloc, node);
     }
+    nodes
 }
 
 impl Nodes {
-    pub(crate) fn send(&mut self, rt: &impl Abort, node: u8, letters: Vec<Letter>) {
+    fn add(&mut self, rt: &impl Abort, alloc: Global, node: u8) {
+        let object = LocalObject::new(alloc, node, None, layout(rt, 2, &[0, 1, 2]));
+        self.nodes
+            .push(object.expect(rt, "memory"))
+            .expect(rt, "memory");
+    }
+
+    fn node(&mut self, rt: &impl Abort, node: u8) -> &mut LocalObject {
+        self.nodes
+            .get_mut(usize::from(node))
+            .expect(rt, "one of the nodes")
+    }
+
+    fn play(&mut self, rt: &impl Abort, alloc: Global, step: &Step) {
+        let letters = self.act(rt, step);
+        self.send(rt, step.node, letters);
+        self.down = step.down;
+        self.run(rt);
+        assert_prints(rt, alloc, &self.ended, step.ended);
+    }
+
+    fn act(&mut self, rt: &impl Abort, step: &Step) -> Vec<Letter> {
+        let node = self.node(rt, step.node);
+        let letters = match step.act {
+            Act::Read => node.begin_read(step.id),
+            Act::Write(text) => node.begin_write(step.id, Bytes::from_static(text)),
+            Act::Move(k, members) => node.begin_move(step.id, layout(rt, k, members)),
+            Act::Resend => node.resend(step.id),
+        };
+        letters.expect(rt, "letters")
+    }
+
+    fn send(&mut self, rt: &impl Abort, node: u8, letters: Vec<Letter>) {
         for letter in letters {
             self.mail.push_back((node, letter)).expect(rt, "memory");
         }
     }
 
-    /// Handles all letters in the order in which they were sent, those too that are sent meanwhile.
-    pub(crate) fn run(&mut self, rt: &impl Abort) {
+    // Handles all letters in the order in which they were sent.
+    fn run(&mut self, rt: &impl Abort) {
         for _ in 0..ENOUGH {
             let Some((from, letter)) = self.mail.pop_front() else {
                 return;
             };
-            if is_request(&letter) {
-                self.serve(rt, from, letter);
-            } else {
-                self.take(rt, from, letter);
-            }
+            self.handle(rt, from, letter);
+        }
+    }
+
+    fn handle(&mut self, rt: &impl Abort, from: u8, letter: Letter) {
+        if is_request(&letter) {
+            self.serve(rt, from, letter);
+        } else {
+            self.take(rt, from, letter);
         }
     }
 
     // The member that a request names serves it.
     fn serve(&mut self, rt: &impl Abort, from: u8, letter: Letter) {
-        assert!(rt; letter.message.member < letter.layout.n());
-        let node = letter.layout.member(letter.message.member);
+        let node = member(rt, &letter);
         if self.down == Some(node) {
             return;
         }
-        let index = usize::from(node);
-        assert!(rt; index < self.nodes.len());
-        let reply = self.nodes[index].serve(letter).expect(rt, "memory");
-        let reply = reply.expect(rt, "a reply");
-        self.mail.push_back((from, reply)).expect(rt, "memory");
+        let reply = self.node(rt, node).serve(letter).expect(rt, "memory");
+        self.mail
+            .push_back((from, reply.expect(rt, "a reply")))
+            .expect(rt, "memory");
     }
 
     // A call of the node takes the reply.
     fn take(&mut self, rt: &impl Abort, node: u8, letter: Letter) {
-        let index = usize::from(node);
-        assert!(rt; index < self.nodes.len());
-        let progress = self.nodes[index].take(letter).expect(rt, "memory");
+        let progress = self.node(rt, node).take(letter).expect(rt, "memory");
+        self.note(progress.ended);
         self.send(rt, node, progress.letters);
-        if progress.ended.is_some() {
-            self.ended = progress.ended;
-        }
     }
 
-    pub(crate) fn write(&mut self, rt: &impl Abort, node: u8, id: u64, text: &'static [u8]) {
-        let index = usize::from(node);
-        assert!(rt; index < self.nodes.len());
-        let letters = self.nodes[index].begin_write(id, Bytes::from_static(text));
-        self.send(rt, node, letters.expect(rt, "a write"));
-    }
-
-    pub(crate) fn read(&mut self, rt: &impl Abort, node: u8, id: u64) {
-        let index = usize::from(node);
-        assert!(rt; index < self.nodes.len());
-        let letters = self.nodes[index].begin_read(id);
-        self.send(rt, node, letters.expect(rt, "a read"));
-    }
-
-    pub(crate) fn move_to(&mut self, rt: &impl Abort, node: u8, id: u64, layout: Layout) {
-        let index = usize::from(node);
-        assert!(rt; index < self.nodes.len());
-        let letters = self.nodes[index].begin_move(id, layout);
-        self.send(rt, node, letters.expect(rt, "a move"));
-    }
-
-    pub(crate) fn resend(&mut self, rt: &impl Abort, node: u8, id: u64) {
-        let index = usize::from(node);
-        assert!(rt; index < self.nodes.len());
-        let letters = self.nodes[index].resend(id).expect(rt, "memory");
-        self.send(rt, node, letters);
-    }
-
-    /// Returns whether the call that was answered last has this id and this value.
-    pub(crate) fn has_ended(&self, id: u64, text: &[u8]) -> bool {
-        match &self.ended {
-            Some(ended) => match &ended.value {
-                Some(value) => ended.id == id && value.as_slice() == text,
-                None => false,
-            },
-            None => false,
+    fn note(&mut self, ended: Option<Ended>) {
+        if ended.is_some() {
+            self.ended = ended;
         }
     }
 }
 
-fn is_request(letter: &Letter) -> bool {
-    match &letter.message.body {
-        Body::Request(_) => true,
-        Body::Reply { kind: _, reply: _ } => false,
-    }
+// The node to which a request is sent.
+fn member(rt: &impl Abort, letter: &Letter) -> u8 {
+    assert!(rt; letter.message.member < letter.layout.n());
+    letter.layout.member(letter.message.member)
 }

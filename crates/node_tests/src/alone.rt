@@ -6,82 +6,92 @@ use node::Node;
 use node_effects::{Effects, Machine};
 use node_log::Entry;
 use std::alloc::Global;
+use std::fmt::Debug;
 use std::process::Abort;
 
-/// The node of a cluster of one node, with its log.
-#[derive(Drop)]
-pub(crate) struct Alone {
-    alloc: Global,
-    pub(crate) node: Node,
-    /// The effects of the last frame.
-    pub(crate) last: Effects,
+/// A frame that comes to a node, and what the node does.
+pub(crate) struct Step {
+    /// The strings of the frame, with `|` between them.
+    pub(crate) words: &'static str,
+    /// The answers, as they are printed for debugging.
+    pub(crate) answers: &'static str,
+    /// How many outputs there are, if that is compared.
+    pub(crate) outputs: Option<usize>,
 }
 
-/// Returns a node that has no log.
-pub(crate) fn new_node(rt: &impl Abort, alloc: Global) -> Node {
-    let text = b"nodes 1\nn 1\nk 1\ndelta 8\nmover 1\nlater\nticks 2\n";
-    let file = read_cluster_file(alloc, text).expect(rt, "a cluster file");
-    Node::new(alloc, file, 1)
-}
-
-/// The entries that a new log gets.
-pub(crate) fn new_log(rt: &impl Abort, alloc: Global) -> Vec<Entry> {
-    let mut node = new_node(rt, alloc);
-    node.start().expect(rt, "a start")
-}
-
-/// Returns the strings as a frame.
-pub(crate) fn frame(rt: &impl Abort, alloc: Global, words: &[&str]) -> Frame {
-    let mut strings = Vec::new(alloc);
-    for word in words {
-        let string = Bytes::copy_from_slice(alloc, word.as_bytes()).expect(rt, "memory");
-        strings.push(string).expect(rt, "memory");
+/// Plays these steps.
+pub(crate) fn play(rt: &impl Abort, alloc: Global, node: &mut Node, steps: &[Step]) {
+    for step in steps {
+        let effects = handle(rt, alloc, node, step.words);
+        assert_step(rt, alloc, &effects, step);
     }
+}
+
+fn assert_step(rt: &impl Abort, alloc: Global, effects: &Effects, step: &Step) {
+    assert_prints(rt, alloc, &effects.answers, step.answers);
+    let count = effects.outputs.len();
+    assert!(rt; step.outputs.unwrap_or(count) == count);
+}
+
+fn assert_text(rt: &impl Abort, text: &str, expected: &str) {
+    assert!(rt; text == expected, "{text}");
+}
+
+fn assert_prints<T: Debug>(rt: &impl Abort, alloc: Global, value: &T, expected: &str) {
+    let text = format!(in alloc; "{value:?}").expect(rt, "memory");
+    assert_text(rt, text.as_str(), expected);
+}
+
+/// Returns what a node wants done once this frame came.
+pub(crate) fn handle(
+    rt: &impl Abort,
+    alloc: Global,
+    node: &mut Node,
+    words: &'static str,
+) -> Effects {
+    let frame = frame(rt, alloc, words);
+    node.handle(frame).expect(rt, "effects")
+}
+
+/// Returns the frame of the strings between which there is a `|`.
+pub(crate) fn frame(rt: &impl Abort, alloc: Global, words: &'static str) -> Frame {
+    let mut strings = Vec::new(alloc);
+    push_words(rt, &mut strings, words);
     Frame::new(strings).expect(rt, "a frame")
 }
 
-impl Alone {
-    /// A node with an empty log, which has started.
-    pub(crate) fn new(rt: &impl Abort, alloc: Global) -> Alone {
-        Alone::with(rt, alloc, new_node(rt, alloc))
-    }
-
-    /// A node that has its log again, and starts.
-    pub(crate) fn with(rt: &impl Abort, alloc: Global, node: Node) -> Alone {
-        let mut node = node;
-        let _entries = node.start().expect(rt, "a start");
-        let last = Effects {
-            outputs: Vec::new(alloc),
-            answers: Vec::new(alloc),
-            notices: Vec::new(alloc),
-        };
-        Alone { alloc, node, last }
-    }
-
-    /// A frame comes.
-    pub(crate) fn handle(&mut self, rt: &impl Abort, words: &[&str]) {
-        let frame = frame(rt, self.alloc, words);
-        self.last = self.node.handle(frame).expect(rt, "effects");
-    }
-
-    /// Whether this was answered last, and nothing else.
-    pub(crate) fn has_answered(&self, words: &[&str]) -> bool {
-        match self.last.answers.as_slice() {
-            [frame] => is_frame(frame.strings(), words),
-            _ => false,
-        }
+pub(crate) fn push_words(rt: &impl Abort, strings: &mut Vec<Bytes>, words: &'static str) {
+    for word in words.split('|') {
+        let string = Bytes::from_static(word.as_bytes());
+        strings.push(string).expect(rt, "memory");
     }
 }
 
-// Whether the strings are these.
-fn is_frame(strings: &[Bytes], words: &[&str]) -> bool {
-    if strings.len() != words.len() {
-        return false;
-    }
-    for (string, word) in strings.iter().zip(words) {
-        if string.as_slice() != word.as_bytes() {
-            return false;
-        }
-    }
-    true
+/// Returns a node of the cluster that this text describes. It has no log.
+pub(crate) fn node_of(rt: &impl Abort, alloc: Global, text: &[u8], number: u8) -> Node {
+    let file = read_cluster_file(alloc, text).expect(rt, "a cluster file");
+    Node::new(alloc, file, number)
+}
+
+/// The node starts. Returns the entries that its log gets first.
+pub(crate) fn start(rt: &impl Abort, node: &mut Node) -> Vec<Entry> {
+    node.start().expect(rt, "a start")
+}
+
+/// Returns a node that is alone, and has no log.
+pub(crate) fn new_node(rt: &impl Abort, alloc: Global) -> Node {
+    let text = b"nodes 1\nn 1\nk 1\ndelta 8\nmover 1\nlater\nticks 2\n";
+    node_of(rt, alloc, text, 1)
+}
+
+/// Returns a node that is alone, and started with an empty log.
+pub(crate) fn started_node(rt: &impl Abort, alloc: Global) -> Node {
+    let mut node = new_node(rt, alloc);
+    start(rt, &mut node);
+    node
+}
+
+/// The node carries out an entry of its log.
+pub(crate) fn recover(rt: &impl Abort, node: &mut Node, entry: Entry) {
+    node.recover(entry).expect(rt, "an entry of the log");
 }

@@ -1,88 +1,119 @@
 //! Commands of clients, and what is read again from the log.
-use crate::alone::{Alone, new_log, new_node};
+use crate::alone::{Step, handle, new_node, play, recover, start, started_node};
 use node::Node;
-use node_effects::{Machine, Output};
+use node_effects::Output;
+use node_log::Entry;
 use std::alloc::Global;
 use std::process::Abort;
 
+static A_WRITE_AND_A_READ: [Step; 2] = [
+    Step {
+        words: "client 1|SET|photo|hello",
+        answers: "[Frame { strings: [b\"client 1\", b\"+OK\\r\\n\"] }]",
+        outputs: Some(2),
+    },
+    Step {
+        words: "client 2|GET|photo",
+        answers: "[Frame { strings: [b\"client 2\", b\"$5\\r\\n\", b\"hello\", b\"\\r\\n\"] }]",
+        outputs: Some(0),
+    },
+];
+
 #[test]
 fn a_write_and_a_read(rt: HostRuntime) {
-    let mut alone = Alone::new(&rt, rt.alloc());
-    write_and_read(&rt, &mut alone);
+    play_alone(&rt, rt.alloc(), &A_WRITE_AND_A_READ);
 }
 
-fn write_and_read(rt: &impl Abort, alone: &mut Alone) {
-    alone.handle(rt, &["client 1", "SET", "photo", "hello"]);
-    assert!(rt; alone.has_answered(&["client 1", "+OK\r\n"]));
-    assert!(rt; alone.last.outputs.len() == 2);
-    alone.handle(rt, &["client 2", "GET", "photo"]);
-    assert!(rt; alone.has_answered(&["client 2", "$5\r\n", "hello", "\r\n"]));
-    assert!(rt; alone.last.outputs.is_empty());
+fn play_alone(rt: &impl Abort, alloc: Global, steps: &[Step]) {
+    let mut node = started_node(rt, alloc);
+    play(rt, alloc, &mut node, steps);
 }
+
+static PLAIN_COMMANDS: [Step; 3] = [
+    Step {
+        words: "client 7|PING",
+        answers: "[Frame { strings: [b\"client 7\", b\"+PONG\\r\\n\"] }]",
+        outputs: None,
+    },
+    Step {
+        words: "client 7|CLIENT|ID",
+        answers: "[Frame { strings: [b\"client 7\", b\":7\\r\\n\"] }]",
+        outputs: None,
+    },
+    Step {
+        words: "tick",
+        answers: "[]",
+        outputs: None,
+    },
+];
 
 #[test]
 fn plain_commands(rt: HostRuntime) {
-    let mut alone = Alone::new(&rt, rt.alloc());
-    ask_plainly(&rt, &mut alone);
+    play_alone(&rt, rt.alloc(), &PLAIN_COMMANDS);
 }
 
-fn ask_plainly(rt: &impl Abort, alone: &mut Alone) {
-    alone.handle(rt, &["client 7", "PING"]);
-    assert!(rt; alone.has_answered(&["client 7", "+PONG\r\n"]));
-    alone.handle(rt, &["client 7", "CLIENT", "ID"]);
-    assert!(rt; alone.has_answered(&["client 7", ":7\r\n"]));
-    alone.handle(rt, &["tick"]);
-    assert!(rt; alone.last.answers.is_empty());
-}
+static A_MOVE: [Step; 2] = [
+    Step {
+        words: "client 1|MOVE|photo|1|1",
+        answers: "[Frame { strings: [b\"client 1\", b\"+OK\\r\\n\"] }]",
+        outputs: None,
+    },
+    Step {
+        words: "client 1|MOVE|photo|1|2",
+        answers: "[Frame { strings: [b\"client 1\", b\"-ERR refused: 2 BadLayout\\r\\n\"] }]",
+        outputs: None,
+    },
+];
 
 #[test]
 fn a_move(rt: HostRuntime) {
-    let mut alone = Alone::new(&rt, rt.alloc());
-    move_twice(&rt, &mut alone);
+    play_alone(&rt, rt.alloc(), &A_MOVE);
 }
 
-fn move_twice(rt: &impl Abort, alone: &mut Alone) {
-    alone.handle(rt, &["client 1", "MOVE", "photo", "1", "1"]);
-    assert!(rt; alone.has_answered(&["client 1", "+OK\r\n"]));
-    alone.handle(rt, &["client 1", "MOVE", "photo", "1", "2"]);
-    assert!(rt; alone.has_answered(&["client 1", "-ERR refused: 2 BadLayout\r\n"]));
-}
+static A_READ: [Step; 1] = [Step {
+    words: "client 1|GET|photo",
+    answers: "[Frame { strings: [b\"client 1\", b\"$5\\r\\n\", b\"hello\", b\"\\r\\n\"] }]",
+    outputs: None,
+}];
 
 #[test]
 fn a_restart(rt: HostRuntime) {
-    let mut alone = Alone::new(&rt, rt.alloc());
-    alone.handle(&rt, &["client 1", "SET", "photo", "hello"]);
-    let Alone { last, .. } = alone;
-    let again = restarted(&rt, rt.alloc(), last.outputs);
-    let mut alone = Alone::with(&rt, rt.alloc(), again);
-    read_back(&rt, &mut alone);
+    restart(&rt, rt.alloc());
 }
 
-// A node whose log has the entries of a new log, and these.
-fn restarted(rt: &impl Abort, alloc: Global, outputs: Vec<Output>) -> Node {
-    let mut again = new_node(rt, alloc);
-    recover_new_log(rt, alloc, &mut again);
-    for output in outputs {
-        recover_output(rt, &mut again, output);
+fn restart(rt: &impl Abort, alloc: Global) {
+    let mut node = new_node(rt, alloc);
+    recover_a_write(rt, alloc, &mut node);
+    start(rt, &mut node);
+    play(rt, alloc, &mut node, &A_READ);
+}
+
+const A_WRITE: &str = "client 1|SET|photo|hello";
+
+// The node carries out the entries of a new log, and those of a write.
+fn recover_a_write(rt: &impl Abort, alloc: Global, node: &mut Node) {
+    let mut before = new_node(rt, alloc);
+    recover_all(rt, node, start(rt, &mut before));
+    let written = handle(rt, alloc, &mut before, A_WRITE);
+    recover_outputs(rt, node, written.outputs);
+}
+
+fn recover_all(rt: &impl Abort, node: &mut Node, entries: Vec<Entry>) {
+    for entry in entries {
+        recover(rt, node, entry);
     }
-    again
 }
 
-fn recover_new_log(rt: &impl Abort, alloc: Global, node: &mut Node) {
-    for entry in new_log(rt, alloc) {
-        node.recover(entry).expect(rt, "an entry of the log");
+fn recover_outputs(rt: &impl Abort, node: &mut Node, outputs: Vec<Output>) {
+    for output in outputs {
+        recover_output(rt, node, output);
     }
 }
 
 // An entry is carried out again.
 fn recover_output(rt: &impl Abort, node: &mut Node, output: Output) {
     match output {
-        Output::Log(entry) => node.recover(entry).expect(rt, "an entry of the log"),
+        Output::Log(entry) => recover(rt, node, entry),
         Output::Send(_) => (),
     }
-}
-
-fn read_back(rt: &impl Abort, alone: &mut Alone) {
-    alone.handle(rt, &["client 1", "GET", "photo"]);
-    assert!(rt; alone.has_answered(&["client 1", "$5\r\n", "hello", "\r\n"]));
 }

@@ -1,60 +1,83 @@
 //! The order in which a node wants entries logged and frames sent.
-use crate::alone::frame;
+use crate::alone::{frame, handle, node_of, push_words, start};
 use bytes::Bytes;
-use cluster_file::read_cluster_file;
 use frames::Frame;
 use node::Node;
 use node_effects::{Effects, Machine, Output};
 use std::alloc::Global;
 use std::process::Abort;
 
+// Two nodes of a cluster of three.
+#[derive(Drop)]
+struct Pair {
+    first: Node,
+    second: Node,
+    // What the first node wants done.
+    last: Effects,
+}
+
 // A node of a cluster of three, which has started with an empty log.
 fn started(rt: &impl Abort, alloc: Global, number: u8) -> Node {
     let text = b"nodes 1 2 3\nn 3\nk 1\ndelta 8\nmover 1\nlater\nticks 2\n";
-    let file = read_cluster_file(alloc, text).expect(rt, "a cluster file");
-    let mut node = Node::new(alloc, file, number);
-    let _entries = node.start().expect(rt, "a start");
+    let mut node = node_of(rt, alloc, text, number);
+    start(rt, &mut node);
     node
 }
 
-// A frame to the node of this address, as it comes there from the node of another address.
-fn carried(rt: &impl Abort, alloc: Global, effects: Effects, to: &str, from: &str) -> Frame {
-    for output in effects.outputs {
-        if let Output::Send(frame) = output {
-            if let Some(carried) = readdressed(rt, alloc, frame, to, from) {
-                return carried;
-            }
-        }
+// The first node was asked to write.
+fn asked_pair(rt: &impl Abort, alloc: Global) -> Pair {
+    let mut first = started(rt, alloc, 1);
+    let last = handle(rt, alloc, &mut first, "client 1|SET|photo|hello");
+    Pair {
+        first,
+        second: started(rt, alloc, 2),
+        last,
     }
-    frame(rt, alloc, &["tick"])
 }
 
-// The frame with another address, if it has this one.
-fn readdressed(
+// A frame to the node of this address, as it comes there from the node of another address.
+fn carried(
     rt: &impl Abort,
     alloc: Global,
-    frame: Frame,
-    to: &str,
-    from: &str,
-) -> Option<Frame> {
-    if !is_addressed(frame.strings(), to) {
-        return None;
+    effects: &Effects,
+    to: &[u8],
+    from: &'static str,
+) -> Frame {
+    for output in &effects.outputs {
+        if is_sent(output, to) {
+            return readdressed(rt, alloc, output, from);
+        }
     }
-    let mut strings = frame.into_strings();
-    set_address(rt, alloc, &mut strings, from);
-    Some(Frame::new(strings).expect(rt, "a frame"))
+    frame(rt, alloc, "tick")
 }
 
-fn is_addressed(strings: &[Bytes], to: &str) -> bool {
-    match strings {
-        [address, ..] => address.as_slice() == to.as_bytes(),
+fn is_sent(output: &Output, to: &[u8]) -> bool {
+    match strings_of(output) {
+        [address, ..] => address.as_slice() == to,
         [] => false,
     }
 }
 
-fn set_address(rt: &impl Abort, alloc: Global, strings: &mut Vec<Bytes>, from: &str) {
-    if let Some(address) = strings.first_mut() {
-        *address = Bytes::copy_from_slice(alloc, from.as_bytes()).expect(rt, "memory");
+// The strings of a frame that is to be sent.
+fn strings_of(output: &Output) -> &[Bytes] {
+    match output {
+        Output::Send(frame) => frame.strings(),
+        Output::Log(_) => &[],
+    }
+}
+
+// The frame with another address.
+fn readdressed(rt: &impl Abort, alloc: Global, output: &Output, from: &'static str) -> Frame {
+    let mut strings = Vec::new(alloc);
+    push_words(rt, &mut strings, from);
+    push_rest(rt, &mut strings, strings_of(output));
+    Frame::new(strings).expect(rt, "a frame")
+}
+
+fn push_rest(rt: &impl Abort, strings: &mut Vec<Bytes>, sent: &[Bytes]) {
+    for string in sent.iter().skip(1) {
+        let shared = string.clone().expect(rt, "one more owner");
+        strings.push(shared).expect(rt, "memory");
     }
 }
 
@@ -67,41 +90,33 @@ fn sent_before_entry(outputs: &[Output]) -> Option<usize> {
 
 #[test]
 fn requests_stand_before_the_entry_of_the_node_itself(rt: HostRuntime) {
-    let mut first = started(&rt, rt.alloc(), 1);
-    let mut second = started(&rt, rt.alloc(), 2);
-    let phases = phases_before_the_entry(&rt, rt.alloc(), &mut first, &mut second);
+    assert_order(&rt, rt.alloc());
+}
+
+fn assert_order(rt: &impl Abort, alloc: Global) {
+    let mut pair = asked_pair(rt, alloc);
+    let phases = pair.phases_before_the_entry(rt, alloc);
     assert!(rt; phases > 0 && phases < 8);
 }
 
-// How many phases of a write go by before the first node logs an entry.
-fn phases_before_the_entry(
-    rt: &impl Abort,
-    alloc: Global,
-    first: &mut Node,
-    second: &mut Node,
-) -> u32 {
-    let command = frame(rt, alloc, &["client 1", "SET", "photo", "hello"]);
-    let mut last = first.handle(command).expect(rt, "effects");
-    for phase in 0..8u32 {
-        if let Some(count) = sent_before_entry(&last.outputs) {
-            assert!(rt; count == 2);
-            return phase;
+impl Pair {
+    // How many phases of a write go by before the first node logs an entry.
+    fn phases_before_the_entry(&mut self, rt: &impl Abort, alloc: Global) -> u32 {
+        for phase in 0..8u32 {
+            if let Some(count) = sent_before_entry(&self.last.outputs) {
+                assert!(rt; count == 2);
+                return phase;
+            }
+            self.reply(rt, alloc);
         }
-        last = after_a_reply(rt, alloc, last, first, second);
+        8
     }
-    8
-}
 
-// What the first node wants done once the second one has replied to its request.
-fn after_a_reply(
-    rt: &impl Abort,
-    alloc: Global,
-    last: Effects,
-    first: &mut Node,
-    second: &mut Node,
-) -> Effects {
-    let request = carried(rt, alloc, last, "node 2", "node 1");
-    let served = second.handle(request).expect(rt, "effects");
-    let reply = carried(rt, alloc, served, "node 1", "node 2");
-    first.handle(reply).expect(rt, "effects")
+    // The second node replies to the first one's request.
+    fn reply(&mut self, rt: &impl Abort, alloc: Global) {
+        let request = carried(rt, alloc, &self.last, b"node 2", "node 1");
+        let served = self.second.handle(request).expect(rt, "effects");
+        let reply = carried(rt, alloc, &served, b"node 1", "node 2");
+        self.last = self.first.handle(reply).expect(rt, "effects");
+    }
 }
