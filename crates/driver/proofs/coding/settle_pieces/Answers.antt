@@ -11,6 +11,6 @@ returns-clause-step c =
 pub returns-clause-cause : goal.returns-clause-cause
 returns-clause-cause c =
     by_cause _ _ c.settle_at.result
-    (settle_same c.args.cluster.now c.args.name.now c.args.call c.args.k c.args.len c.args.pieces.items c.in_ok-decoded.decoded c.requires.pieces
-    c.in_ok-decoded.ensures.kept.0 c.in_ok-decoded.ensures.kept.1)
+    (settle_same c.args.cluster.now c.args.name.now c.args.call c.args.k c.args.len c.args.pieces.items c.in_ok-decoded.decoded
+    c.requires.pieces c.in_ok-decoded.ensures.kept.0 c.in_ok-decoded.ensures.kept.1)
     (exactly _ c.settle_at.result c.settle_at.ensures.cause)
