@@ -1,10 +1,10 @@
 //! The administrator's moves.
 
 ghost use Rattle.std.specs.Prelude.{◌≡◌, ◌⊎◌, suc, None, Some, IfOk, IfErr, OnOk, OnErr, MatchResult};
-ghost use Rattle.tag.specs.Refusal.{IsByCause};
+ghost use Rattle.tag.specs.Refusal.{IsByCause, IsExactlyByCause};
 ghost use Rattle.register.specs.Causes.{call_at};
 ghost use Rattle.cluster.specs.Causes.{moving_cause, object_cause};
-ghost use Rattle.cluster.specs.Cluster.{named};
+ghost use Rattle.cluster.specs.Cluster.{named, place_of};
 ghost use Rattle.cluster.specs.Steps.{moved};
 ghost use Rattle.locked_steps.specs.Calls.{client_calls};
 ghost use Rattle.locked_steps.specs.Course.{PreservesReachable, IsStateOf};
@@ -46,11 +46,7 @@ pub fn begin_move_in<L: StoreName>(
     ensures kept { OnErr result (admin.new ≡ admin.old) }
 {
     booked.cluster.invariant();
-    let object = booked.cluster.place(name)?;
-    if admin.pending.is_some() {
-        return Err(Refusal::MovePending);
-    }
-    booked.cluster.may_move(name, layout)?;
+    let object = may_begin_move(&booked.cluster, admin, name, layout)?;
     hold(&mut admin.name, name)?;
     let call = call_move(&mut booked.cluster, name, layout)?;
     let pending = PendingMove {
@@ -61,6 +57,26 @@ pub fn begin_move_in<L: StoreName>(
     admin.pending = Some(pending);
     admin.note_order(&booked.cluster);
     Ok(())
+}
+
+// Whether the administrator may begin such a move, and the index of the object.
+fn may_begin_move<L: StoreName>(
+    cluster: &Cluster,
+    admin: &Admin<L>,
+    name: &str,
+    layout: LayoutId,
+) -> Result<u32, Refusal>
+    ensures place { IfOk result (λ p. p ≡ place_of cluster.now.objects name.now) }
+    ensures free { OnOk result (admin.now.moving ≡ None) }
+    ensures may { OnOk result (object_cause cluster.now name.now (moving_cause cluster.now layout) ≡ None) }
+    ensures cause { IsExactlyByCause (begin_move_cause cluster.now admin.now.moving name.now layout) result }
+{
+    let object = cluster.place(name)?;
+    if admin.is_pending() {
+        return Err(Refusal::MovePending);
+    }
+    cluster.may_move(name, layout)?;
+    Ok(object)
 }
 
 // Makes the step that begins the move, and returns the call's number.

@@ -1,4 +1,4 @@
-use Rattle.std.proofs.Common.{◌≡◌, ◌<◌, ◌≤◌, suc, false, List, ℕ, Option, Some, None, refl, ap, ◌∙◌, arith}
+use Rattle.std.proofs.Common.{◌≡◌, ◌<◌, suc, false, List, ℕ, Option, Some, None, refl, ap, ◌∙◌, arith}
 use Rattle.std.specs.Prelude.{is_some, vec_len, vec_capacity}
 use Rattle.std.specs.String.{string_bytes}
 use Rattle.locked_steps.specs.Seats.{SeatState, pending_of}

@@ -1,7 +1,7 @@
-use Rattle.std.proofs.Common.{◌≡◌, ◌∙◌, ◌<◌, ◌++◌, length, get_or, sym, ap, rules, false, Ok, List}
+use Rattle.std.proofs.Common.{◌≡◌, ◌∙◌, ◌<◌, ◌++◌, length, take, get_or, sym, ap, rules, arith, false, Ok, List}
 use Rattle.std.specs.Prelude.{map, IsTrue}
-use Rattle.std.proofs.lemmas.List.{map-append}
-use Rattle.locked_steps.specs.Closing.{AllStand, key_of}
+use Rattle.std.proofs.lemmas.List.{length-map, map-append, take_all}
+use Rattle.locked_steps.specs.Closing.{AllStand, all_records, key_of}
 use Rattle.locked_steps.specs.Seats.{SeatState, records_of}
 use Rattle.locked_steps.proofs.SeatRecordLemmas.{all_records_more, all_seats_more, stand_at, all_append}
 use Rattle.locked_steps.proofs.fitting.fit.Goals as goal
@@ -34,3 +34,12 @@ loop-seat-preserved g c =
       keys = rw (more, ← is, map-append, keys) (ap (λ l. l ++ map key_of (records_of s)) c.loop-seat.invariant.keys);
       order = all_seats_more _ ss i s less c.loop-seat.invariant.order (rw (← is) c.check_seat.ensures.order);
     }
+
+pub returns-clause-few : goal.returns-clause-few
+returns-clause-few g c = λ is.
+    let ss : List SeatState = c.args.seats.now in
+    let whole : take c.loop-seat.seat-index ss ≡ ss = take_all c.loop-seat.seat-index ss c.loop-seat-test.false in
+    let keys = ap length (c.deref_mut.ensures.value ∙ c.loop-seat.invariant.keys) in
+    let n = length-map (all_records (take c.loop-seat.seat-index ss)) key_of in
+    let same = ap (λ (l : List SeatState). length (all_records l)) whole in
+    omega (arith, c.deref_mut.type_inv.0, keys, n, same)
