@@ -6,7 +6,7 @@ use mail::{Body, Message};
 use tag::{CallId, Stamp};
 
 /// A message of an object, a request or a reply, that was lost.
-#[derive(Clone, Copy, PartialEq, Eq)]
+#[derive(Clone, Copy, Debug, PartialEq, Eq)]
 pub struct Loss {
     /// The call's number in its object, from 1.
     pub call: CallId,

@@ -8,7 +8,7 @@ use std::fmt;
 use tag::{CallId, Refusal};
 
 /// What a command did, if it shows nothing. It prints as one line.
-#[derive(Clone, Copy, PartialEq, Eq)]
+#[derive(Clone, Copy, Debug, PartialEq, Eq)]
 pub enum Outcome {
     /// `ok`
     Done,
