@@ -1,5 +1,5 @@
 ghost use Rattle.std.specs.Prelude.{◌≡◌, ◌+◌, ◌<◌, ◌≤◌, ◌==◌, ◌++◌, ℕ, [], length, nat_le, slice_get, slice_index};
-ghost use Rattle.std.specs.Prelude.{remove, false, true, Some, OnOk, OnErr, MatchOption};
+ghost use Rattle.std.specs.Prelude.{remove, Some, OnOk, OnErr};
 ghost use Rattle.tag.specs.Refusal.{IsByCause};
 ghost use Rattle.tag.specs.declared.limits.TheConstants.{MOST_BYTES, MOST_MESSAGES};
 ghost use Rattle.bank.specs.Answer.{answer_bytes};
@@ -96,9 +96,10 @@ impl Mail {
         ensures unchanged { OnErr result (self.new ≡ self.old) }
         ensures cause { IsByCause (mail_cause (self.old ++ messages.items)) result }
     {
-        let Some(bytes) = self.bytes_with_room(&messages) else {
+        if !self.has_room(&messages) {
             return Err(Refusal::Full);
-        };
+        }
+        let bytes = bytes_of(&messages);
         self.messages.reserve(messages.len())?;
         add_bounds(&mut self.bounds, &messages)?;
         let mut messages = messages;
@@ -107,16 +108,12 @@ impl Mail {
         Ok(())
     }
 
-    // The number of bytes of the pieces in the messages, or none if they may not wait together with those that wait
-    // already.
-    fn bytes_with_room(&self, messages: &[Message]) -> Option<u64>
-        ensures { MatchOption result (is_within (self.now ++ messages.now) ≡ false)
-            (λ bytes. (is_within (self.now ++ messages.now) ≡ true) × (bytes ≡ mail_bytes messages.now)) }
+    // Whether the messages may wait together with those that wait already.
+    fn has_room(&self, messages: &[Message]) -> bool
+        ensures { result ≡ is_within (self.now ++ messages.now) }
     {
-        if messages.len() > MOST_MESSAGES - self.messages.len() {
-            return None;
-        }
-        bytes_within(messages, MOST_BYTES - self.bytes)
+        messages.len() <= MOST_MESSAGES - self.messages.len()
+            && are_within(messages, MOST_BYTES - self.bytes)
     }
 
     /// Replaces the request at a place by the reply, and allocates no memory. There must be room for the reply's piece:
@@ -160,10 +157,11 @@ impl Mail {
         ensures cause { IsByCause (mail_cause (repeated self.old place)) result }
     {
         let message = self.at(place);
-        let Some(bytes) = self.bytes_with_room(slice::from_ref(message)) else {
+        if !self.has_room(slice::from_ref(message)) {
             return Err(Refusal::Full);
-        };
+        }
         let copy = message.clone()?;
+        let bytes = copy.bytes();
         self.messages.reserve(1)?;
         add_bounds(&mut self.bounds, slice::from_ref(&copy))?;
         self.messages.push_reserved(copy);
@@ -215,18 +213,29 @@ fn first_at_least(bounds: &[CallId], call: CallId) -> usize
     0
 }
 
-// The number of bytes of the pieces in the messages, or none if it is more than `most`.
-fn bytes_within(messages: &[Message], most: u64) -> Option<u64>
-    ensures { MatchOption result (most < mail_bytes messages.now)
-        (λ bytes. (bytes ≤ most) × (bytes ≡ mail_bytes messages.now)) }
+// The number of bytes of the pieces in the messages.
+fn bytes_of(messages: &[Message]) -> u64
+    requires { mail_bytes messages.now ≤ MOST_BYTES }
+    ensures { result ≡ mail_bytes messages.now }
+{
+    let mut total = 0;
+    for message in messages {
+        total += message.bytes();
+    }
+    total
+}
+
+// Whether the pieces in the messages have at most `most` bytes.
+fn are_within(messages: &[Message], most: u64) -> bool
+    ensures { result ≡ nat_le (mail_bytes messages.now) most }
 {
     let mut left = most;
     for message in messages {
         let bytes = message.bytes();
         if left < bytes {
-            return None;
+            return false;
         }
         left -= bytes;
     }
-    Some(most - left)
+    true
 }

@@ -7,7 +7,7 @@ pub invariant_of-self-2 : goal.invariant_of-self-2
 invariant_of-self-2 c = record {
   within = grind (arith, common_steps);
   bounded =
-      rw (c.in_ok-append.ensures.items, c.in_ok-reserve.ensures.items, c.in_ok-add_bounds.ensures.added, c.deref-2.ensures.value)
+      rw (c.in_ok-append.ensures.items, c.in_ok-reserve.ensures.items, c.in_ok-add_bounds.ensures.added, c.deref-3.ensures.value)
       (bounds_append 0 c.self.inside.messages.items c.self.inside.bounds.items c.args.messages.items c.self.invariant.bounded);
   sum = grind (arith, common_steps);
 }
