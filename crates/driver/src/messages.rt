@@ -63,6 +63,7 @@ pub fn handle_at(
 }
 
 // Handles the message at a place. The caller knows whether it is a request.
+#[inline(always)]
 fn handle_as(
     cluster: &mut Cluster,
     name: &str,
