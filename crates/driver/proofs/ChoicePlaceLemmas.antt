@@ -63,21 +63,16 @@ choices_few test mail from =
 
 module _ (test : Message → Bool) (mail : List Message) (place : ℕ) (b : Bool) (within : place < length mail)
     (told : (message : Message) → slice_get mail place ≡ Some message → b ≡ test message) where
+  one_more : b ≡ true → length (from test mail place) ≡ suc (length (later test mail place))
+  one_more passes = ap length (from_is test mail place b within told)
+      ∙ ap (λ b. length (cond b (place ∷ later test mail place) (later test mail place))) passes
+
   -- one more is counted where the message passes
   pub counted : (count total : ℕ) → b ≡ true → count + length (from test mail place) ≡ total
       → count + 1 + length (places_passing test (place + 1) (drop (place + 1) mail)) ≡ total
   counted count total passes so_far =
-      omega (arith, so_far, so_length passes, add-one-of place)
-    where
-      so_length : b ≡ true → length (from test mail place) ≡ suc (length (later test mail place))
-      so_length passes =
-          ap length (from_is test mail place b within told)
-          ∙ ap (λ b. length (cond b (place ∷ later test mail place) (later test mail place))) passes
-
-      add-one-of : (place : ℕ)
-          → length (places_passing test (place + 1) (drop (place + 1) mail))
-          ≡ length (places_passing test (suc place) (drop (suc place) mail))
-      add-one-of place = ap (λ n. length (places_passing test n (drop n mail))) (add-one place)
+      let n = ap (λ n. length (places_passing test n (drop n mail))) (add-one place) in
+      omega (arith, so_far, one_more passes, n)
 
   pub uncounted : (count total : ℕ) → b ≡ false → count + length (from test mail place) ≡ total
       → count + length (places_passing test (place + 1) (drop (place + 1) mail)) ≡ total
@@ -89,11 +84,7 @@ module _ (test : Message → Bool) (mail : List Message) (place : ℕ) (b : Bool
       omega (arith, so_far, e, n)
 
   pub few : (count total : ℕ) → b ≡ true → count + length (from test mail place) ≡ total → total ≤ length mail → count < length mail
-  few count total passes so_far all =
-      let e : length (from test mail place) ≡ suc (length (later test mail place)) =
-      ap length (from_is test mail place b within told)
-      ∙ ap (λ b. length (cond b (place ∷ later test mail place) (later test mail place))) passes in
-      omega (arith, so_far, e, all)
+  few count total passes so_far all = omega (arith, so_far, one_more passes, all)
 
   -- the one that is looked for
   pub here : (left : ℕ) (answer : Option ℕ) → b ≡ true → left ≡ 0 → slice_get (from test mail place) left ≡ answer → Some place ≡ answer

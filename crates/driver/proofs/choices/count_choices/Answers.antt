@@ -11,8 +11,7 @@ overflow_add-count c =
     let test = passes c.args.cluster.now c.args.register.now.object c.args.filter in
     let len = c.len-place-end.ensures.value ∙ ap length c.mail_view-mail.ensures in
     let within : c.loop-place.place < length mail = omega (arith, len) in
-    let told = told_of test mail c.mail_view-mail.result.now c.loop-place.place c.at.result.now c.passes.result
-    c.mail_view-mail.ensures c.at.ensures c.passes.ensures in
+    let told = told_of test mail _ c.loop-place.place _ _ c.mail_view-mail.ensures c.at.ensures c.passes.ensures in
     let most = c.len-place-end.ensures.within in
     let all = choices_few test mail c.args.from in
     let less = few test mail c.loop-place.place c.passes.result within told c.loop-place.count
@@ -34,8 +33,7 @@ loop-place-preserved c =
     let test = passes c.args.cluster.now c.args.register.now.object c.args.filter in
     let len = c.len-place-end.ensures.value ∙ ap length c.mail_view-mail.ensures in
     let within : c.loop-place.place < length mail = omega (arith, len) in
-    let told = told_of test mail c.mail_view-mail.result.now c.loop-place.place c.at.result.now c.passes.result
-    c.mail_view-mail.ensures c.at.ensures c.passes.ensures in
+    let told = told_of test mail _ c.loop-place.place _ _ c.mail_view-mail.ensures c.at.ensures c.passes.ensures in
     let later = choices_from c.args.cluster.now c.args.register.now.object c.args.filter (c.loop-place.place + 1) in
     elim c.if-passes.branch [
       | then-passes w ↦ record {

@@ -20,14 +20,12 @@ index_mut-register-requires c =
 
 pub act-requires : goal.act-requires
 act-requires c =
-    let at = object_is_at c.self.inside.objects.entries c.args.name.now c.args.object c.self.view_is c.index_mut-register.result.now
-    c.requires.placed c.index_mut-register.ensures.value in
+    let at = object_is_at _ _ _ c.self.view_is _ c.requires.placed c.index_mut-register.ensures.value in
     record { after = last_before c.self.invariant.kept at }
 
 pub invariant_of-self-2 : goal.invariant_of-self-2
 invariant_of-self-2 c =
-    let at = object_is_at c.self.inside.objects.entries c.args.name.now c.args.object c.self.view_is c.index_mut-register.result.now
-    c.requires.placed c.index_mut-register.ensures.value in
+    let at = object_is_at _ _ _ c.self.view_is _ c.requires.placed c.index_mut-register.ensures.value in
     let number = next_id c.index_mut-register.result.now.object in
     let ready = subst (λ n. ServersAllow n c.args.act) (sym (ap (λ (k : Cluster). length k.servers) c.self.view_is)) c.requires.ready in
     record {
@@ -45,14 +43,12 @@ invariant_of-self-2 c =
 
 pub invariant_of-self : goal.invariant_of-self
 invariant_of-self c =
-    let at = object_is_at c.self.inside.objects.entries c.args.name.now c.args.object c.self.view_is c.index_mut-register.result.now
-    c.requires.placed c.index_mut-register.ensures.value in
+    let at = object_is_at _ _ _ c.self.view_is _ c.requires.placed c.index_mut-register.ensures.value in
     refused_counted c.self.invariant at c.in_err-answered.ensures.unchanged
 
 pub returns : goal.returns
 returns c =
-    let at = object_is_at c.self.inside.objects.entries c.args.name.now c.args.object c.self.view_is c.index_mut-register.result.now
-    c.requires.placed c.index_mut-register.ensures.value in
+    let at = object_is_at _ _ _ c.self.view_is _ c.requires.placed c.index_mut-register.ensures.value in
     let now = c.args.self.now in
     let name = c.args.name.now in
     let old = c.index_mut-register.result.now.object in
@@ -76,23 +72,20 @@ returns c =
 
 pub returns-in_err-answered-clause-cause : goal.returns-in_err-answered-clause-cause
 returns-in_err-answered-clause-cause c =
-    let at = object_is_at c.self.inside.objects.entries c.args.name.now c.args.object c.self.view_is c.index_mut-register.result.now
-    c.requires.placed c.index_mut-register.ensures.value in
+    let at = object_is_at _ _ _ c.self.view_is _ c.requires.placed c.index_mut-register.ensures.value in
     let p = err_from_is_err_and c.from_residual.result c.from_residual.ensures.1 in
     rw (p.1, p.2) (act_by (Err c.in_err-answered.field-0.0) c.args.act (cause_at c.self.view_is at (act_cause c.args.act))
     c.in_err-answered.ensures.cause)
 
 pub returns-in_err-answered-clause-unchanged : goal.returns-in_err-answered-clause-unchanged
 returns-in_err-answered-clause-unchanged c =
-    let at = object_is_at c.self.inside.objects.entries c.args.name.now c.args.object c.self.view_is c.index_mut-register.result.now
-    c.requires.placed c.index_mut-register.ensures.value in
+    let at = object_is_at _ _ _ c.self.view_is _ c.requires.placed c.index_mut-register.ensures.value in
     let p = err_from_is_err_and c.from_residual.result c.from_residual.ensures.1 in
     rw p.1 (unchanged_at at c.in_err-answered.ensures.unchanged ∙ c.self.view_is)
 
 pub exchanged-self-inside-requires : goal.exchanged-self-inside-requires
 exchanged-self-inside-requires c =
-    let at = object_is_at c.self.inside.objects.entries c.args.name.now c.args.object c.self.view_is c.index_mut-register.result.now
-    c.requires.placed c.index_mut-register.ensures.value in
+    let at = object_is_at _ _ _ c.self.view_is _ c.requires.placed c.index_mut-register.ensures.value in
     let room = part_mailed c.self.invariant at c.waiting-waited.result c.waiting.result c.waiting-waited.ensures.value
     c.waiting.ensures.within in
     record { part = room.0; within = room.1 }

@@ -10,6 +10,5 @@ index-requires c =
 
 pub returns : goal.returns
 returns c =
-    let at = object_is_at c.self.inside.objects.entries c.args._name.now c.args.object c.self.view_is c.index.result.now
-    c.requires c.index.ensures in
+    let at = object_is_at _ _ _ c.self.view_is _ c.requires c.index.ensures in
     ap (λ (k : Cluster). named k.objects c.args._name.now) (sym c.self.view_is) ∙ named_at at

@@ -19,31 +19,25 @@ index_mut-register-requires c =
 
 pub invariant_of-self : goal.invariant_of-self
 invariant_of-self c =
-    let at = object_is_at c.self.inside.objects.entries c.args.name.now c.args.object c.self.view_is c.index_mut-register.result.now
-    c.requires c.index_mut-register.ensures.value in
+    let at = object_is_at _ _ _ c.self.view_is _ c.requires c.index_mut-register.ensures.value in
     refused_counted c.self.invariant at refl
 
 pub returns-in_err-server-clause-cause : goal.returns-in_err-server-clause-cause
 returns-in_err-server-clause-cause c =
-    let at = object_is_at c.self.inside.objects.entries c.args.name.now c.args.object c.self.view_is c.index_mut-register.result.now
-    c.requires c.index_mut-register.ensures.value in
+    let at = object_is_at _ _ _ c.self.view_is _ c.requires c.index_mut-register.ensures.value in
     same_cause _ _ _ c.from_residual.ensures.1
     (inl (own_cause_at c.self.view_is at (serving_cause c.args.self.now c.args.place)
     ∙ c.in_err-server.ensures.cause c.args.self.now (is_of c.self.invariant.kept c.self.view_is)))
 
 pub serve-requires : goal.serve-requires
 serve-requires c =
-    let at = object_is_at c.self.inside.objects.entries c.args.name.now c.args.object c.self.view_is c.index_mut-register.result.now
-    c.requires c.index_mut-register.ensures.value in
+    let at = object_is_at _ _ _ c.self.view_is _ c.requires c.index_mut-register.ensures.value in
     record { after = last_before c.self.invariant.kept at }
 
 pub invariant_of-self-2 : goal.invariant_of-self-2
 invariant_of-self-2 c =
-    let at = object_is_at c.self.inside.objects.entries c.args.name.now c.args.object c.self.view_is c.index_mut-register.result.now
-    c.requires c.index_mut-register.ensures.value in
-    let here = c.in_ok-server.ensures.cause
-    (cluster_of c.self.inside.servers c.self.inside.layouts.items c.self.inside.objects.entries c.self.inside.counter)
-    (own_of c.self.invariant.kept) in
+    let at = object_is_at _ _ _ c.self.view_is _ c.requires c.index_mut-register.ensures.value in
+    let here = c.in_ok-server.ensures.cause _ (own_of c.self.invariant.kept) in
     let room = has_room (cluster_of c.self.inside.servers c.self.inside.layouts.items c.self.inside.objects.entries c.self.inside.counter)
     c.args.place c.index_mut-register.result.now.object here in
     let next = room.few in
@@ -57,14 +51,12 @@ invariant_of-self-2 c =
 
 pub invariant_of-self-in_err-serve : goal.invariant_of-self-in_err-serve
 invariant_of-self-in_err-serve c =
-    let at = object_is_at c.self.inside.objects.entries c.args.name.now c.args.object c.self.view_is c.index_mut-register.result.now
-    c.requires c.index_mut-register.ensures.value in
+    let at = object_is_at _ _ _ c.self.view_is _ c.requires c.index_mut-register.ensures.value in
     refused_counted c.self.invariant at c.in_err-serve.ensures.unchanged
 
 pub returns : goal.returns
 returns c =
-    let at = object_is_at c.self.inside.objects.entries c.args.name.now c.args.object c.self.view_is c.index_mut-register.result.now
-    c.requires c.index_mut-register.ensures.value in
+    let at = object_is_at _ _ _ c.self.view_is _ c.requires c.index_mut-register.ensures.value in
     record {
       step = stepped_at c.self.view_is at (Step.Serve c.args.place) c.in_ok-serve.ensures.step;
       may = may_at c.self.view_is at (Step.Serve c.args.place)
@@ -76,11 +68,8 @@ returns c =
 
 pub returns-in_err-serve-clause-cause : goal.returns-in_err-serve-clause-cause
 returns-in_err-serve-clause-cause c =
-    let at = object_is_at c.self.inside.objects.entries c.args.name.now c.args.object c.self.view_is c.index_mut-register.result.now
-    c.requires c.index_mut-register.ensures.value in
-    let here = c.in_ok-server.ensures.cause
-    (cluster_of c.self.inside.servers c.self.inside.layouts.items c.self.inside.objects.entries c.self.inside.counter)
-    (own_of c.self.invariant.kept) in
+    let at = object_is_at _ _ _ c.self.view_is _ c.requires c.index_mut-register.ensures.value in
+    let here = c.in_ok-server.ensures.cause _ (own_of c.self.invariant.kept) in
     let room = has_room (cluster_of c.self.inside.servers c.self.inside.layouts.items c.self.inside.objects.entries c.self.inside.counter)
     c.args.place c.index_mut-register.result.now.object here in
     let next = room.few in
@@ -94,13 +83,9 @@ returns-in_err-serve-clause-cause c =
 
 pub exchanged-self-inside-requires : goal.exchanged-self-inside-requires
 exchanged-self-inside-requires c =
-    let at = object_is_at c.self.inside.objects.entries c.args.name.now c.args.object c.self.view_is c.index_mut-register.result.now
-    c.requires c.index_mut-register.ensures.value in
-    let here = c.in_ok-server.ensures.cause
-    (cluster_of c.self.inside.servers c.self.inside.layouts.items c.self.inside.objects.entries c.self.inside.counter)
-    (own_of c.self.invariant.kept) in
-    let room = has_room (cluster_of c.self.inside.servers c.self.inside.layouts.items c.self.inside.objects.entries c.self.inside.counter)
-    c.args.place c.index_mut-register.result.now.object here in
+    let at = object_is_at _ _ _ c.self.view_is _ c.requires c.index_mut-register.ensures.value in
+    let here = c.in_ok-server.ensures.cause _ (own_of c.self.invariant.kept) in
+    let room = has_room _ c.args.place c.index_mut-register.result.now.object here in
     let sums = served_exchanges c.self.invariant at room c.in_ok-server.server c.in_ok-server.ensures.server c.waiting-waited.ensures.sound
     c.serve.new.self c.in_ok-serve.ensures.step
     c.stored_in_all-before.result c.stored_in_all-after.result c.stored_in_all-before.ensures.value c.stored_in_all-after.ensures.value in
@@ -108,13 +93,9 @@ exchanged-self-inside-requires c =
 
 pub replace_part-requires : goal.replace_part-requires
 replace_part-requires c =
-    let at = object_is_at c.self.inside.objects.entries c.args.name.now c.args.object c.self.view_is c.index_mut-register.result.now
-    c.requires c.index_mut-register.ensures.value in
-    let here = c.in_ok-server.ensures.cause
-    (cluster_of c.self.inside.servers c.self.inside.layouts.items c.self.inside.objects.entries c.self.inside.counter)
-    (own_of c.self.invariant.kept) in
-    let room = has_room (cluster_of c.self.inside.servers c.self.inside.layouts.items c.self.inside.objects.entries c.self.inside.counter)
-    c.args.place c.index_mut-register.result.now.object here in
+    let at = object_is_at _ _ _ c.self.view_is _ c.requires c.index_mut-register.ensures.value in
+    let here = c.in_ok-server.ensures.cause _ (own_of c.self.invariant.kept) in
+    let room = has_room _ c.args.place c.index_mut-register.result.now.object here in
     let sums = served_exchanges c.self.invariant at room c.in_ok-server.server c.in_ok-server.ensures.server c.waiting-waited.ensures.sound
     c.serve.new.self c.in_ok-serve.ensures.step
     c.stored_in_all-before.result c.stored_in_all-after.result c.stored_in_all-before.ensures.value c.stored_in_all-after.ensures.value in
@@ -122,20 +103,17 @@ replace_part-requires c =
 
 pub exchanged-self-inside-requires-2 : goal.exchanged-self-inside-requires-2
 exchanged-self-inside-requires-2 c =
-    let at = object_is_at c.self.inside.objects.entries c.args.name.now c.args.object c.self.view_is c.index_mut-register.result.now
-    c.requires c.index_mut-register.ensures.value in
+    let at = object_is_at _ _ _ c.self.view_is _ c.requires c.index_mut-register.ensures.value in
     let room = part_mailed c.self.invariant at c.waiting-waited.result c.waiting.result c.waiting-waited.ensures.value
     c.waiting.ensures.within in
     record { part = room.0; within = room.1 }
 
 pub returns-in_err-server-clause-unchanged : goal.returns-in_err-server-clause-unchanged
 returns-in_err-server-clause-unchanged c =
-    let at = object_is_at c.self.inside.objects.entries c.args.name.now c.args.object c.self.view_is c.index_mut-register.result.now
-    c.requires c.index_mut-register.ensures.value in
+    let at = object_is_at _ _ _ c.self.view_is _ c.requires c.index_mut-register.ensures.value in
     on_err c.from_residual.result (unchanged_at at refl ∙ c.self.view_is)
 
 pub returns-in_err-serve-clause-unchanged : goal.returns-in_err-serve-clause-unchanged
 returns-in_err-serve-clause-unchanged c =
-    let at = object_is_at c.self.inside.objects.entries c.args.name.now c.args.object c.self.view_is c.index_mut-register.result.now
-    c.requires c.index_mut-register.ensures.value in
+    let at = object_is_at _ _ _ c.self.view_is _ c.requires c.index_mut-register.ensures.value in
     on_err c.from_residual-in_err-serve.result (unchanged_at at c.in_err-serve.ensures.unchanged ∙ c.self.view_is)

@@ -19,14 +19,12 @@ index_mut-register-requires c =
 
 pub take-requires : goal.take-requires
 take-requires c =
-    let at = object_is_at c.self.inside.objects.entries c.args.name.now c.args.object c.self.view_is c.index_mut-register.result.now
-    c.requires c.index_mut-register.ensures.value in
+    let at = object_is_at _ _ _ c.self.view_is _ c.requires c.index_mut-register.ensures.value in
     record { after = last_before c.self.invariant.kept at }
 
 pub invariant_of-self-2 : goal.invariant_of-self-2
 invariant_of-self-2 c =
-    let at = object_is_at c.self.inside.objects.entries c.args.name.now c.args.object c.self.view_is c.index_mut-register.result.now
-    c.requires c.index_mut-register.ensures.value in
+    let at = object_is_at _ _ _ c.self.view_is _ c.requires c.index_mut-register.ensures.value in
     let few =
     act_few (c.self.inside.counter + 1) c.index_mut-register.result.now.object (act.Take c.args.place) c.in_ok-took.ensures.cause in
     record {
@@ -39,22 +37,19 @@ invariant_of-self-2 c =
 
 pub invariant_of-self : goal.invariant_of-self
 invariant_of-self c =
-    let at = object_is_at c.self.inside.objects.entries c.args.name.now c.args.object c.self.view_is c.index_mut-register.result.now
-    c.requires c.index_mut-register.ensures.value in
+    let at = object_is_at _ _ _ c.self.view_is _ c.requires c.index_mut-register.ensures.value in
     refused_counted c.self.invariant at c.in_err-took.ensures.unchanged
 
 pub exchanged-self-inside-requires : goal.exchanged-self-inside-requires
 exchanged-self-inside-requires c =
-    let at = object_is_at c.self.inside.objects.entries c.args.name.now c.args.object c.self.view_is c.index_mut-register.result.now
-    c.requires c.index_mut-register.ensures.value in
+    let at = object_is_at _ _ _ c.self.view_is _ c.requires c.index_mut-register.ensures.value in
     let room = part_mailed c.self.invariant at c.waiting-waited.result c.waiting.result c.waiting-waited.ensures.value
     c.waiting.ensures.within in
     record { part = room.0; within = room.1 }
 
 pub returns : goal.returns
 returns c =
-    let at = object_is_at c.self.inside.objects.entries c.args.name.now c.args.object c.self.view_is c.index_mut-register.result.now
-    c.requires c.index_mut-register.ensures.value in
+    let at = object_is_at _ _ _ c.self.view_is _ c.requires c.index_mut-register.ensures.value in
     record {
       step = stepped_at c.self.view_is at (Step.Take c.args.place) c.in_ok-took.ensures.step;
       may = may_at c.self.view_is at (Step.Take c.args.place)
@@ -66,13 +61,11 @@ returns c =
 
 pub returns-in_err-took-clause-cause : goal.returns-in_err-took-clause-cause
 returns-in_err-took-clause-cause c =
-    let at = object_is_at c.self.inside.objects.entries c.args.name.now c.args.object c.self.view_is c.index_mut-register.result.now
-    c.requires c.index_mut-register.ensures.value in
+    let at = object_is_at _ _ _ c.self.view_is _ c.requires c.index_mut-register.ensures.value in
     let p = err_from_is_err_and c.from_residual.result c.from_residual.ensures.1 in
     rw (p.1, p.2) (cause_at c.self.view_is at (λ now object. take_cause now object c.args.place) ∙ c.in_err-took.ensures.cause)
 
 pub returns-in_err-took-clause-unchanged : goal.returns-in_err-took-clause-unchanged
 returns-in_err-took-clause-unchanged c =
-    let at = object_is_at c.self.inside.objects.entries c.args.name.now c.args.object c.self.view_is c.index_mut-register.result.now
-    c.requires c.index_mut-register.ensures.value in
+    let at = object_is_at _ _ _ c.self.view_is _ c.requires c.index_mut-register.ensures.value in
     on_err c.from_residual.result (unchanged_at at c.in_err-took.ensures.unchanged ∙ c.self.view_is)
