@@ -43,13 +43,24 @@ pub fn open_log<'a, R: Files + AllocGlobal, E: Write>(
     err: &mut E,
 ) -> Result<(FolderLog<'a, R>, u64), Fault> {
     let mut log = FolderLog::open(rt, folder).map_err(unopened)?;
+    let length = start_with(rt, &mut log, node, err)?;
+    Ok((log, length))
+}
+
+// Does what `open_log` does with the opened log, which it need not drop where something fails. Returns its length.
+fn start_with<R: Files + AllocGlobal, E: Write>(
+    rt: &R,
+    log: &mut FolderLog<'_, R>,
+    node: &mut Node,
+    err: &mut E,
+) -> Result<u64, Fault> {
     let length = recover(rt, log.file(), node)?;
     cut_behind(log.file(), length, err).map_err(Fault::Unopened)?;
-    let length = write_anew(rt, &mut log, node, length, err)?;
+    let length = write_anew(rt, log, node, length, err)?;
     let entries = node.start().map_err(Fault::Stopped)?;
-    let more = append_entries(rt.alloc(), &mut log, &entries).map_err(Fault::LogLost)?;
+    let more = append_entries(rt.alloc(), log, &entries).map_err(Fault::LogLost)?;
     log.sync_place().map_err(Fault::Unopened)?;
-    Ok((log, length.saturating_add(more)))
+    Ok(length.saturating_add(more))
 }
 
 // Why the log cannot be opened.

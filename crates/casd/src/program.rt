@@ -64,11 +64,23 @@ fn run_node<R: Files + AllocGlobal, I: Read + Drop, O: Write, E: Write>(
 ) -> Result<(), Fault> {
     let file = read_file(rt, file, number)?;
     let mut node = Node::new(rt.alloc(), file, number);
-    let (mut log, length) = open_log(rt, folder, &mut node, err)?;
-    let Ok(mut input) = BufReader::with_capacity(rt.alloc(), INPUT_BUFFER, input) else {
-        return Err(Fault::NoMemory);
-    };
-    serve(rt, &mut node, &mut input, output, &mut log, length, err)
+    open_and_serve(rt, &mut node, folder, input, output, err)
+}
+
+// Opens the node's log, and serves until the input ends.
+fn open_and_serve<R: Files + AllocGlobal, I: Read + Drop, O: Write, E: Write>(
+    rt: &R,
+    node: &mut Node,
+    folder: &str,
+    input: I,
+    output: &mut O,
+    err: &mut E,
+) -> Result<(), Fault> {
+    let (mut log, length) = open_log(rt, folder, node, err)?;
+    match BufReader::with_capacity(rt.alloc(), INPUT_BUFFER, input) {
+        Ok(mut input) => serve(rt, node, &mut input, output, &mut log, length, err),
+        Err(_) => Err(Fault::NoMemory),
+    }
 }
 
 // The node handles the frames of the input, until it ends. Whenever the log has grown much, which has so many bytes at
