@@ -23,7 +23,7 @@ mod reading;
 /// A request that names a tag takes time logarithmic in the number of tags, and any other request takes constant time.
 /// With `delta`, a request that finalizes a tag may also scan pre-written tags that come to lie below all tags whose
 /// pieces are kept. Amortised over all requests, each tag is scanned at most once.
-#[derive(Debug, Drop)]
+#[derive(Debug)]
 pub struct Bank {
     rows: BTreeMap<Tag, Row>,
     // The greatest finalized tag.
@@ -36,6 +36,20 @@ pub struct Bank {
     // The step at which the bank was retired. It keeps no piece from then on.
     retired: Option<Stamp>,
     alloc: Global,
+}
+
+impl Drop for Bank {
+    fn drop(self) {
+        let Self {
+            rows: _,
+            greatest: _,
+            bytes: _,
+            pointer: _,
+            window: _,
+            retired: _,
+            alloc: _,
+        } = self;
+    }
 }
 
 impl Model for Bank {

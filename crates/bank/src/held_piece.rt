@@ -7,9 +7,15 @@ use std::marker::Model;
 use tag::Refusal;
 
 /// A piece on the heap, so that an answer without a piece takes little room.
-#[derive(Debug, Drop)]
+#[derive(Debug)]
 pub struct HeldPiece {
     piece: Box<Piece>,
+}
+
+impl Drop for HeldPiece {
+    fn drop(self) {
+        let Self { piece: _ } = self;
+    }
 }
 
 impl Model for HeldPiece {

@@ -23,13 +23,25 @@ mod views;
 
 /// A call that is not answered: what it does, the value that it settled, its current phase, and the stage at which that
 /// phase began.
-#[derive(Debug, Drop)]
+#[derive(Debug)]
 pub struct Call {
     id: CallId,
     kind: CallKind,
     settled: Option<Bytes>,
     stage: Stage,
     phase: Phase,
+}
+
+impl Drop for Call {
+    fn drop(self) {
+        let Self {
+            id: _,
+            kind: _,
+            settled: _,
+            stage: _,
+            phase: _,
+        } = self;
+    }
 }
 
 impl Model for Call {

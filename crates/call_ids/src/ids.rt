@@ -12,13 +12,23 @@ const IDS: u64 = 1 << 32;
 
 /// The source of the ids of one node's calls. The count of an epoch begins at 0 and is not kept anywhere else. So a
 /// node begins an epoch each time it starts, and its log keeps how many epochs it began.
-#[derive(Debug, Drop)]
+#[derive(Debug)]
 pub struct CallIds {
     node: u8,
     // How many epochs were begun.
     epoch: u32,
     // How many ids the epoch gave.
     given: u64,
+}
+
+impl Drop for CallIds {
+    fn drop(self) {
+        let Self {
+            node: _,
+            epoch: _,
+            given: _,
+        } = self;
+    }
 }
 
 impl Model for CallIds {

@@ -6,19 +6,37 @@ use std::rt::Files;
 use std::{fs, io};
 
 /// The file `log` in a folder. The second log is the file `log.new` beside it.
-#[derive(Drop)]
 pub struct FolderLog<'a, R: Files> {
     files: &'a R,
     names: Names,
     log: LogFile<R::File>,
 }
 
+impl<'a, R: Files> Drop for FolderLog<'a, R> {
+    fn drop(self) {
+        let Self {
+            files: _,
+            names: _,
+            log: _,
+        } = self;
+    }
+}
+
 // The names of a folder, and of the two logs in it.
-#[derive(Drop)]
 struct Names {
     folder: String,
     log: String,
     second: String,
+}
+
+impl Drop for Names {
+    fn drop(self) {
+        let Self {
+            folder: _,
+            log: _,
+            second: _,
+        } = self;
+    }
 }
 
 /// The file `log.new`, which is written from its start on.

@@ -26,13 +26,22 @@ mod finish;
 mod moves;
 
 /// A cluster under one lock, for the seats of one name, with a number of coding workers.
-#[derive(Drop)]
 pub struct Store<L: StoreName> {
     booked: Mutex<Booked<L>>,
     workers: usize,
     alloc: Global,
     // The workers are few enough for the coding of each value.
     ghost few: { workers ≤ MOST_WORKERS },
+}
+
+impl<L: StoreName> Drop for Store<L> {
+    fn drop(self) {
+        let Self {
+            booked: _,
+            workers: _,
+            alloc: _,
+        } = self;
+    }
 }
 
 /// A store with its seats and its administrator.

@@ -38,7 +38,7 @@ pub type LayoutId = u32;
 ///
 /// Calls are named by their number in their object, from 1. Messages are named by their place in the object's mail,
 /// from 0.
-#[derive(Debug, Drop)]
+#[derive(Debug)]
 pub struct Cluster {
     servers: Servers,
     layouts: Vec<Layout>,
@@ -52,6 +52,21 @@ pub struct Cluster {
     mailed: u64,
     // The number of calls of all objects.
     called: u64,
+}
+
+impl Drop for Cluster {
+    fn drop(self) {
+        let Self {
+            servers: _,
+            layouts: _,
+            objects: _,
+            counter: _,
+            stored: _,
+            loads: _,
+            mailed: _,
+            called: _,
+        } = self;
+    }
 }
 
 impl Model for Cluster {

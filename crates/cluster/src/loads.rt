@@ -8,9 +8,15 @@ use std::marker::Model;
 use tag::MOST_SERVERS;
 
 /// How many bytes each server stores.
-#[derive(Debug, Drop)]
+#[derive(Debug)]
 pub struct Loads {
     bytes: ArrayVec<u64, MOST_SERVERS>,
+}
+
+impl Drop for Loads {
+    fn drop(self) {
+        let Self { bytes: _ } = self;
+    }
 }
 
 impl Model for Loads {

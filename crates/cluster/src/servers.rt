@@ -7,9 +7,15 @@ use std::marker::Model;
 use tag::MOST_SERVERS;
 
 /// Whether each server is up.
-#[derive(Debug, Drop)]
+#[derive(Debug)]
 pub struct Servers {
     up: ArrayVec<bool, MOST_SERVERS>,
+}
+
+impl Drop for Servers {
+    fn drop(self) {
+        let Self { up: _ } = self;
+    }
 }
 
 impl Model for Servers {

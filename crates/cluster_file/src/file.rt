@@ -16,7 +16,7 @@ use tag::MOST_SERVERS;
 pub const DIGEST_LENGTH: usize = 16;
 
 // What is fixed when the cluster is first started.
-#[derive(Debug, Drop)]
+#[derive(Debug)]
 pub(crate) struct Fixed {
     pub nodes: ArrayVec<u8, MOST_SERVERS>,
     pub n: u8,
@@ -25,13 +25,35 @@ pub(crate) struct Fixed {
     pub mover: u8,
 }
 
+impl Drop for Fixed {
+    fn drop(self) {
+        let Self {
+            nodes: _,
+            n: _,
+            k: _,
+            delta: _,
+            mover: _,
+        } = self;
+    }
+}
+
 /// What all nodes of a cluster agree on: the settings that are fixed when the cluster is first started, the nodes that
 /// joined later, and how long calls wait.
-#[derive(Debug, Drop)]
+#[derive(Debug)]
 pub struct ClusterFile {
     fixed: Fixed,
     later: ArrayVec<u8, MOST_SERVERS>,
     ticks: u32,
+}
+
+impl Drop for ClusterFile {
+    fn drop(self) {
+        let Self {
+            fixed: _,
+            later: _,
+            ticks: _,
+        } = self;
+    }
 }
 
 impl Model for ClusterFile {

@@ -13,10 +13,19 @@ pub enum State {
 }
 
 /// A client's connection: the commands that wait on it, oldest first, and what it is doing.
-#[derive(Debug, Drop)]
+#[derive(Debug)]
 pub struct Connection {
     pub waiting: VecDeque<Frame>,
     pub state: State,
+}
+
+impl Drop for Connection {
+    fn drop(self) {
+        let Self {
+            waiting: _,
+            state: _,
+        } = self;
+    }
 }
 
 impl Connection {

@@ -12,10 +12,19 @@ use std::collections::VecDeque;
 
 /// The connections of clients. The commands of one connection are carried out one after another: the next one is given
 /// out only when the one before it has been answered.
-#[derive(Debug, Drop)]
+#[derive(Debug)]
 pub struct Connections {
     alloc: Global,
     pub by_number: IndexMap<u64, Connection>,
+}
+
+impl Drop for Connections {
+    fn drop(self) {
+        let Self {
+            alloc: _,
+            by_number: _,
+        } = self;
+    }
 }
 
 impl Connections {

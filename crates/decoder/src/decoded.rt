@@ -14,11 +14,21 @@ use tag::{MOST_MEMBERS, Refusal};
 const FEW_PIECES: usize = 16;
 
 /// A value with the `k` pieces from which it was decoded. Only `decode` makes one.
-#[derive(Debug, Drop)]
+#[derive(Debug)]
 pub struct Decoded {
     k: u8,
     pieces: Vec<Piece>,
     value: Bytes,
+}
+
+impl Drop for Decoded {
+    fn drop(self) {
+        let Self {
+            k: _,
+            pieces: _,
+            value: _,
+        } = self;
+    }
 }
 
 impl Model for Decoded {
@@ -44,7 +54,12 @@ impl Decoded {
     pub fn into_value(self) -> Bytes
         ensures { result ≡ self.value }
     {
-        self.value
+        let Self {
+            k: _,
+            pieces: _,
+            value,
+        } = self;
+        value
     }
 
     /// Returns the `k` pieces, in the order in which they were given.

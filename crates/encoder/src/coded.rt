@@ -12,13 +12,24 @@ use std::marker::Model;
 use tag::{LONGEST_VALUE, MOST_MEMBERS, Refusal};
 
 /// A value with its `n` pieces, any `k` of which determine it.
-#[derive(Debug, Drop)]
+#[derive(Debug)]
 pub struct Coded {
     k: u8,
     n: u8,
     value: Bytes,
     /// The piece at the point `i` stands at place `i`.
     pieces: Vec<Piece>,
+}
+
+impl Drop for Coded {
+    fn drop(self) {
+        let Self {
+            k: _,
+            n: _,
+            value: _,
+            pieces: _,
+        } = self;
+    }
 }
 
 impl Model for Coded {

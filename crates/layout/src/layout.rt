@@ -13,11 +13,17 @@ use tag::{MOST_MEMBERS, Refusal};
 
 /// A layout: which servers keep the fragments of a value, and `k`, the number of fragments that give the value back.
 /// Its n members are numbered from 0, and a member's number is the point of its fragments.
-#[derive(Debug, PartialEq, Eq, Drop)]
+#[derive(Debug, PartialEq, Eq)]
 pub struct Layout {
     k: u8,
     // The servers, by member number.
     members: ArrayVec<u8, MOST_MEMBERS>,
+}
+
+impl Drop for Layout {
+    fn drop(self) {
+        let Self { k: _, members: _ } = self;
+    }
 }
 
 impl Model for Layout {

@@ -7,11 +7,20 @@ use std::marker::Model;
 const PLACES: usize = 256;
 
 /// A set of numbers from 0 to 255, of members or servers, in an array of fixed size.
-#[derive(Debug, Drop)]
+#[derive(Debug)]
 pub struct MemberSet {
     // By member number, whether the member was inserted.
     present: [bool; PLACES],
     count: usize,
+}
+
+impl Drop for MemberSet {
+    fn drop(self) {
+        let Self {
+            present: _,
+            count: _,
+        } = self;
+    }
 }
 
 impl Model for MemberSet {

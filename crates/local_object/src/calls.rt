@@ -21,9 +21,15 @@ use std::marker::Model;
 use tag::{CallId, Refusal};
 
 /// The calls that a node carries out on an object, in the order in which they began. No two have the same id.
-#[derive(Debug, Drop)]
+#[derive(Debug)]
 pub struct Calls {
     calls: Vec<Call>,
+}
+
+impl Drop for Calls {
+    fn drop(self) {
+        let Self { calls: _ } = self;
+    }
 }
 
 impl Model for Calls {

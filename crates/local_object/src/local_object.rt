@@ -27,7 +27,7 @@ mod views;
 /// If a function is refused with `NoMemory`, an allocation was refused, and its contract says nothing of the object:
 /// the node stops, and starts again from its log. Every other refusal changes nothing. If several refusals apply, the
 /// first in the order NotNow, MovePending, TooLong, Full, NoMemory is returned.
-#[derive(Debug, Drop)]
+#[derive(Debug)]
 pub struct LocalObject {
     // The number of the node.
     node: u8,
@@ -36,6 +36,18 @@ pub struct LocalObject {
     places: Places,
     calls: Calls,
     alloc: Global,
+}
+
+impl Drop for LocalObject {
+    fn drop(self) {
+        let Self {
+            node: _,
+            delta: _,
+            places: _,
+            calls: _,
+            alloc: _,
+        } = self;
+    }
 }
 
 impl Model for LocalObject {

@@ -18,9 +18,15 @@ use tag::Refusal;
 
 /// The positions of an object that a node has heard of, in the order in which it heard of them. Position 0 is among
 /// them.
-#[derive(Debug, Drop)]
+#[derive(Debug)]
 pub struct Places {
     places: Vec<Place>,
+}
+
+impl Drop for Places {
+    fn drop(self) {
+        let Self { places: _ } = self;
+    }
 }
 
 impl Model for Places {

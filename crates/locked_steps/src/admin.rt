@@ -16,7 +16,6 @@ use tag::{CallId, Refusal, Stamp};
 
 /// The one administrator of a store: the right to add layouts, to create and move objects, to retire positions, and to
 /// bring servers up and take them down. It has at most one move that is not answered.
-#[derive(Drop)]
 pub struct Admin<L: StoreName> {
     // The move that is not answered, and the name of its object.
     pub(crate) pending: Option<PendingMove>,
@@ -28,6 +27,19 @@ pub struct Admin<L: StoreName> {
     // The cluster as the last order left it. Only contracts see it.
     pub(crate) left: Snapshot<Cluster>,
     pub(crate) of: PhantomData<L>,
+}
+
+impl<L: StoreName> Drop for Admin<L> {
+    fn drop(self) {
+        let Self {
+            pending: _,
+            name: _,
+            orders: _,
+            asked: _,
+            left: _,
+            of: _,
+        } = self;
+    }
 }
 
 /// A move that the administrator began and that is not answered.

@@ -19,7 +19,7 @@ pub enum Begin {
 }
 
 /// A call that a seat began.
-#[derive(Debug, Drop)]
+#[derive(Debug)]
 pub struct CallRecord {
     /// The object's place in the order of creation, from 0.
     pub object: u32,
@@ -35,6 +35,20 @@ pub struct CallRecord {
     pub called: Stamp,
     /// The receipt; none before the answer.
     pub receipt: Option<Receipt>,
+}
+
+impl Drop for CallRecord {
+    fn drop(self) {
+        let Self {
+            object: _,
+            call: _,
+            kind: _,
+            written: _,
+            floor: _,
+            called: _,
+            receipt: _,
+        } = self;
+    }
 }
 
 impl Begin {

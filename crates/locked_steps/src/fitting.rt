@@ -141,24 +141,7 @@ pub(crate) fn account<L: StoreName>(mut book: Book<L>, mut own: Share<L>, mut se
     ensures { book.total ≡ length (all_records seats.items) }
 {
     while let Some(seat) = seats.pop() {
-        own.merge(share_of(seat));
+        own.merge(seat.into_share());
     }
     book.audit(&mut own);
-}
-
-// The share of the store's book that a seat holds.
-fn share_of<L: StoreName>(seat: Seat<L>) -> Share<L>
-    ensures parts { result.parts ≡ 1 }
-    ensures amount { result.amount ≡ length (records_of seat) }
-{
-    let Seat {
-        number: _,
-        floor: _,
-        asked: _,
-        records: _,
-        pending: _,
-        name: _,
-        share,
-    } = seat;
-    share
 }

@@ -1,9 +1,11 @@
 //! A client's seat: its calls with their receipts, and what it has seen.
 
-ghost use Rattle.std.specs.Prelude.{◌≡◌, ◌<◌, ◌≤◌, ◌↔◌, IsTrue, IsSome, IfErr, OnOk, vec_len, vec_capacity};
+ghost use Rattle.std.specs.Prelude.{◌≡◌, ◌<◌, ◌≤◌, ◌↔◌, IsTrue, IsSome, IfErr, OnOk, length};
+ghost use Rattle.std.specs.Prelude.{vec_len, vec_capacity};
 ghost use Rattle.std.specs.String.{string_bytes};
 ghost use Rattle.tag.specs.declared.refusal.Refusal.TheVariants.{NoMemory};
-ghost use Rattle.locked_steps.specs.Seats.{IsReceiptOfPending, SettlesPending, abandoned, asked_once, learnt, new_seat};
+ghost use Rattle.locked_steps.specs.Seats.{IsReceiptOfPending, SettlesPending};
+ghost use Rattle.locked_steps.specs.Seats.{abandoned, asked_once, learnt, new_seat, records_of};
 
 use crate::booked::StoreName;
 use crate::call_record::CallRecord;
@@ -16,7 +18,6 @@ use tag::{Refusal, Stamp};
 
 /// The right of one client to make calls through the store of this name, one at a time. It keeps a record of each call,
 /// and its floor: the greatest answer step that it has seen.
-#[derive(Drop)]
 pub struct Seat<L: StoreName> {
     pub(crate) number: u32,
     pub(crate) floor: Stamp,
@@ -29,6 +30,20 @@ pub struct Seat<L: StoreName> {
     pub(crate) name: String,
     // Its share of the store's book, with one unit for each record.
     pub(crate) share: Share<L>,
+}
+
+impl<L: StoreName> Drop for Seat<L> {
+    fn drop(self) {
+        let Self {
+            number: _,
+            floor: _,
+            asked: _,
+            records: _,
+            pending: _,
+            name: _,
+            share: _,
+        } = self;
+    }
 }
 
 impl<L: StoreName> Model for Seat<L> {
@@ -80,6 +95,23 @@ impl<L: StoreName> Seat<L> {
         ensures { result ≡ self.now.asked }
     {
         self.asked
+    }
+
+    /// Returns its share of the store's book, and drops the rest.
+    pub(crate) fn into_share(self) -> Share<L>
+        ensures parts { result.parts ≡ 1 }
+        ensures amount { result.amount ≡ length (records_of self) }
+    {
+        let Self {
+            number: _,
+            floor: _,
+            asked: _,
+            records: _,
+            pending: _,
+            name: _,
+            share,
+        } = self;
+        share
     }
 
     /// Counts a round that was made with `asks_again`.

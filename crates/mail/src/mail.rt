@@ -15,7 +15,7 @@ use tag::{CallId, MOST_BYTES, MOST_MESSAGES, Refusal};
 
 /// The mail of an object: its messages that wait to be handled. The place of a message is its index in the list, from
 /// 0.
-#[derive(Debug, Drop)]
+#[derive(Debug)]
 pub struct Mail {
     messages: Vec<Message>,
     // For each message an upper bound of the call numbers of all messages up to it. It does not change when earlier
@@ -23,6 +23,16 @@ pub struct Mail {
     bounds: Vec<CallId>,
     // The number of bytes of the pieces in all messages.
     bytes: u64,
+}
+
+impl Drop for Mail {
+    fn drop(self) {
+        let Self {
+            messages: _,
+            bounds: _,
+            bytes: _,
+        } = self;
+    }
 }
 
 impl Model for Mail {

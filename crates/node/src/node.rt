@@ -41,13 +41,23 @@ mod ticks;
 /// A node of a cluster: what it keeps of each object, the calls that it carries out, and its clients.
 ///
 /// A node never waits and never asks for the time. It gets one frame after another, and returns what is to be done.
-#[derive(Drop)]
 pub struct Node {
     alloc: Global,
     pub(crate) keeper: Keeper,
     desk: Desk,
     // Whether the log has the entry that names the cluster and the node.
     is_named: bool,
+}
+
+impl Drop for Node {
+    fn drop(self) {
+        let Self {
+            alloc: _,
+            keeper: _,
+            desk: _,
+            is_named: _,
+        } = self;
+    }
 }
 
 impl Node {

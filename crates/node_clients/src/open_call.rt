@@ -8,7 +8,7 @@ use node_effects::NodeError;
 use node_strings::ConnectionId;
 
 /// A call that this node carries out.
-#[derive(Debug, Drop)]
+#[derive(Debug)]
 pub struct OpenCall {
     /// The name of its object.
     pub name: Bytes,
@@ -20,8 +20,19 @@ pub struct OpenCall {
     pub age: u32,
 }
 
+impl Drop for OpenCall {
+    fn drop(self) {
+        let Self {
+            name: _,
+            client: _,
+            is_move: _,
+            age: _,
+        } = self;
+    }
+}
+
 /// What `Desk::aged` returns of an open call that a tick has made older.
-#[derive(Debug, Drop)]
+#[derive(Debug)]
 pub struct Aged {
     /// The name of its object.
     pub name: Bytes,
@@ -31,6 +42,17 @@ pub struct Aged {
     pub is_late: bool,
     /// Whether its requests are to be sent again to the members that have not replied.
     pub asks_again: bool,
+}
+
+impl Drop for Aged {
+    fn drop(self) {
+        let Self {
+            name: _,
+            is_move: _,
+            is_late: _,
+            asks_again: _,
+        } = self;
+    }
 }
 
 impl OpenCall {

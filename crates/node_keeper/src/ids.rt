@@ -7,10 +7,16 @@ use std::marker::Model;
 use tag::CallId;
 
 /// The source of the ids of a node's calls. It also keeps the number of the node.
-#[derive(Debug, Drop)]
+#[derive(Debug)]
 pub struct OwnIds {
     number: u8,
     ids: CallIds,
+}
+
+impl Drop for OwnIds {
+    fn drop(self) {
+        let Self { number: _, ids: _ } = self;
+    }
 }
 
 impl Model for OwnIds {

@@ -21,13 +21,24 @@ mod weighing;
 ///
 /// If a function fails, its contract says nothing about what the node keeps, because the node stops and starts again
 /// from its log.
-#[derive(Drop)]
 pub struct Keeper {
     alloc: Global,
     pub file: ClusterFile,
     pub digest: [u8; DIGEST_LENGTH],
     pub ids: OwnIds,
     pub objects: Objects,
+}
+
+impl Drop for Keeper {
+    fn drop(self) {
+        let Self {
+            alloc: _,
+            file: _,
+            digest: _,
+            ids: _,
+            objects: _,
+        } = self;
+    }
 }
 
 impl Keeper {

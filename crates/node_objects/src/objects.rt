@@ -25,7 +25,6 @@ mod requests;
 ///
 /// If a function is refused with `NoMemory`, its contract says nothing about the objects, because the node stops and
 /// starts again from its log. Every other refusal changes no object.
-#[derive(Drop)]
 pub struct Objects {
     alloc: Global,
     // The number of the node.
@@ -36,6 +35,18 @@ pub struct Objects {
     placement: ClusterNodes,
     // The objects of which the node has heard.
     by_name: IndexMap<Bytes, LocalObject>,
+}
+
+impl Drop for Objects {
+    fn drop(self) {
+        let Self {
+            alloc: _,
+            number: _,
+            delta: _,
+            placement: _,
+            by_name: _,
+        } = self;
+    }
 }
 
 impl Objects {

@@ -15,11 +15,20 @@ const MOST_BYTES: usize = 1_048_576;
 
 /// Bytes that wait to be written, in this order: frames that depend on none of the entries, entries for the log, and
 /// frames that may depend on entries.
-#[derive(Drop)]
 pub(crate) struct Batch {
     pub early: Vec<u8>,
     pub log: Vec<u8>,
     pub output: Vec<u8>,
+}
+
+impl Drop for Batch {
+    fn drop(self) {
+        let Self {
+            early: _,
+            log: _,
+            output: _,
+        } = self;
+    }
 }
 
 impl Batch {

@@ -49,7 +49,7 @@ pub enum Took {
 }
 
 /// A phase of a call: what it asks of the members of a position, and the replies that it took.
-#[derive(Debug, Drop)]
+#[derive(Debug)]
 pub struct Phase {
     ask: Ask,
     start: Stamp,
@@ -60,6 +60,19 @@ pub struct Phase {
     quorum: u8,
     // How many pieces a fetch needs.
     needed: u8,
+}
+
+impl Drop for Phase {
+    fn drop(self) {
+        let Self {
+            ask: _,
+            start: _,
+            replies: _,
+            members: _,
+            quorum: _,
+            needed: _,
+        } = self;
+    }
 }
 
 impl Model for Phase {

@@ -11,11 +11,21 @@ use tag::{MOST_MEMBERS, Refusal};
 
 /// The nodes of a cluster, with the `k` and the `n` of the layouts that names have before any move. All nodes of a
 /// cluster use the same ones from the first start on; nodes that join later are not among them.
-#[derive(Debug, Drop)]
+#[derive(Debug)]
 pub struct ClusterNodes {
     k: u8,
     n: u8,
     nodes: ArrayVec<u8, MOST_MEMBERS>,
+}
+
+impl Drop for ClusterNodes {
+    fn drop(self) {
+        let Self {
+            k: _,
+            n: _,
+            nodes: _,
+        } = self;
+    }
 }
 
 impl Model for ClusterNodes {

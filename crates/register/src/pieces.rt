@@ -2,6 +2,7 @@
 
 ghost use Rattle.std.specs.Prelude.{◌≡◌, option_copied};
 ghost use Rattle.std.specs.List.{list_all};
+ghost use Rattle.decoder.specs.Decoded.{IsDecoded};
 ghost use Rattle.register.specs.Coding.{bytes_eq, is_coded_for, same_piece, is_recorded, is_decoded_from, piece_by};
 
 use bank::Answer;
@@ -52,9 +53,11 @@ fn is_recorded(replies: &[Taken], piece: &Piece) -> bool
 
 /// Returns whether the value was decoded from k pieces, each carried by one of the recorded replies.
 pub(crate) fn is_decoded_from(k: u8, replies: &[Taken], decoded: &Decoded) -> bool
-    ensures { result ≡ is_decoded_from k replies.now decoded.now }
+    ensures value { result ≡ is_decoded_from k replies.now decoded.now }
+    ensures decoded { IsDecoded decoded.now }
 {
-    decoded.k() == k && are_recorded(replies, decoded.pieces())
+    let pieces = decoded.pieces();
+    decoded.k() == k && are_recorded(replies, pieces)
 }
 
 // Whether each of these pieces is carried by one of the recorded replies.

@@ -11,10 +11,19 @@ use std::marker::Model;
 use tag::{Refusal, Stamp};
 
 /// A position of an object: its layout, and a bank for each member.
-#[derive(Debug, Drop)]
+#[derive(Debug)]
 pub struct Position {
     layout: Layout,
     banks: Vec<Bank>,
+}
+
+impl Drop for Position {
+    fn drop(self) {
+        let Self {
+            layout: _,
+            banks: _,
+        } = self;
+    }
 }
 
 impl Model for Position {

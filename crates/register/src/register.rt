@@ -25,7 +25,7 @@ mod views;
 /// refusals apply, it returns the first of them in the order NoCall, NoMessage, NotNow, MovePending, TooLong,
 /// Collected, WrongCode, Full, NoMemory. `NoMemory` means that an allocation was refused; a method whose comment says
 /// that it allocates no memory never returns it.
-#[derive(Debug, Drop)]
+#[derive(Debug)]
 pub struct Register {
     // How many finalized versions the banks keep beside the newest. None where they keep all.
     delta: Option<u32>,
@@ -40,6 +40,21 @@ pub struct Register {
     // The number of bytes of all pieces in all banks.
     stored: u64,
     last: Stamp,
+}
+
+impl Drop for Register {
+    fn drop(self) {
+        let Self {
+            delta: _,
+            positions: _,
+            base: _,
+            mail: _,
+            calls: _,
+            is_moving: _,
+            stored: _,
+            last: _,
+        } = self;
+    }
 }
 
 impl Model for Register {

@@ -36,7 +36,7 @@ mod resending;
 mod views;
 
 /// A call of an object, with its phases.
-#[derive(Debug, Drop)]
+#[derive(Debug)]
 pub struct TrackedCall {
     called: Stamp,
     answered: Option<Stamp>,
@@ -46,6 +46,18 @@ pub struct TrackedCall {
     stage: Stage,
     // The call with its current phase. It stays as it is once the call is answered.
     call: Call,
+}
+
+impl Drop for TrackedCall {
+    fn drop(self) {
+        let Self {
+            called: _,
+            answered: _,
+            finished: _,
+            stage: _,
+            call: _,
+        } = self;
+    }
 }
 
 impl Model for TrackedCall {

@@ -11,6 +11,6 @@ loop-seat-preserved g c =
     let m = ap (λ l. length (all_records l)) popped in
     record {
       parts = search rules;
-      amount = omega (arith, n, m, c.loop-seat.invariant.amount, c.merge.ensures.amount, c.share_of.ensures.amount);
+      amount = omega (arith, n, m, c.loop-seat.invariant.amount, c.merge.ensures.amount, c.into_share.ensures.amount);
       total = refl;
     }

@@ -1,6 +1,5 @@
-use Rattle.std.proofs.Common.{sym, subst, ◌∙◌, refl}
+use Rattle.std.proofs.Common.{sym, ◌∙◌, refl}
 use Rattle.tag.specs.declared.refusal.Refusal.TheVariants.{NotNow, Collected}
-use Rattle.decoder.specs.Decoded.{IsDecoded}
 use Rattle.register.proofs.FoundCallLemmas.{is_found, wanting, below_those, few_those, current_again, not_settle}
 use Rattle.register.proofs.SettleLemmas.{settle_refused, settle_wrong, settle_none, settle_past, settle_is, settle_kept, settled_as, told}
 use Rattle.register.proofs.SettleLemmas.{may_settle}
@@ -36,14 +35,14 @@ pub returns-then-not-is_decoded_from-clause-cause : goal.returns-then-not-is_dec
 returns-then-not-is_decoded_from-clause-cause c =
     let f = is_found c.self.invariant c.in_ok-index.ensures.place c.deref.ensures.value c.index.ensures in
     let w = wanting f c.want_of.ensures c.deref-2.ensures.value c.in-Settle.is in
-    let wrong = sym (told c.in-Settle.k c.args.decoded c.is_decoded_from.ensures c.replies.ensures) ∙ c.if-not-is_decoded_from.true in
+    let wrong = sym (told c.in-Settle.k c.args.decoded c.is_decoded_from.ensures.value c.replies.ensures) ∙ c.if-not-is_decoded_from.true in
     rw (← c.self.view_is) (settle_wrong w (current_again f c.index-2.ensures c.in-Some.ensures) c.args.decoded c.args.now wrong)
 
 pub returns-then-now-gt-MOST_STEPS-clause-cause : goal.returns-then-now-gt-MOST_STEPS-clause-cause
 returns-then-now-gt-MOST_STEPS-clause-cause c =
     let f = is_found c.self.invariant c.in_ok-index.ensures.place c.deref.ensures.value c.index.ensures in
     let w = wanting f c.want_of.ensures c.deref-2.ensures.value c.in-Settle.is in
-    let right = sym (told c.in-Settle.k c.args.decoded c.is_decoded_from.ensures c.replies.ensures) ∙ c.if-not-is_decoded_from.false in
+    let right = sym (told c.in-Settle.k c.args.decoded c.is_decoded_from.ensures.value c.replies.ensures) ∙ c.if-not-is_decoded_from.false in
     rw (← c.self.view_is)
     (settle_past w (current_again f c.index-2.ensures c.in-Some.ensures) c.args.decoded c.args.now right c.if-now-gt-MOST_STEPS.true)
 
@@ -51,7 +50,7 @@ pub returns : goal.returns
 returns c =
     let f = is_found c.self.invariant c.in_ok-index.ensures.place c.deref.ensures.value c.index.ensures in
     let w = wanting f c.want_of.ensures c.deref-2.ensures.value c.in-Settle.is in
-    let right = sym (told c.in-Settle.k c.args.decoded c.is_decoded_from.ensures c.replies.ensures) ∙ c.if-not-is_decoded_from.false in
+    let right = sym (told c.in-Settle.k c.args.decoded c.is_decoded_from.ensures.value c.replies.ensures) ∙ c.if-not-is_decoded_from.false in
     let new = settled_as f c.index_mut.ensures.value c.settle.ensures c.into_value.ensures in
     record {
       cause = rw (← c.self.view_is)
@@ -65,8 +64,8 @@ pub invariant_of-self : goal.invariant_of-self
 invariant_of-self c =
     let f = is_found c.self.invariant c.in_ok-index.ensures.place c.deref.ensures.value c.index.ensures in
     let w = wanting f c.want_of.ensures c.deref-2.ensures.value c.in-Settle.is in
-    let right = sym (told c.in-Settle.k c.args.decoded c.is_decoded_from.ensures c.replies.ensures) ∙ c.if-not-is_decoded_from.false in
+    let right = sym (told c.in-Settle.k c.args.decoded c.is_decoded_from.ensures.value c.replies.ensures) ∙ c.if-not-is_decoded_from.false in
     let current = current_again f c.index-2.ensures c.in-Some.ensures in
     let new = settled_as f c.index_mut.ensures.value c.settle.ensures c.into_value.ensures in
     settle_kept f c.args.decoded.value c.args.now new c.self.view_is c.requires.after
-    (may_settle w current c.args.decoded (subst IsDecoded c.decoded.view_is c.decoded.invariant) right)
+    (may_settle w current c.args.decoded c.is_decoded_from.ensures.decoded right)
