@@ -1,5 +1,5 @@
-//! Whole commands at nodes: tests alone. They stand in a crate of their own, so that `node` is proved once and not
-//! twice.
+//! Whole commands at nodes, and what nodes keep of objects. There are only tests. They stand in a crate of their own,
+//! so that the libraries are proved once and not twice.
 #![tactic(auto)]
 
 #[cfg(test)]
@@ -8,5 +8,7 @@ mod alone;
 mod anew;
 #[cfg(test)]
 mod commands;
+#[cfg(test)]
+mod objects;
 #[cfg(test)]
 mod order;

@@ -1,0 +1,8 @@
+//! The cluster file, with texts and faults that were written by hand, and the layouts that it gives to names, which
+//! were computed by another program.
+mod digests;
+mod faults;
+mod placed;
+mod read;
+mod rows;
+mod spread;

@@ -1,0 +1,158 @@
+//! Nodes of one object, and the letters between them.
+use super::checks::{assert_prints, is_request};
+use bytes::Bytes;
+use layout::Layout;
+use local_object::{Ended, Letter, LocalObject};
+use std::alloc::Global;
+use std::collections::VecDeque;
+use std::process::Abort;
+
+// More letters than any call here takes.
+const ENOUGH: u32 = 10_000;
+
+/// What a node does with a call.
+#[derive(Clone, Copy)]
+pub(crate) enum Act {
+    Read,
+    Write(&'static [u8]),
+    /// Begins a move to the layout with this k and these members.
+    Move(u8, &'static [u8]),
+    /// Sends the letters again that were not answered.
+    Resend,
+}
+
+/// A step of a test: one node acts, and then all letters are handled, those too that are sent meanwhile.
+pub(crate) struct Step {
+    pub(crate) node: u8,
+    pub(crate) id: u64,
+    pub(crate) act: Act,
+    /// Letters to this node are lost.
+    pub(crate) down: Option<u8>,
+    /// The call that was answered last, as it is printed for debugging.
+    pub(crate) ended: &'static str,
+}
+
+/// The nodes 0 to 3, and letters that are under way, each with the node that sent it.
+#[derive(Drop)]
+struct Nodes {
+    nodes: Vec<LocalObject>,
+    mail: VecDeque<(u8, Letter)>,
+    // Letters to this node are lost.
+    down: Option<u8>,
+    // The call that was answered last.
+    ended: Option<Ended>,
+}
+
+/// Plays these steps at four nodes, which have the members 0, 1 and 2 first.
+pub(crate) fn play(rt: &impl Abort, alloc: Global, steps: &[Step]) {
+    let mut nodes = four_nodes(rt, alloc);
+    for step in steps {
+        nodes.play(rt, alloc, step);
+    }
+}
+
+fn layout(rt: &impl Abort, k: u8, members: &[u8]) -> Layout {
+    Layout::new(k, members).expect(rt, "a layout")
+}
+
+fn four_nodes(rt: &impl Abort, alloc: Global) -> Nodes {
+    let mut nodes = Nodes {
+        nodes: Vec::new(alloc),
+        mail: VecDeque::new(alloc),
+        down: None,
+        ended: None,
+    };
+    for node in 0..4u8 {
+        nodes.add(rt, alloc, node);
+    }
+    nodes
+}
+
+impl Nodes {
+    fn add(&mut self, rt: &impl Abort, alloc: Global, node: u8) {
+        let object = LocalObject::new(alloc, node, None, layout(rt, 2, &[0, 1, 2]));
+        self.nodes
+            .push(object.expect(rt, "memory"))
+            .expect(rt, "memory");
+    }
+
+    fn node(&mut self, rt: &impl Abort, node: u8) -> &mut LocalObject {
+        self.nodes
+            .get_mut(usize::from(node))
+            .expect(rt, "one of the nodes")
+    }
+
+    fn play(&mut self, rt: &impl Abort, alloc: Global, step: &Step) {
+        let letters = self.act(rt, step);
+        self.send(rt, step.node, letters);
+        self.down = step.down;
+        self.run(rt);
+        assert_prints(rt, alloc, &self.ended, step.ended);
+    }
+
+    fn act(&mut self, rt: &impl Abort, step: &Step) -> Vec<Letter> {
+        let node = self.node(rt, step.node);
+        let letters = match step.act {
+            Act::Read => node.begin_read(step.id),
+            Act::Write(text) => node.begin_write(step.id, Bytes::from_static(text)),
+            Act::Move(k, members) => node.begin_move(step.id, layout(rt, k, members)),
+            Act::Resend => node.resend(step.id),
+        };
+        letters.expect(rt, "letters")
+    }
+
+    fn send(&mut self, rt: &impl Abort, node: u8, letters: Vec<Letter>) {
+        for letter in letters {
+            self.mail.push_back((node, letter)).expect(rt, "memory");
+        }
+    }
+
+    // Handles all letters in the order in which they were sent.
+    fn run(&mut self, rt: &impl Abort) {
+        for _ in 0..ENOUGH {
+            let Some((from, letter)) = self.mail.pop_front() else {
+                return;
+            };
+            self.handle(rt, from, letter);
+        }
+    }
+
+    fn handle(&mut self, rt: &impl Abort, from: u8, letter: Letter) {
+        if is_request(&letter) {
+            self.serve(rt, from, letter);
+        } else {
+            self.take(rt, from, letter);
+        }
+    }
+
+    // The member that a request names serves it.
+    fn serve(&mut self, rt: &impl Abort, from: u8, letter: Letter) {
+        let node = member(rt, &letter);
+        if self.down == Some(node) {
+            return;
+        }
+        let reply = self.node(rt, node).serve(letter).expect(rt, "memory");
+        self.mail
+            .push_back((from, reply.expect(rt, "a reply")))
+            .expect(rt, "memory");
+    }
+
+    // A call of the node takes the reply.
+    fn take(&mut self, rt: &impl Abort, node: u8, letter: Letter) {
+        let progress = self.node(rt, node).take(letter).expect(rt, "memory");
+        self.note(progress.ended);
+        self.send(rt, node, progress.letters);
+    }
+
+    fn note(&mut self, ended: Option<Ended>) {
+        if ended.is_some() {
+            self.ended = ended;
+        }
+    }
+}
+
+// The node to which a request is sent.
+fn member(rt: &impl Abort, letter: &Letter) -> u8 {
+    assert!(rt; letter.message.member < letter.layout.n());
+    letter.layout.member(letter.message.member)
+}
