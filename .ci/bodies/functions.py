@@ -126,7 +126,8 @@ def joined_paths(words):
 
 
 def owner_of(words):
-    """The owner that an impl's head names: `impl<T> From<Failed<T>> for Fault` gives FaultFromFailed."""
+    """The owner that an impl's head names: `impl<T> From<Failed<T>> for Fault` gives FaultFromFailed. A check names the
+    method of an impl of Drop by the type alone."""
     parameters = []
     if words[:1] == ["<"]:
         depth, at = 0, 0
@@ -143,6 +144,8 @@ def owner_of(words):
     owner = [it for it in without_brackets(words[cut + 1 :]) if re.fullmatch(r"\w+", it)][-1]
     names = without_brackets(words[:cut])
     trait = [it for it in names if re.fullmatch(r"\w+", it)][-1]
+    if trait == "Drop":
+        return owner
     behind = joined_paths(words[:cut][len(names) :])
     arguments = [it for it in behind if re.fullmatch(r"[A-Za-z]\w+", it) and it not in parameters]
     return owner + trait + "".join(arguments)
