@@ -42,7 +42,8 @@ pub returns-then-now-gt-MOST_STEPS-clause-cause : goal.returns-then-now-gt-MOST_
 returns-then-now-gt-MOST_STEPS-clause-cause c =
     let f = is_found c.self.invariant c.in_ok-index.ensures.place c.deref.ensures.value c.index.ensures in
     let w = wanting f c.want_of.ensures c.deref-2.ensures.value c.in-Settle.is in
-    let right = sym (told c.in-Settle.k c.args.decoded c.is_decoded_from.ensures.value c.replies.ensures) ∙ c.if-not-is_decoded_from.false in
+    let right = sym (told c.in-Settle.k c.args.decoded c.is_decoded_from.ensures.value c.replies.ensures)
+    ∙ c.if-not-is_decoded_from.false in
     rw (← c.self.view_is)
     (settle_past w (current_again f c.index-2.ensures c.in-Some.ensures) c.args.decoded c.args.now right c.if-now-gt-MOST_STEPS.true)
 
@@ -50,7 +51,8 @@ pub returns : goal.returns
 returns c =
     let f = is_found c.self.invariant c.in_ok-index.ensures.place c.deref.ensures.value c.index.ensures in
     let w = wanting f c.want_of.ensures c.deref-2.ensures.value c.in-Settle.is in
-    let right = sym (told c.in-Settle.k c.args.decoded c.is_decoded_from.ensures.value c.replies.ensures) ∙ c.if-not-is_decoded_from.false in
+    let right = sym (told c.in-Settle.k c.args.decoded c.is_decoded_from.ensures.value c.replies.ensures)
+    ∙ c.if-not-is_decoded_from.false in
     let new = settled_as f c.index_mut.ensures.value c.settle.ensures c.into_value.ensures in
     record {
       cause = rw (← c.self.view_is)
@@ -64,7 +66,8 @@ pub invariant_of-self : goal.invariant_of-self
 invariant_of-self c =
     let f = is_found c.self.invariant c.in_ok-index.ensures.place c.deref.ensures.value c.index.ensures in
     let w = wanting f c.want_of.ensures c.deref-2.ensures.value c.in-Settle.is in
-    let right = sym (told c.in-Settle.k c.args.decoded c.is_decoded_from.ensures.value c.replies.ensures) ∙ c.if-not-is_decoded_from.false in
+    let right = sym (told c.in-Settle.k c.args.decoded c.is_decoded_from.ensures.value c.replies.ensures)
+    ∙ c.if-not-is_decoded_from.false in
     let current = current_again f c.index-2.ensures c.in-Some.ensures in
     let new = settled_as f c.index_mut.ensures.value c.settle.ensures c.into_value.ensures in
     settle_kept f c.args.decoded.value c.args.now new c.self.view_is c.requires.after
