@@ -47,7 +47,8 @@ pub fn open_log<'a, R: Files + AllocGlobal, E: Write>(
     Ok((log, length))
 }
 
-// Does what `open_log` does with the opened log, which it need not drop where something fails. Returns its length.
+// Has the node carry out the opened log again, writes it anew if that is worth it, and begins an epoch, as `open_log`
+// says. Returns the log's length. The log is borrowed, so that it is not dropped at each error here.
 fn start_with<R: Files + AllocGlobal, E: Write>(
     rt: &R,
     log: &mut FolderLog<'_, R>,
