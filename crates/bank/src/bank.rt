@@ -1,9 +1,9 @@
-ghost use Rattle.std.specs.Prelude.{◌≡◌, ℕ, ◌<◌, ◌^◌, IsTrue, option_copied};
+ghost use Rattle.std.specs.Prelude.{◌≡◌, ℕ, ◌<◌, ◌^◌, IsTrue};
 ghost use Rattle.std.specs.Prelude.{IfOk, IfErr, OnOk, OnErr, IsOk, IsNone};
 ghost use Rattle.tag.specs.declared.refusal.Refusal.TheVariants.{NoMemory};
 
 use crate::window::{self, Window};
-use crate::{Answer, Arrival, HeldPiece, Label, Pointer, Reply, Row, Status, rows};
+use crate::{Answer, Arrival, Label, Pointer, Reply, Row, Status, rows};
 use bytes::Bytes;
 use piece::Piece;
 use std::alloc::Global;
@@ -68,10 +68,9 @@ impl Model for Bank {
 }
 
 impl Bank {
-    ghost use Rattle.std.specs.FinMap as map;
     ghost use Rattle.bank.specs.Bank.{opened_bank, pre_written, finalized, with_pointer, knows};
     ghost use Rattle.bank.specs.Bytes.{bank_bytes};
-    ghost use Rattle.bank.specs.Collect.{collected, IsCollected, fetched_piece, retired_bank};
+    ghost use Rattle.bank.specs.Collect.{collected, fetched_piece, retired_bank};
     ghost use Rattle.bank.specs.Facts.{IsBefore, IsGreatest, IsServed};
     ghost use Rattle.bank.specs.Pointer.{status_of, raised};
     ghost use Rattle.bank.specs.Serve.{greatest_final};
@@ -234,28 +233,5 @@ impl Bank {
             self.retired = Some(now);
         }
         freed
-    }
-
-    // A copy of the piece that a fetch of the tag returns, if there is one.
-    fn copy_to_answer(&self, tag: Tag) -> Result<Option<HeldPiece>, Refusal>
-        ensures copy { IfOk result (λ p. p ≡ fetched_piece self.now tag) }
-        ensures refused { IfErr result (λ e. e ≡ NoMemory) }
-        ensures none { IsNone (fetched_piece self.now tag) → IsOk result }
-        ensures collected { IsCollected self.now }
-    {
-        if self.retired.is_some() || window::is_excluded(self.window, tag) {
-            return Ok(None);
-        }
-        match self.row_of(tag) {
-            Some(row) => row.copy_of_piece(self.alloc),
-            None => Ok(None),
-        }
-    }
-
-    // The row of the tag, if the bank knows the tag.
-    fn row_of(&self, tag: Tag) -> Option<&Row>
-        ensures { option_copied result ≡ map.get self.now.rows tag }
-    {
-        self.rows.get(&tag)
     }
 }

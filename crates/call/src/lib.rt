@@ -6,7 +6,9 @@
 pub use call::Call;
 pub use messages::{request_to, requests};
 pub use next::Next;
+pub use receipt::{CallView, Receipt};
 
 mod call;
 mod messages;
 mod next;
+mod receipt;

@@ -2,7 +2,7 @@
 -- How a round changes the seat or the administrator that makes it.
 use Rattle.std.specs.Prelude.{◌≡◌, ◌⊎◌, Bool, true, false, length}
 use Rattle.encoder.specs.Coded.{IsCodable}
-use Rattle.register.specs.declared.receipt.Receipt.{Receipt}
+use Rattle.call.specs.declared.receipt.Receipt.{Receipt}
 use Rattle.driver.specs.Coding.{GiveBack}
 use Rattle.driver.specs.declared.round.Round.{Round}
 use Rattle.driver.specs.declared.round.Round.TheVariants as round

@@ -5,7 +5,7 @@ use Rattle.tag.specs.Refusal.{IsByCause, IsExactlyByCause}
 use Rattle.tag.specs.Cause.{IsRefusalBy}
 use Rattle.tag.specs.declared.refusal.Refusal.{Refusal}
 use Rattle.layout.specs.Layout.{Layout}
-use Rattle.register.specs.declared.receipt.Receipt.{Receipt}
+use Rattle.call.specs.declared.receipt.Receipt.{Receipt}
 use Rattle.cluster.specs.Accounts.{stored_all}
 use Rattle.cluster.specs.Cluster.{Cluster}
 use Rattle.cluster.specs.Causes.{layout_cause, create_cause, server_cause}

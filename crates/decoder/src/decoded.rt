@@ -57,9 +57,9 @@ impl Decoded {
         let Self {
             k: _,
             pieces: _,
-            value,
+            value: decoded,
         } = self;
-        value
+        decoded
     }
 
     /// Returns the `k` pieces, in the order in which they were given.

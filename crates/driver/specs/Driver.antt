@@ -15,7 +15,7 @@ use Rattle.register.specs.Causes.{call_at, number_cause, advance_cause, supplyin
 use Rattle.register.specs.Causes.{again_cause, is_plain}
 use Rattle.register.specs.State.{State}
 use Rattle.register.specs.View.{want_at, receipt_at}
-use Rattle.register.specs.declared.receipt.Receipt.{Receipt}
+use Rattle.call.specs.declared.receipt.Receipt.{Receipt}
 use Rattle.cluster.specs.Cluster.{Cluster, named, if_named, place_of}
 use Rattle.cluster.specs.Causes.{next, object_cause}
 use Rattle.cluster.specs.Preconditions.{MayMake}

@@ -5,7 +5,7 @@ use Rattle.tag.specs.declared.refusal.Refusal.{Refusal}
 use Rattle.tag.specs.declared.refusal.Refusal.TheVariants.{NoMemory}
 use Rattle.record.specs.Steps.{Step}
 use Rattle.register.specs.Causes.{read_cause, write_cause}
-use Rattle.register.specs.declared.receipt.Receipt.{Receipt}
+use Rattle.call.specs.declared.receipt.Receipt.{Receipt}
 use Rattle.cluster.specs.Causes.{next, object_cause, moving_cause}
 use Rattle.cluster.specs.Cluster.{Cluster, next_call_id, if_named, layout_numbered}
 use Rattle.cluster.specs.Preconditions.{MayMake}

@@ -13,7 +13,7 @@ use Rattle.record.specs.Journals.{operation_of, entry_of}
 use Rattle.record.specs.Records.{Call, Object}
 use Rattle.register.specs.Causes.{call_at}
 use Rattle.register.specs.State.{State}
-use Rattle.register.specs.declared.receipt.Receipt.{Receipt}
+use Rattle.call.specs.declared.receipt.Receipt.{Receipt}
 use Rattle.register.proofs.ListLemmas.{same_some}
 use Rattle.cluster.specs.Accounts.{object_sum}
 use Rattle.cluster.specs.Cluster.{Named, Cluster, if_some}

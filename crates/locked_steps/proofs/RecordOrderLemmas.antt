@@ -3,7 +3,7 @@ use Rattle.std.proofs.Common.{◌≡◌, ℕ, ◌+◌, ◌<◌, ◌≤◌, List,
 use Rattle.std.proofs.Common.{length-append}
 use Rattle.std.specs.Prelude.{Option, is_some}
 use Rattle.std.proofs.lemmas.List.{append-nil}
-use Rattle.register.specs.declared.receipt.Receipt.{Receipt}
+use Rattle.call.specs.declared.receipt.Receipt.{Receipt}
 use Rattle.locked_steps.specs.declared.call_record.CallRecord.{CallRecord}
 use Rattle.locked_steps.specs.Seats.{IsRising, IsAnsweredLater, least_after, pending_list, pending_of}
 

@@ -20,7 +20,7 @@ use Rattle.record.specs.Wants.{current_phase}
 use Rattle.register.specs.Causes.{call_at, is_plain, answer_cause}
 use Rattle.register.specs.State.{State}
 use Rattle.register.specs.View.{value_at, want_at, receipt_of, receipt_at}
-use Rattle.register.specs.declared.receipt.Receipt.{Receipt}
+use Rattle.call.specs.declared.receipt.Receipt.{Receipt}
 use Rattle.register.proofs.ListLemmas.{same_some}
 use Rattle.register.proofs.RoomLemmas.{step_within}
 use Rattle.cluster.specs.Causes.{next, object_cause}

@@ -6,7 +6,7 @@ use Rattle.std.specs.List.Sorted.{IsPermutation}
 use Rattle.record.specs.declared.call.Entry.{Entry}
 use Rattle.record.specs.declared.call.Operation.{Operation}
 use Rattle.record.specs.declared.call.Operation.TheVariants as operation
-use Rattle.register.specs.declared.receipt.Receipt.{Receipt}
+use Rattle.call.specs.declared.receipt.Receipt.{Receipt}
 use Rattle.cluster.specs.Cluster.{Cluster}
 use Rattle.locked_steps.specs.declared.call_record.CallRecord.{CallRecord}
 use Rattle.locked_steps.specs.Calls.{Shown, entry_of_call, history}

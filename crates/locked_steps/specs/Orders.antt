@@ -13,7 +13,7 @@ use Rattle.cluster.specs.Cluster.{Cluster, if_named, named, place_of}
 use Rattle.cluster.specs.Causes.{next, object_cause, layout_cause, create_cause, server_cause, moving_cause}
 use Rattle.cluster.specs.Steps.{with_step, with_layout, with_server, created, moved}
 use Rattle.locked_steps.specs.Moves.{Moving, AdminState, EndsCall, asked_if, has_asked, move_receipt, ordered_by}
-use Rattle.register.specs.declared.receipt.Receipt.{Receipt}
+use Rattle.call.specs.declared.receipt.Receipt.{Receipt}
 use Rattle.locked_steps.specs.Seats.{call_count}
 use Rattle.locked_steps.specs.declared.admin.Order.{Order}
 use Rattle.locked_steps.specs.declared.admin.Order.TheVariants as order

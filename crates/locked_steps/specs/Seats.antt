@@ -11,7 +11,7 @@ use Rattle.record.specs.Records.{Object}
 use Rattle.record.specs.Steps.{Step}
 use Rattle.register.specs.Causes.{unless, read_cause, write_cause}
 use Rattle.register.specs.State.{State}
-use Rattle.register.specs.declared.receipt.Receipt.{Receipt}
+use Rattle.call.specs.declared.receipt.Receipt.{Receipt}
 use Rattle.cluster.specs.Cluster.{Cluster, named, place_of}
 use Rattle.cluster.specs.Causes.{next, object_cause}
 use Rattle.locked_steps.specs.Course.{IsStateOf}

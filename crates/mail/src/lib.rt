@@ -12,6 +12,7 @@ ghost use Rattle.mail.specs.Message.{message_bytes};
 pub use mail::Mail;
 pub use message::{Body, Message};
 
+mod bounds;
 mod mail;
 mod message;
 

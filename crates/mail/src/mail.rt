@@ -1,14 +1,15 @@
-ghost use Rattle.std.specs.Prelude.{◌≡◌, ◌+◌, ◌<◌, ◌≤◌, ◌==◌, ◌++◌, ℕ, [], length, nat_le, slice_get, slice_index};
+ghost use Rattle.std.specs.Prelude.{◌≡◌, ◌+◌, ◌<◌, ◌≤◌, ◌==◌, ◌++◌, [], length, nat_le, slice_get};
 ghost use Rattle.std.specs.Prelude.{remove, Some, OnOk, OnErr};
 ghost use Rattle.tag.specs.Refusal.{IsByCause};
 ghost use Rattle.tag.specs.declared.limits.TheConstants.{MOST_BYTES, MOST_MESSAGES};
 ghost use Rattle.bank.specs.Answer.{answer_bytes};
-ghost use Rattle.mail.specs.Bounds.{AreOthers, AreRising, bounds_from, last_bound};
+ghost use Rattle.mail.specs.Bounds.{AreOthers};
 ghost use Rattle.mail.specs.Mail.{is_within, mail_bytes, mail_cause, replied, repeated};
 
 use crate::Message;
+use crate::bounds::{add_bounds, first_at_least};
 use bank::Reply;
-use std::alloc::{AllocError, Global};
+use std::alloc::Global;
 use std::marker::Model;
 use std::slice;
 use tag::{CallId, MOST_BYTES, MOST_MESSAGES, Refusal};
@@ -178,49 +179,6 @@ impl Mail {
         self.bytes += bytes;
         Ok(())
     }
-}
-
-// Appends the bounds of more messages, which come behind those that have the bounds given. It appends none where the
-// list cannot grow.
-fn add_bounds(bounds: &mut Vec<CallId>, messages: &[Message]) -> Result<(), AllocError>
-    ensures added { OnOk result (bounds.new.items
-        ≡ bounds.old.items ++ bounds_from (last_bound 0 bounds.old.items) messages.now) }
-    ensures unchanged { OnErr result (bounds.new.items ≡ bounds.old.items) }
-{
-    bounds.reserve(messages.len())?;
-    let mut bound = last_of(bounds);
-    for message in messages {
-        bound = bound.max(message.call);
-        bounds.push_reserved(bound);
-    }
-    Ok(())
-}
-
-// The last bound, or 0 where there is none.
-fn last_of(bounds: &[CallId]) -> CallId
-    ensures { result ≡ last_bound 0 bounds.now }
-{
-    match bounds.last() {
-        Some(bound) => *bound,
-        None => 0,
-    }
-}
-
-// The place of the first bound that is at least `call`, or the number of bounds where there is none. The search goes
-// from the last bound to earlier ones, since the bounds rise.
-fn first_at_least(bounds: &[CallId], call: CallId) -> usize
-    requires { AreRising bounds.now }
-    ensures within { result ≤ length bounds.now }
-    ensures below { (place : ℕ) → place < result → slice_index bounds.now place < call }
-{
-    let mut first = bounds.len();
-    while first > 0 {
-        if bounds[first - 1] < call {
-            return first;
-        }
-        first -= 1;
-    }
-    0
 }
 
 // The number of bytes of the pieces in the messages.

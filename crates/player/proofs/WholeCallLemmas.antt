@@ -1,7 +1,7 @@
 -- A whole call comes to what is told of it.
 use Rattle.std.proofs.Common.{◌≡◌, ℕ, List, subst, Option, Result, Ok, Err, sym, refl, inl, inr}
 use Rattle.tag.specs.declared.refusal.Refusal.{Refusal}
-use Rattle.register.specs.declared.receipt.Receipt.{Receipt}
+use Rattle.call.specs.declared.receipt.Receipt.{Receipt}
 use Rattle.record.specs.Steps.{Step}
 use Rattle.cluster.specs.Cluster.{Cluster, next_call_id, layout_numbered}
 use Rattle.cluster.specs.Causes.{object_cause, moving_cause}

@@ -6,7 +6,7 @@ use Rattle.phase.specs.declared.phase.Took.{Took}
 use Rattle.printing.specs.declared.outcome.Outcome.TheVariants as outcome
 use Rattle.printing.specs.Outcome.{outcome_text}
 use Rattle.printing.specs.AnswerLine.{answer_text}
-use Rattle.register.specs.declared.receipt.Receipt.{Receipt}
+use Rattle.call.specs.declared.receipt.Receipt.{Receipt}
 use Rattle.driver.specs.declared.whole_call.NotAnswered.{NotAnswered}
 use Rattle.driver.specs.declared.whole_call.NotAnswered.TheVariants as unanswered
 use Rattle.player.specs.declared.report.Report.{Report}

@@ -3,7 +3,7 @@
 use Rattle.std.specs.Prelude.{ℕ, List, [], ◌∷◌, codes}
 use Rattle.std.specs.Fmt.{decimal}
 use Rattle.tag.specs.Tag.{tag_text}
-use Rattle.register.specs.declared.receipt.CallView.{CallView}
+use Rattle.call.specs.declared.receipt.CallView.{CallView}
 use Rattle.printing.specs.Vocabulary.{word_of_kind, word_of_operation, word_of_want}
 use Rattle.printing.specs.Words.{in_words, text_or_dash}
 

@@ -4,8 +4,8 @@ ghost use Rattle.words.specs.Hexadecimal.{hexadecimal_text};
 ghost use Rattle.printing.specs.AnswerLine.{answer_text, words_of_answer};
 
 use bytes::Bytes;
+use call::Receipt;
 use record::Operation;
-use register::Receipt;
 use std::fmt;
 use words::Hexadecimal;
 

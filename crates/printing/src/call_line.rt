@@ -4,7 +4,7 @@ ghost use Rattle.printing.specs.CallLine.{call_text};
 
 use crate::dash::TagOrDash;
 use crate::vocabulary::{kind_word, operation_word, want_word};
-use register::CallView;
+use call::CallView;
 use std::fmt;
 use tag::CallId;
 

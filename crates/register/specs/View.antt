@@ -13,8 +13,8 @@ use Rattle.record.specs.Records.{Call, Object, layout_at}
 use Rattle.record.specs.Journals.{tag_of, operation_of, entry_value}
 use Rattle.record.specs.Wants.{current_phase, want_of, viewed_tag}
 use Rattle.record.specs.Sending.{sent_value, value_or_empty}
-use Rattle.register.specs.declared.receipt.Receipt.{Receipt}
-use Rattle.register.specs.declared.receipt.CallView.{CallView}
+use Rattle.call.specs.declared.receipt.Receipt.{Receipt}
+use Rattle.call.specs.declared.receipt.CallView.{CallView}
 use Rattle.register.specs.Tracked.{took_call}
 use Rattle.register.specs.Coding.{pieces_due, least_of}
 use Rattle.register.specs.Causes.{call_at}

@@ -5,9 +5,9 @@ ghost use Rattle.record.specs.Fragments.{AreBytes};
 ghost use Rattle.register.specs.Act.{HasLawfulValues, IsActCause, act_cause, answered_by, step_of};
 ghost use Rattle.register.specs.State.{made, next_id};
 
-use crate::receipt::Receipt;
 use crate::register::Register;
 use bytes::Bytes;
+use call::Receipt;
 use decoder::Decoded;
 use encoder::Coded;
 use layout::Layout;

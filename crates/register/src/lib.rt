@@ -6,15 +6,14 @@
 #![tactic(auto)]
 
 pub use act::{Act, Answered};
+pub use call::{CallView, Receipt};
 pub use code::fragments_are_a_code;
-pub use receipt::{CallView, Receipt};
 pub use register::Register;
 
 mod act;
 mod code;
 mod pieces;
 mod position;
-mod receipt;
 mod register;
 mod requests;
 mod tracked_call;

@@ -7,7 +7,7 @@ use Rattle.std.proofs.Math.Nat.{suc-mul}
 use Rattle.std.proofs.lemmas.List.{append-nil}
 use Rattle.std.proofs.lemmas.List.Sums.{sum_by-append}
 use Rattle.tag.specs.declared.refusal.Refusal.{Refusal}
-use Rattle.register.specs.declared.receipt.Receipt.{Receipt}
+use Rattle.call.specs.declared.receipt.Receipt.{Receipt}
 use Rattle.locked_steps.specs.declared.call_record.CallRecord.{CallRecord}
 use Rattle.cluster.specs.Cluster.{Cluster}
 use Rattle.locked_steps.specs.Closing.{all_records, receipts_of}

@@ -1,13 +1,16 @@
-ghost use Rattle.std.specs.Prelude.{◌≡◌, ◌<◌, ◌-◌, ◌^◌, min, Some, slice_get};
+ghost use Rattle.std.specs.Prelude.{◌≡◌, ◌<◌, ◌-◌, ◌^◌, min, Some, slice_get, option_copied};
+ghost use Rattle.std.specs.Prelude.{IfOk, IfErr, IsOk, IsNone};
+ghost use Rattle.tag.specs.declared.refusal.Refusal.TheVariants.{NoMemory};
 
 use super::Bank;
-use crate::{Pointer, Row, rows};
+use crate::{HeldPiece, Pointer, Row, rows, window};
 use std::collections::btree_map::Iter;
-use tag::{Stamp, Tag};
+use tag::{Refusal, Stamp, Tag};
 
 impl Bank {
     ghost use Rattle.std.specs.FinMap as map;
     ghost use Rattle.bank.specs.Bytes.{bank_bytes};
+    ghost use Rattle.bank.specs.Collect.{IsCollected, fetched_piece};
 
     /// Returns the pointer to the next position.
     pub fn pointer(&self) -> Pointer
@@ -73,5 +76,28 @@ impl Bank {
         ensures { result ≡ min (bank_bytes self.now) (2 ^ 64 - 1) }
     {
         rows::bytes(&self.rows)
+    }
+
+    /// A copy of the piece that a fetch of the tag returns, if there is one.
+    pub(super) fn copy_to_answer(&self, tag: Tag) -> Result<Option<HeldPiece>, Refusal>
+        ensures copy { IfOk result (λ p. p ≡ fetched_piece self.now tag) }
+        ensures refused { IfErr result (λ e. e ≡ NoMemory) }
+        ensures none { IsNone (fetched_piece self.now tag) → IsOk result }
+        ensures collected { IsCollected self.now }
+    {
+        if self.retired.is_some() || window::is_excluded(self.window, tag) {
+            return Ok(None);
+        }
+        match self.row_of(tag) {
+            Some(row) => row.copy_of_piece(self.alloc),
+            None => Ok(None),
+        }
+    }
+
+    // The row of the tag, if the bank knows the tag.
+    fn row_of(&self, tag: Tag) -> Option<&Row>
+        ensures { option_copied result ≡ map.get self.now.rows tag }
+    {
+        self.rows.get(&tag)
     }
 }

@@ -3,7 +3,7 @@
 ghost use Rattle.std.specs.Prelude.{◌≡◌, IfErr, IfOk, OnErr};
 ghost use Rattle.tag.specs.declared.refusal.Refusal.{Refusal as RefusalOf};
 ghost use Rattle.tag.specs.declared.refusal.Refusal.TheVariants.{NoMemory};
-ghost use Rattle.register.specs.declared.receipt.Receipt.{Receipt as ReceiptOf};
+ghost use Rattle.call.specs.declared.receipt.Receipt.{Receipt as ReceiptOf};
 ghost use Rattle.cluster.specs.Cluster.{Cluster as ClusterOf};
 ghost use Rattle.locked_steps.specs.Course.{IsStateOf};
 ghost use Rattle.locked_steps.specs.Moves.{Ends, asked_if, has_asked};

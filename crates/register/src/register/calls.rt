@@ -15,12 +15,12 @@ ghost use Rattle.register.specs.Causes.{unless, if_step, read_cause, write_cause
 ghost use Rattle.register.specs.View.{receipt_at};
 
 use crate::position::Position;
-use crate::receipt::Receipt;
 use crate::register::Register;
 use crate::register::phases::{index_of, want_of};
 use crate::tracked_call::TrackedCall;
 use bank::{Kind, Status};
 use bytes::Bytes;
+use call::Receipt;
 use layout::Layout;
 use phase::Ask;
 use record::{CallKind, Operation, Want};

@@ -13,11 +13,11 @@ ghost use Rattle.register.specs.Causes.{call_at, number_cause};
 ghost use Rattle.register.specs.Position.{all_bytes};
 ghost use Rattle.register.specs.View.{view_at, value_at, phases_at, tag_at, bank_there};
 
-use crate::receipt::CallView;
 use crate::register::Register;
 use crate::register::phases::{index_of, want_of};
 use bank::{Bank, Kind};
 use bytes::Bytes;
+use call::CallView;
 use layout::Layout;
 use mail::Mail;
 use phase::Phase;

@@ -1,6 +1,6 @@
 use Rattle.std.proofs.Common.{inl, refl, ap}
 use Rattle.std.specs.Prelude.{option_map}
-use Rattle.register.specs.declared.receipt.CallView.{CallView}
+use Rattle.call.specs.declared.receipt.CallView.{CallView}
 use Rattle.printing.specs.CallLine.{call_text}
 use Rattle.player.specs.Shown.{line_of}
 use Rattle.player.proofs.PrintedLineLemmas.{prints_as}

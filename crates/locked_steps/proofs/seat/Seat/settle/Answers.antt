@@ -2,7 +2,7 @@ use Rattle.std.proofs.Common.{◌≡◌, ◌≤◌, ◌<◌, Some, length, refl,
 use Rattle.std.specs.Prelude.{Option}
 use Rattle.std.specs.String.{string_bytes}
 use Rattle.std.proofs.lemmas.List.{append-nil}
-use Rattle.register.specs.declared.receipt.Receipt.{Receipt}
+use Rattle.call.specs.declared.receipt.Receipt.{Receipt}
 use Rattle.locked_steps.specs.Seats.{pending_list, pending_of}
 use Rattle.locked_steps.specs.declared.call_record.CallRecord.{CallRecord}
 use Rattle.locked_steps.proofs.RecordOrderLemmas.{rising_settled, length_settled}

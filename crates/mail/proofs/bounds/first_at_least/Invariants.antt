@@ -1,5 +1,5 @@
 use Rattle.std.proofs.Common.{◌≤◌, length}
-use Rattle.mail.proofs.mail.first_at_least.Given as goal
+use Rattle.mail.proofs.bounds.first_at_least.Given as goal
 
 abbrev pub invariant-loop-first : goal.invariant-loop-first
 invariant-loop-first l = l.first ≤ length l.bounds

@@ -1,7 +1,7 @@
 use Rattle.std.proofs.Common.{◌≡◌, ◌+◌, ◌-◌, ◌≤◌, ◌++◌, drop, length}
 use Rattle.std.specs.Vec.{vec_len, vec_capacity}
 use Rattle.mail.specs.Bounds.{bounds_from, last_bound}
-use Rattle.mail.proofs.mail.add_bounds.Given as goal
+use Rattle.mail.proofs.bounds.add_bounds.Given as goal
 
 -- the bounds so far and those of the messages that are left, for which there is room
 abbrev pub invariant-loop-message : goal.invariant-loop-message
