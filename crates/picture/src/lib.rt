@@ -4,6 +4,7 @@
 
 pub use lane::Lane;
 pub use loss::Loss;
+pub use object_view::ObjectView;
 pub use picture::Picture;
 pub use plan::Plan;
 
@@ -14,6 +15,7 @@ mod lane;
 mod legend;
 mod loss;
 mod messages;
+mod object_view;
 mod omitted;
 mod phases;
 mod picture;

@@ -1,8 +1,8 @@
 //! The messages between calls and servers.
 use crate::loss::Loss;
+use crate::object_view::ObjectView;
 use crate::plan::Plan;
 use phase::{Phase, Taken};
-use register::Register;
 use std::fmt;
 use tag::{CallId, Stamp};
 
@@ -10,12 +10,12 @@ use tag::{CallId, Stamp};
 pub(crate) const MOST_REPLIES: usize = 4000;
 
 /// Returns how many calls, from the first on, have no more replies together than can be drawn.
-pub(crate) fn shown_calls(plan: &Plan, register: &Register) -> usize {
+pub(crate) fn shown_calls<O: ObjectView>(plan: &Plan, object: &O) -> usize {
     let mut replies: usize = 0;
     for (index, lane) in plan.lanes.iter().enumerate() {
         let call = lane.entry.call;
-        for place in 0..register.phase_count(call) {
-            if let Some(phase) = register.phase_view(call, place) {
+        for place in 0..object.phase_count(call) {
+            if let Some(phase) = object.phase_view(call, place) {
                 replies = replies.saturating_add(phase.replies().len());
             }
         }
@@ -27,28 +27,28 @@ pub(crate) fn shown_calls(plan: &Plan, register: &Register) -> usize {
 }
 
 /// Draws a thin line for each reply that was taken, from the step at which its request was served.
-pub(crate) fn draw_replies<W: fmt::Write>(
+pub(crate) fn draw_replies<W: fmt::Write, O: ObjectView>(
     f: &mut fmt::Formatter<W>,
     plan: &Plan,
-    register: &Register,
+    object: &O,
 ) -> fmt::Result {
-    for index in 0..shown_calls(plan, register) {
+    for index in 0..shown_calls(plan, object) {
         if let Some(lane) = plan.lanes.get(index) {
-            draw_replies_to(f, plan, register, lane.entry.call)?;
+            draw_replies_to(f, plan, object, lane.entry.call)?;
         }
     }
     Ok(())
 }
 
 // The replies that one call took.
-fn draw_replies_to<W: fmt::Write>(
+fn draw_replies_to<W: fmt::Write, O: ObjectView>(
     f: &mut fmt::Formatter<W>,
     plan: &Plan,
-    register: &Register,
+    object: &O,
     call: CallId,
 ) -> fmt::Result {
-    for index in 0..register.phase_count(call) {
-        if let Some(phase) = register.phase_view(call, index) {
+    for index in 0..object.phase_count(call) {
+        if let Some(phase) = object.phase_view(call, index) {
             draw_replies_of(f, plan, call, phase)?;
         }
     }
@@ -90,29 +90,29 @@ fn draw_reply<W: fmt::Write>(
 }
 
 /// Draws a line with a cross for each lost message.
-pub(crate) fn draw_losses<W: fmt::Write>(
+pub(crate) fn draw_losses<W: fmt::Write, O: ObjectView>(
     f: &mut fmt::Formatter<W>,
     plan: &Plan,
-    register: &Register,
+    object: &O,
     losses: &[Loss],
 ) -> fmt::Result {
     for loss in &losses[..losses.len().min(MOST_REPLIES)] {
-        draw_loss(f, plan, register, loss)?;
+        draw_loss(f, plan, object, loss)?;
     }
     Ok(())
 }
 
-fn draw_loss<W: fmt::Write>(
+fn draw_loss<W: fmt::Write, O: ObjectView>(
     f: &mut fmt::Formatter<W>,
     plan: &Plan,
-    register: &Register,
+    object: &O,
     loss: &Loss,
 ) -> fmt::Result {
     let call = plan.call_foot(loss.call);
     let server = plan.server_y(loss.position, loss.member);
     let (word, from, begin, end) = match loss.served {
         Some(served) => ("reply", served, server, call),
-        None => ("request", asked(register, loss), call, server),
+        None => ("request", asked(object, loss), call, server),
     };
     writeln!(
         f,
@@ -128,9 +128,9 @@ fn draw_loss<W: fmt::Write>(
 }
 
 // The step at which the phase of a lost message began.
-fn asked(register: &Register, loss: &Loss) -> Stamp {
+fn asked<O: ObjectView>(object: &O, loss: &Loss) -> Stamp {
     // Phases are numbered from 1.
-    match register.phase_view(loss.call, (loss.phase as usize).saturating_sub(1)) {
+    match object.phase_view(loss.call, (loss.phase as usize).saturating_sub(1)) {
         Some(phase) => phase.steps().0,
         None => loss.step,
     }

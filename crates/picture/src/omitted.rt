@@ -1,22 +1,22 @@
 //! What a picture leaves out.
 use crate::messages::shown_calls;
+use crate::object_view::ObjectView;
 use crate::plan::{LETTER, Plan};
 use crate::px::Px;
 use crate::server_lanes::MOST_TAGS;
-use register::Register;
 use std::fmt;
 
 /// Draws a line that says what is not drawn, where the order has `ordered` calls. It is empty if all is drawn.
-pub(crate) fn draw_omitted<W: fmt::Write>(
+pub(crate) fn draw_omitted<W: fmt::Write, O: ObjectView>(
     f: &mut fmt::Formatter<W>,
     plan: &Plan,
-    register: &Register,
+    object: &O,
     ordered: usize,
     y: Px,
 ) -> fmt::Result {
-    let letters = narrow_phases(plan, register);
-    let calls = plan.lanes.len().saturating_sub(shown_calls(plan, register));
-    let tags = tags_left_out(plan, register);
+    let letters = narrow_phases(plan, object);
+    let calls = plan.lanes.len().saturating_sub(shown_calls(plan, object));
+    let tags = tags_left_out(plan, object);
     let ordered = ordered.saturating_sub(plan.ordered(ordered));
     if letters == 0 && calls == 0 && tags == 0 && ordered == 0 {
         return Ok(());
@@ -41,12 +41,12 @@ fn draw_count<W: fmt::Write>(f: &mut fmt::Formatter<W>, these: &str, count: usiz
 }
 
 // How many phases have no room for their letter.
-fn narrow_phases(plan: &Plan, register: &Register) -> usize {
+fn narrow_phases<O: ObjectView>(plan: &Plan, object: &O) -> usize {
     let mut count: usize = 0;
     for lane in &plan.lanes {
         let call = lane.entry.call;
-        for index in 0..register.phase_count(call) {
-            if let Some(phase) = register.phase_view(call, index) {
+        for index in 0..object.phase_count(call) {
+            if let Some(phase) = object.phase_view(call, index) {
                 if plan.phase_width(phase).0 < LETTER {
                     count = count.saturating_add(1);
                 }
@@ -57,11 +57,11 @@ fn narrow_phases(plan: &Plan, register: &Register) -> usize {
 }
 
 // How many tags are not drawn in the lanes of servers.
-fn tags_left_out(plan: &Plan, register: &Register) -> usize {
+fn tags_left_out<O: ObjectView>(plan: &Plan, object: &O) -> usize {
     let mut count: usize = 0;
     for place in &plan.positions {
         for member in 0..place.members {
-            if let Some(bank) = register.bank_view(place.position, member) {
+            if let Some(bank) = object.bank_view(place.position, member) {
                 count = count.saturating_add(bank.count().saturating_sub(MOST_TAGS));
             }
         }

@@ -1,12 +1,12 @@
 //! The phases in the bars of the calls, and the values beside their ends.
 use crate::lane::Lane;
+use crate::object_view::ObjectView;
 use crate::plan::{LETTER, Plan, WORD};
 use crate::px::Px;
 use crate::text::{KindText, Short, kind_letter};
 use phase::Phase;
 use printing::kind_word;
 use record::Entry;
-use register::Register;
 use std::fmt;
 
 /// How far right of a call's end its value is.
@@ -22,15 +22,15 @@ const BOX_HEIGHT: u64 = 120;
 const LABEL_BASE: u64 = 115;
 
 /// Draws the phases of each call, with their kinds and positions, and the value of each call beside its end.
-pub(crate) fn draw_phases<W: fmt::Write>(
+pub(crate) fn draw_phases<W: fmt::Write, O: ObjectView>(
     f: &mut fmt::Formatter<W>,
     plan: &Plan,
-    register: &Register,
+    object: &O,
 ) -> fmt::Result {
     for lane in &plan.lanes {
         let call = lane.entry.call;
-        for index in 0..register.phase_count(call) {
-            if let Some(phase) = register.phase_view(call, index) {
+        for index in 0..object.phase_count(call) {
+            if let Some(phase) = object.phase_view(call, index) {
                 draw_phase(f, plan, lane, phase)?;
             }
         }

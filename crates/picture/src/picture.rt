@@ -4,6 +4,7 @@ use crate::frame::{draw_bands, draw_order, draw_steps};
 use crate::legend::{STYLE, draw_legend};
 use crate::loss::Loss;
 use crate::messages::{draw_losses, draw_replies};
+use crate::object_view::ObjectView;
 use crate::omitted::draw_omitted;
 use crate::phases::draw_phases;
 use crate::plan::{MARGIN, Plan};
@@ -11,7 +12,6 @@ use crate::px::Px;
 use crate::retired::draw_retired;
 use crate::server_lanes::draw_servers;
 use crate::text::Escaped;
-use register::Register;
 use std::fmt;
 
 /// The baseline of the heading.
@@ -26,32 +26,32 @@ const OMITTED_GAP: u64 = 360;
 /// A picture of an object. It prints as SVG. A run of 40 calls fits a screen. In the picture of a long run narrow
 /// phases have no words, and a line at the foot says what else is left out.
 #[derive(Clone, Copy)]
-pub struct Picture<'a> {
+pub struct Picture<'a, O> {
     /// The object's name.
     pub name: &'a str,
     /// Where lanes and steps are drawn.
     pub plan: &'a Plan,
     /// The object.
-    pub register: &'a Register,
+    pub object: &'a O,
     /// The numbers of the calls, in an order in which they follow one register.
     pub order: &'a [u64],
     /// The messages of the object that were lost.
     pub losses: &'a [Loss],
 }
 
-impl fmt::Display for Picture<'_> {
+impl<O: ObjectView> fmt::Display for Picture<'_, O> {
     fn fmt<W: fmt::Write>(&self, f: &mut fmt::Formatter<W>) -> fmt::Result {
-        let (plan, register) = (self.plan, self.register);
+        let (plan, object) = (self.plan, self.object);
         draw_head(f, self.name, plan, self.order.len())?;
         draw_bands(f, plan)?;
         draw_retired(f, plan)?;
         draw_steps(f, plan)?;
-        draw_replies(f, plan, register)?;
-        draw_losses(f, plan, register, self.losses)?;
+        draw_replies(f, plan, object)?;
+        draw_losses(f, plan, object, self.losses)?;
         write!(f, "{}", CallLanes(plan))?;
-        draw_phases(f, plan, register)?;
-        draw_servers(f, plan, register)?;
-        draw_foot(f, plan, register, self.order)?;
+        draw_phases(f, plan, object)?;
+        draw_servers(f, plan, object)?;
+        draw_foot(f, plan, object, self.order)?;
         writeln!(f, "</svg>")
     }
 }
@@ -93,14 +93,14 @@ fn draw_heading<W: fmt::Write>(f: &mut fmt::Formatter<W>, name: &str, plan: &Pla
 }
 
 // The order of the calls, the legend, and what is left out.
-fn draw_foot<W: fmt::Write>(
+fn draw_foot<W: fmt::Write, O: ObjectView>(
     f: &mut fmt::Formatter<W>,
     plan: &Plan,
-    register: &Register,
+    object: &O,
     order: &[u64],
 ) -> fmt::Result {
     let y = plan.legend_y(order.len());
     draw_order(f, plan, order)?;
     draw_legend(f, plan, y)?;
-    draw_omitted(f, plan, register, order.len(), y.plus(OMITTED_GAP))
+    draw_omitted(f, plan, object, order.len(), y.plus(OMITTED_GAP))
 }

@@ -1,7 +1,7 @@
 //! Where the servers of a position are drawn.
 use crate::drops::Drops;
+use crate::object_view::ObjectView;
 use bank::{Bank, Label};
-use register::Register;
 use std::alloc::{AllocError, Global};
 use tag::Stamp;
 
@@ -22,22 +22,22 @@ pub(crate) struct Place {
 
 impl Place {
     /// Returns the lanes of a position from the line `top` down; none if there is no such position.
-    pub(crate) fn of(
+    pub(crate) fn of<O: ObjectView>(
         alloc: Global,
-        register: &Register,
+        object: &O,
         position: u32,
         top: u64,
     ) -> Result<Option<Place>, AllocError> {
-        let Some(first) = register.bank_view(position, 0) else {
+        let Some(first) = object.bank_view(position, 0) else {
             return Ok(None);
         };
-        let members = match register.layout_view(position) {
+        let members = match object.layout_view(position) {
             Some(layout) => layout.n(),
             None => 0,
         };
         let mut drops = Vec::new(alloc);
         for member in 0..members {
-            if let Some(bank) = register.bank_view(position, member) {
+            if let Some(bank) = object.bank_view(position, member) {
                 drops.push(Drops::of(alloc, bank)?)?;
             }
         }

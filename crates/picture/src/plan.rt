@@ -3,11 +3,11 @@ ghost use Rattle.std.specs.Prelude.{◌≡◌, ◌<◌, ◌≤◌, IfOk, map};
 ghost use Rattle.picture.specs.Plan.{bar_end, right_of, x_of};
 
 use crate::lane::Lane;
+use crate::object_view::ObjectView;
 use crate::place::Place;
 use crate::px::Px;
 use phase::Phase;
 use record::Entry;
-use register::Register;
 use std::alloc::{AllocError, Global};
 use tag::{CallId, MOST_POSITIONS, Stamp};
 
@@ -81,7 +81,11 @@ pub struct Plan {
 impl Plan {
     /// Makes the plan for an object with these entries, each of which gets a lane. The only error is that memory is
     /// refused.
-    pub fn new(alloc: Global, register: &Register, entries: &[Entry]) -> Result<Plan, AllocError>
+    pub fn new<O: ObjectView>(
+        alloc: Global,
+        object: &O,
+        entries: &[Entry],
+    ) -> Result<Plan, AllocError>
         ensures { IfOk result (λ plan. map (λ lane. lane.entry) plan.lanes.items ≡ entries.now) }
     {
         let lanes = lanes_of(alloc, entries)?;
@@ -89,7 +93,7 @@ impl Plan {
         let mut bottom = down(CALLS_TOP, lanes.len() as u64, CALL);
         for position in 0..MOST_POSITIONS as u32 {
             let top = bottom.saturating_add(HEAD);
-            let Some(place) = Place::of(alloc, register, position, top)? else {
+            let Some(place) = Place::of(alloc, object, position, top)? else {
                 break;
             };
             bottom = down(top, u64::from(place.members), SERVER);
@@ -99,7 +103,7 @@ impl Plan {
             Some(place) => place.opened,
             None => 0,
         };
-        let last = register.last();
+        let last = object.last();
         let width = last.saturating_sub(first).saturating_mul(STEP);
         Ok(Plan {
             lanes,

@@ -1,11 +1,11 @@
 //! The lanes of the servers.
 use crate::drops::Drops;
+use crate::object_view::ObjectView;
 use crate::place::Place;
 use crate::plan::{MARGIN, Plan};
 use crate::px::Px;
 use crate::tag_marks::draw_tag;
 use bank::{Bank, Pointer};
-use register::Register;
 use std::fmt;
 use tag::Stamp;
 
@@ -28,22 +28,22 @@ const OPENED_TOP: u64 = 30;
 const STATUS_FOOT: u64 = 40;
 
 /// Draws a lane for each server of each position: when each tag came and was finalized, and when the pointer changed.
-pub(crate) fn draw_servers<W: fmt::Write>(
+pub(crate) fn draw_servers<W: fmt::Write, O: ObjectView>(
     f: &mut fmt::Formatter<W>,
     plan: &Plan,
-    register: &Register,
+    object: &O,
 ) -> fmt::Result {
     for place in &plan.positions {
-        draw_place(f, plan, register, place)?;
+        draw_place(f, plan, object, place)?;
     }
     Ok(())
 }
 
 // The lanes of the servers of one position.
-fn draw_place<W: fmt::Write>(
+fn draw_place<W: fmt::Write, O: ObjectView>(
     f: &mut fmt::Formatter<W>,
     plan: &Plan,
-    register: &Register,
+    object: &O,
     place: &Place,
 ) -> fmt::Result {
     let (x, y, position) = (Px(MARGIN), Px(place.top).less(HEADING_GAP), place.position);
@@ -52,26 +52,26 @@ fn draw_place<W: fmt::Write>(
         "<text class='head' x='{x}' y='{y}'>position {position}</text>"
     )?;
     for member in 0..place.members {
-        draw_server(f, plan, register, place, member)?;
+        draw_server(f, plan, object, place, member)?;
     }
     Ok(())
 }
 
 // The lane of one member of a position.
-fn draw_server<W: fmt::Write>(
+fn draw_server<W: fmt::Write, O: ObjectView>(
     f: &mut fmt::Formatter<W>,
     plan: &Plan,
-    register: &Register,
+    object: &O,
     place: &Place,
     member: u8,
 ) -> fmt::Result {
     let y = plan.server_y(place.position, member);
-    if let Some(server) = register.server(place.position, member) {
+    if let Some(server) = object.server(place.position, member) {
         let (x, base) = (Px(NAME_LEFT), y.plus(NAME_BASE));
         writeln!(f, "<text x='{x}' y='{base}'>server {server}</text>")?;
     }
     draw_line(f, plan, place.opened, y)?;
-    if let Some(bank) = register.bank_view(place.position, member) {
+    if let Some(bank) = object.bank_view(place.position, member) {
         draw_tags(f, plan, bank, place.drops.get(usize::from(member)), y)?;
         draw_pointer(f, plan, bank.pointer(), y)?;
     }

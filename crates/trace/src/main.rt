@@ -7,6 +7,7 @@ mod play;
 mod program;
 mod request;
 mod show;
+mod viewed;
 
 use fault::Fault;
 use program::run_words;

@@ -8,6 +8,7 @@ ghost use Rattle.trace.specs.Shown.{IsLoss, ShowsObject, IsWant, Shows, behind};
 use crate::fault::Fault;
 use crate::play::Played;
 use crate::request::{Form, Request};
+use crate::viewed::Viewed;
 use costs::CostLines;
 use exports::{EdnLines, Event, JsonLines, events};
 use history::sequence;
@@ -132,13 +133,14 @@ fn draw<'a, O: Write>(
 ) -> Result<(), Fault>
     ensures { IfErr result IsLoss }
 {
-    let Ok(plan) = Plan::new(alloc, register, entries) else {
+    let object = Viewed(register);
+    let Ok(plan) = Plan::new(alloc, &object, entries) else {
         return Err(Fault::Refused(Refusal::NoMemory));
     };
     let picture = Picture {
         name,
         plan: &plan,
-        register,
+        object: &object,
         order,
         losses,
     };
