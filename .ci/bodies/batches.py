@@ -5,10 +5,10 @@ import subprocess
 import tempfile
 from dataclasses import dataclass, replace
 
-from copies import Copy, copies_of, copy_proofs, is_bare, leave_open, without_bodies
+from copies import Copy, can_go_without_search, copies_of, copy_proofs, is_bare, leave_open, without_bodies, without_search
 from edits import edited_texts, read
 from kit import ABOVE, rtlib, words_above
-from verdicts import Report, Verdict
+from verdicts import NAMES, Report, Verdict
 
 
 @dataclass
@@ -17,6 +17,7 @@ class Result:
     verdict: Verdict
     why: str
     is_weak: bool = False  # refused only because a proof names what the edit took away
+    by_answer: bool = False  # refused since an answer by hand is wrong now
 
 
 def batches_of(edits):
@@ -43,8 +44,9 @@ def words_for(crate, edits):
 class Trial:
     """The checks of one crate with edits in it. What is proved in one of them is kept for the next."""
 
-    def __init__(self, crate, functions, jobs):
+    def __init__(self, crate, functions, jobs, by_answer=()):
         self.crate, self.functions, self.jobs = crate, functions, jobs
+        self.by_answer = set(by_answer)  # the names of the edits that were refused so when they were last tried
         self.seconds, self.checks = 0.0, 0
         self.kept = None
 
@@ -87,11 +89,31 @@ class Trial:
 
     def refused(self, report, edit):
         rows, is_weak = report.reasons(edit)
-        return Result(edit, Verdict.REFUSED, rows[0] if rows else "", is_weak)
+        told = self.wrong_answers(report, edit)
+        return Result(edit, Verdict.REFUSED, (told or rows or [""])[0], is_weak, bool(told))
+
+    def wrong_answers(self, report, edit):
+        return [row for row in report.errors_in_proofs(edit) if not NAMES.search(row)]
+
+    def unsearched(self, edits):
+        """The edits for which only the answers by hand are checked: those that an answer refused when they were last tried,
+        and the copies without an edit that stand beside no others."""
+        rest = [it for it in edits if not is_bare(it)]
+        some = [it for it in rest if it.name in self.by_answer and can_go_without_search(self.crate.folder, it)]
+        searched = [it.of for it in rest if isinstance(it, Copy) and it not in some]
+        return some + [it for it in edits if is_bare(it) and it.of not in searched and can_go_without_search(self.crate.folder, it)]
+
+    def verdict_of_unsearched(self, report, edit):
+        """What the answers by hand say of the edit, or None where they are all right."""
+        if is_bare(edit):
+            return Verdict.REFUSED if report.errors_in_proofs(edit) else Verdict.PASSES
+        return Verdict.REFUSED if self.wrong_answers(report, edit) else None
 
     def try_batch(self, edits):
         """Tries the edits by one check. Returns the results, and the edits that have to be tried alone."""
-        texts = edited_texts(self.crate.folder, [*edits, without_bodies(self.crate.folder, self.without_edit(edits))])
+        unsearched = self.unsearched(edits)
+        changed = [without_search(it) if it in unsearched else it for it in edits]
+        texts = edited_texts(self.crate.folder, [*changed, without_bodies(self.crate.folder, self.without_edit(edits))])
         report = self.check(texts, edits)
         if not report.reached_the_prover() or report.unread(texts):
             has_copies = any(isinstance(it, Copy) for it in edits)
@@ -106,7 +128,11 @@ class Trial:
             return [], edits
         results, alone = [], []
         for edit in edits:
-            verdict = report.verdict_of_bare(edit) if is_bare(edit) else report.verdict(edit)
+            if edit in unsearched:
+                verdict = self.verdict_of_unsearched(report, edit)
+                self.by_answer.discard(edit.name if verdict is None else "")
+            else:
+                verdict = report.verdict_of_bare(edit) if is_bare(edit) else report.verdict(edit)
             if verdict is Verdict.REFUSED:
                 results.append(self.refused(report, edit))
             elif verdict is Verdict.PASSES:

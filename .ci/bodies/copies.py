@@ -28,6 +28,30 @@ def is_bare(edit):
     return isinstance(edit, Copy) and edit.original is None
 
 
+# What stands before a function whose goals no search shall prove. Then only its answers by hand are checked.
+NO_SEARCH = "#[tactic(none)] "
+
+
+def can_go_without_search(folder, edit):
+    """Whether no function of the edit says itself how its goals are searched for."""
+    for it in [edit.of] if isinstance(edit, Copy) else edit.functions:
+        with open(f"{folder}/{it.path}", "rb") as file:
+            if not it.end or b"#[tactic" in file.read()[it.start : it.head]:
+                return False
+    return True
+
+
+def without_search(edit):
+    """The edit, with no search for proofs of the goals of its functions."""
+    if isinstance(edit, Copy):
+        changes = {path: [(a, b, f"\n\n{NO_SEARCH}{new[2:]}") for a, b, new in some] for path, some in edit.changes.items()}
+        return replace(edit, changes=changes)
+    changes = {path: list(some) for path, some in edit.changes.items()}
+    for it in edit.functions:
+        changes.setdefault(it.path, []).append((it.start, it.start, NO_SEARCH))
+    return replace(edit, changes=changes)
+
+
 def without_bodies(folder, functions):
     """An edit that takes away the bodies of these functions and keeps their lines. What a derive writes has no text."""
     changes = {}

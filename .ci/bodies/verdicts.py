@@ -97,6 +97,13 @@ class Report:
                     told.append((is_proof and bool(NAMES.search(row)), row))
         return [row for _, row in sorted(told, key=lambda it: it[0])], bool(told) and all(weak for weak, _ in told)
 
+    def errors_in_proofs(self, edit):
+        """The lines with an error in what was written by hand of the proofs of the edit's functions."""
+        names = [name for it in edit.functions for name in self.names_of(it)]
+        folders = tuple("proofs/" + name.partition("::")[2].replace("::", "/") + "/" for name in names)
+        rows = [(row, re.match(r"(?:\./)?(\S+?):\d+:\d+: error", row)) for row in self.lines]
+        return [row for row, at in rows if at and folders and at[1].startswith(folders)]
+
     def verdict(self, edit):
         """What the check says of an edit that lies in functions, or None where it has to be tried alone."""
         kinds = self.kinds_of(edit)
