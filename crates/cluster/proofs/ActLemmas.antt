@@ -1,6 +1,7 @@
 -- An act of the object that a look-up found: what the cluster keeps, and by what it is refused.
-use Rattle.std.proofs.Common.{◌≡◌, ℕ, pred, ◌+◌, ◌≤◌, Bool, true, false, List}
-use Rattle.std.proofs.Common.{length, Option, Some, None, Result, Ok, Err, inl, refl, sym, subst, arith}
+use Rattle.std.proofs.Common.{◌≡◌, ℕ, suc, pred, ◌+◌, ◌≤◌, Bool, true, false, List}
+use Rattle.std.proofs.Common.{length, Option, Some, None, Result, Ok, Err, IsErrAnd, inl, refl, sym, ◌∙◌, subst, arith}
+use Rattle.std.proofs.lemmas.Result.{err_from_is_err_and}
 use Rattle.tag.specs.declared.limits.TheConstants.{MOST_STEPS}
 use Rattle.tag.specs.declared.refusal.Refusal.{Refusal}
 use Rattle.indexmap.specs.IndexMap.{set_value_at}
@@ -8,12 +9,14 @@ use Rattle.layout.specs.Layout.{Layout}
 use Rattle.record.specs.Accounts as of
 use Rattle.record.specs.Records.{Object}
 use Rattle.record.specs.Steps.{Step}
-use Rattle.register.specs.Act.{IsActCause, IsCausedBy, act_cause, step_of, takes_memory}
+use Rattle.register.specs.Act.{IsActCause, IsCausedBy, act_cause, answered_by, step_of, takes_memory}
 use Rattle.register.specs.State.{State, made, next_id}
 use Rattle.register.specs.declared.act.Act.{Act}
 use Rattle.register.specs.declared.act.Act.TheVariants as act
+use Rattle.register.specs.declared.act.Answered.{Answered}
+use Rattle.register.specs.declared.act.Answered.TheVariants as answered
 use Rattle.cluster.specs.Acts.{ServersAllow, begun_by}
-use Rattle.cluster.specs.Cluster.{Cluster}
+use Rattle.cluster.specs.Cluster.{Cluster, if_some}
 use Rattle.cluster.specs.Kept.{IsKeptCluster}
 use Rattle.cluster.proofs.LookupLemmas.{Entry, IsAt}
 use Rattle.cluster.proofs.ObjectStepLemmas.{cluster_of, call_at, move_at, quiet_at}
@@ -30,6 +33,26 @@ none_by answer false none = none
 pub act_none : {T : Type 0} {cause : Option Refusal} (answer : T) (a : Act) → IsActCause a cause (Ok answer) → cause ≡ None
 act_none answer a none = none_by answer (takes_memory a) none
 
+ok_by : {T : Type 0} {cause : Option Refusal} (answer : T) (memory : Bool) → cause ≡ None → IsCausedBy memory cause (Ok answer)
+ok_by answer true none = none
+ok_by answer false none = none
+
+-- an act that was made, whatever else its result says
+pub act_ok : {T U : Type 0} (cause : Option Refusal) (answer : T) (other : U) (a : Act) → IsActCause a cause (Ok answer)
+    → IsActCause a cause (Ok other)
+act_ok cause answer other a by = ok_by other (takes_memory a) (act_none answer a by)
+
+err_by : (T U : Type 0) (cause : Option Refusal) (r : Refusal) (memory : Bool) → IsCausedBy {T = T} memory cause (Err r)
+    → IsCausedBy {T = U} memory cause (Err r)
+err_by T U cause r true by = by
+err_by T U cause r false by = by
+
+-- an act that was refused, where the refusal is handed on
+pub act_err : {U : Type 0} (T : Type 0) (cause : Option Refusal) (r : Refusal) (a : Act) (answer : Result U Refusal)
+    → IsErrAnd answer (λ e. e ≡ r) → IsActCause {T = T} a cause (Err r) → IsActCause a cause answer
+act_err {U} T cause r a answer refused by =
+    let p = err_from_is_err_and answer refused in rw (p.1, p.2) (err_by T U cause r (takes_memory a) by)
+
 -- what refuses it before it is made
 some_by : (T : Type 0) {cause : Option Refusal} {r : Refusal} (memory : Bool) → cause ≡ Some r →
     IsCausedBy {T = T} memory cause (Err r)
@@ -43,6 +66,23 @@ act_some T a some = some_by T (takes_memory a) some
 pub act_by : {T : Type 0} {cause own : Option Refusal} (answer : Result T Refusal) (a : Act) → cause ≡ own → IsActCause a own answer
     → IsActCause a cause answer
 act_by answer a same by = subst (λ c. IsActCause a c answer) (sym same) by
+
+-- an act that begins a call returns the call's number
+begun_number : (a : Act) (place now : ℕ) (object : Object) → begun_by a ≡ 1
+    → answered_by a place now object ≡ Some (answered.Call (suc (length object.calls)))
+begun_number act.CallRead place now object begins = refl
+begun_number (act.CallWrite v) place now object begins = refl
+begun_number (act.CallMove l) place now object begins = refl
+begun_number _ place now object begins = absurd (cc)
+
+pub begun_call : (a : Act) (place now : ℕ) (found : Option State) (x : Answered) → begun_by a ≡ 1
+    → if_some found (answered_by a place now) ≡ Some x
+    → (n : ℕ) × ((x ≡ answered.Call n) × (if_some found (λ object. Some (suc (length object.calls))) ≡ Some n))
+begun_call a place now None x begins is = absurd (cc)
+begun_call a place now (Some s) x begins is =
+    let number = begun_number a place now s.object begins in
+    let call : x ≡ answered.Call (suc (length s.object.calls)) = cc in
+    (suc (length s.object.calls), (call, refl))
 
 -- no server stores more, or less
 pub no_more : (servers number : ℕ) (object : Object) (a : Act) → ServersAllow servers a → (server : ℕ) →

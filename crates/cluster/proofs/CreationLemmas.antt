@@ -16,7 +16,7 @@ use Rattle.register.specs.Causes.{unless, if_step}
 use Rattle.register.specs.State.{State}
 use Rattle.soundness.proofs.ListLemmas.{all_get}
 use Rattle.register.proofs.ListLemmas.{length_map}
-use Rattle.register.proofs.RoomLemmas.{is_le, not_le, is_lt, not_lt, step_within, step_past}
+use Rattle.register.proofs.RoomLemmas.{is_le, le_of, not_le, is_lt, lt_of, not_lt, not_true, passed, step_within, step_past}
 use Rattle.cluster.specs.Causes.{if_layout, layout_cause, create_cause}
 use Rattle.cluster.specs.Cluster.{Named, Cluster, named}
 use Rattle.cluster.specs.Kept.{HasMembersBelow, IsKeptCluster}
@@ -24,7 +24,7 @@ use Rattle.cluster.specs.Steps.{with_object, created}
 use Rattle.cluster.specs.Summed.{IsCounted}
 use Rattle.cluster.proofs.CreationInvariantLemmas.{layout_kept, object_kept, inserted_last}
 use Rattle.cluster.proofs.LookupLemmas.{Entry, object_of, objects_of, is_name, named_is, named_none}
-use Rattle.cluster.proofs.MoveRefusalLemmas.{IsLayout, layout_found}
+use Rattle.cluster.proofs.MoveRefusalLemmas.{IsLayout, layout_found, with_layout}
 use Rattle.cluster.proofs.ObjectStepLemmas.{cluster_of}
 use Rattle.cluster.proofs.RunningSumLemmas.{object_summed}
 
@@ -123,6 +123,35 @@ module _ {servers : List Bool} {layouts : List Layout} {objects : List Named} {c
       may_create few few_objects =
           by_room ∙ step_within (suc counter) _ (omega (arith, few))
           ∙ ap (λ b. unless b Full None) (is_lt (length objects) MOST_OBJECTS few_objects)
+
+-- where nothing refuses an object, its name is new, there is its layout, and there is room
+pub record MayCreate (layouts : List Layout) (objects : List Named) (counter : ℕ) (name : List ℕ) (id : ℕ) : Type 0 where
+  pub fresh : is_some (named objects name) ≡ false
+  pub layout : Layout
+  pub there : IsLayout layouts id layout
+  pub few : counter < MOST_STEPS
+  pub few_objects : length objects < MOST_OBJECTS
+
+pub create_allowed : {servers : List Bool} {layouts : List Layout} {objects : List Named} {counter : ℕ} {now : Cluster}
+    (name : List ℕ) (id : ℕ) → record { servers = servers; layouts = layouts; objects = objects; counter = counter } ≡ now
+    → create_cause now name id ≡ None → MayCreate layouts objects counter name id
+create_allowed {servers} {layouts} {objects} {counter} name id same none =
+    let held : Cluster = record { servers = servers; layouts = layouts; objects = objects; counter = counter } in
+    let own : create_cause held name id ≡ None = subst (λ (k : Cluster). create_cause k name id ≡ None) (sym same) none in
+    let new = passed (not (is_some (named objects name))) ObjectExists (by_layout counter objects name (slice_get layouts id)) own in
+    let l = with_layout (slice_get layouts id) (λ layout. unless (nat_le (length name) LONGEST_NAME) TooLong (room counter objects))
+    new.1 in
+    let short = passed (nat_le (length name) LONGEST_NAME) TooLong (room counter objects) l.1.1 in
+    let step = passed (nat_le (suc counter) MOST_STEPS) Full (unless (nat_lt (length objects) MOST_OBJECTS) Full None) short.1 in
+    let last = passed (nat_lt (length objects) MOST_OBJECTS) Full None step.1 in
+    let within = le_of (suc counter) MOST_STEPS step.0 in
+    record {
+      fresh = not_true (is_some (named objects name)) new.0;
+      layout = l.0;
+      there = record { here = l.1.0 };
+      few = omega (arith, within);
+      few_objects = lt_of (length objects) MOST_OBJECTS last.0;
+    }
 
 -- as many objects as entries
 pub length_objects : (entries : List Entry) → length (objects_of entries) ≡ length entries

@@ -22,10 +22,11 @@ use Rattle.register.proofs.ListLemmas.{same_some}
 use Rattle.register.proofs.NewMoveLemmas.{none_open}
 use Rattle.register.proofs.PreconditionLemmas.{some_message}
 use Rattle.register.proofs.RoomLemmas.{not_true, passed}
-use Rattle.cluster.specs.Causes.{if_layout, if_object, moving_cause, next, object_cause, message_cause, serving_cause}
+use Rattle.cluster.specs.Causes.{if_object, moving_cause, next, object_cause, message_cause, serving_cause}
 use Rattle.cluster.specs.Cluster.{Cluster, Named, next_call_id, layout_numbered, named, next_id_in}
 use Rattle.cluster.specs.Preconditions.{MayMake}
 use Rattle.cluster.proofs.LookupLemmas.{Entry, IsAt, named_at}
+use Rattle.cluster.proofs.MoveRefusalLemmas.{with_layout}
 use Rattle.cluster.proofs.ObjectStepLemmas.{cluster_of}
 
 -- a step of the object that a look-up found
@@ -58,11 +59,6 @@ held_named P (o ∷ os) name state all at = pick (bytes_eq name o.name) (held_na
     pick true later e = subst P (same_some o.state state e) all.0
     pick false later e = later e
 
--- where nothing refuses, there is a layout
-some_layout : (o : Option Layout) (cause : Layout → Option Refusal) → if_layout o cause ≡ None → (layout : Layout) × (o ≡ Some layout)
-some_layout None cause none = absurd (cc)
-some_layout (Some layout) cause none = (layout, refl)
-
 module _ (cluster : Cluster) (name : List ℕ) where
   pub allowed_act : AllByRecursion (λ o. IsAllowing o.state) cluster.objects → (a : Act) → HasLawfulValues a
       → object_cause cluster name (act_cause a (next cluster)) ≡ None → MayMake cluster name (step_of (next_call_id cluster name) a)
@@ -86,10 +82,10 @@ module _ (cluster : Cluster) (name : List ℕ) where
       → moving_cause cluster id object ≡ None → MayStep fragment object (Step.CallMove number (layout_numbered cluster id))
   may_move lawful id number object is_new none =
       let open_none = passed (not (has_open_move object.calls)) _ _ none in
-      let there = some_layout (slice_get cluster.layouts id) _ open_none.1 in (
+      let there = with_layout (slice_get cluster.layouts id) _ open_none.1 in (
         is_new,
-        subst IsLawful (sym (get_or_from_slice_get cluster.layouts id there.0 no_layout there.1))
-            (all_get IsLawful cluster.layouts id there.0 lawful there.1),
+        subst IsLawful (sym (get_or_from_slice_get cluster.layouts id there.0 no_layout there.1.0))
+            (all_get IsLawful cluster.layouts id there.0 lawful there.1.0),
         none_open object (not_true (has_open_move object.calls) open_none.0),
       )
 

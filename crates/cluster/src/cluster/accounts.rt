@@ -83,8 +83,8 @@ impl Cluster {
             (λ es. if_named self.now name.now (λ object. Some (entries object)) ≡ Some es.items) }
         ensures cause { IsByCause (object_cause self.now name.now (λ object. None)) result }
     {
-        match self.objects.get(name) {
-            Some(register) => register.entries(),
+        match self.find(name) {
+            Some(object) => self.register_at(name, object).entries(),
             None => Err(Refusal::NoObject),
         }
     }
@@ -96,8 +96,8 @@ impl Cluster {
         ensures object { IfOk result (λ r. named self.now.objects name.now ≡ Some r.now) }
         ensures cause { IsExactlyByCause (object_cause self.now name.now (λ object. None)) result }
     {
-        match self.objects.get(name) {
-            Some(register) => Ok(register),
+        match self.find(name) {
+            Some(object) => Ok(self.register_at(name, object)),
             None => Err(Refusal::NoObject),
         }
     }

@@ -1,6 +1,6 @@
 //! Any step of one object, by the act that asks for it.
 
-ghost use Rattle.std.specs.Prelude.{◌≡◌, ◌≤◌, length, Some, IfOk, OnOk, OnErr};
+ghost use Rattle.std.specs.Prelude.{◌≡◌, ◌≤◌, suc, length, Some, IfOk, OnOk, OnErr};
 ghost use Rattle.register.specs.Act.{IsActCause, act_cause, answered_by, step_of};
 ghost use Rattle.cluster.specs.Acts.{ServersAllow, begun_by};
 ghost use Rattle.cluster.specs.Causes.{next, object_cause};
@@ -12,7 +12,7 @@ ghost use Rattle.cluster.specs.Steps.{with_step};
 use crate::cluster::Cluster;
 use crate::cluster::mailing::{exchanged, waiting};
 use register::{Act, Answered};
-use tag::Refusal;
+use tag::{CallId, Refusal};
 
 impl Cluster {
     // Makes the step that an act asks for, of the object of this name.
@@ -31,6 +31,54 @@ impl Cluster {
             return Err(Refusal::NoObject);
         };
         self.act_at(name, object, act)
+    }
+
+    // Makes the step that an act asks for, as `act` does, and returns nothing.
+    pub(crate) fn make(&mut self, name: &str, act: Act) -> Result<(), Refusal>
+        requires ready { ServersAllow (length self.old.servers) act }
+        ensures step { OnOk result (self.new
+            ≡ with_step self.old name.entry.now (step_of (next_call_id self.old name.entry.now) act)) }
+        ensures may { OnOk result
+            (MayMake self.old name.entry.now (step_of (next_call_id self.old name.entry.now) act)) }
+        ensures cause { IsActCause act (object_cause self.old name.entry.now (act_cause act (next self.old))) result }
+        ensures unchanged { OnErr result (self.new ≡ self.old) }
+    {
+        self.act(name, act)?;
+        Ok(())
+    }
+
+    // Makes the step that an act asks for, as `act_at` does, and returns nothing.
+    pub(crate) fn make_at(&mut self, name: &str, object: u32, act: Act) -> Result<(), Refusal>
+        requires ready { ServersAllow (length self.old.servers) act }
+        requires placed { IsObjectAt self.old name.now object }
+        ensures step { OnOk result (self.new
+            ≡ with_step self.old name.entry.now (step_of (next_call_id self.old name.entry.now) act)) }
+        ensures may { OnOk result
+            (MayMake self.old name.entry.now (step_of (next_call_id self.old name.entry.now) act)) }
+        ensures cause { IsActCause act (object_cause self.old name.entry.now (act_cause act (next self.old))) result }
+        ensures unchanged { OnErr result (self.new ≡ self.old) }
+    {
+        self.act_at(name, object, act)?;
+        Ok(())
+    }
+
+    // Makes the step of an act that begins a call. Returns the call's number.
+    pub(crate) fn begin(&mut self, name: &str, act: Act) -> Result<CallId, Refusal>
+        requires ready { ServersAllow (length self.old.servers) act }
+        requires begins { begun_by act ≡ 1 }
+        ensures step { OnOk result (self.new
+            ≡ with_step self.old name.entry.now (step_of (next_call_id self.old name.entry.now) act)) }
+        ensures may { OnOk result
+            (MayMake self.old name.entry.now (step_of (next_call_id self.old name.entry.now) act)) }
+        ensures number { IfOk result
+            (λ n. if_named self.old name.entry.now (λ object. Some (suc (length object.calls))) ≡ Some n) }
+        ensures cause { IsActCause act (object_cause self.old name.entry.now (act_cause act (next self.old))) result }
+        ensures unchanged { OnErr result (self.new ≡ self.old) }
+    {
+        let Answered::Call(number) = self.act(name, act)? else {
+            unreachable!();
+        };
+        Ok(number)
     }
 
     // Makes the step that an act asks for, of the object of this name, which is at this index.

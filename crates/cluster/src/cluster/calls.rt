@@ -12,7 +12,7 @@ ghost use Rattle.cluster.specs.Causes.{next, object_cause, moving_cause};
 
 use crate::cluster::{Cluster, LayoutId};
 use bytes::Bytes;
-use register::{Act, Answered, Receipt};
+use register::{Act, Receipt};
 use tag::{CallId, Refusal};
 
 impl Cluster {
@@ -33,10 +33,7 @@ impl Cluster {
             (object_cause self.old name.entry.now (λ object. read_cause (next self.old) object)) result }
         ensures unchanged { OnErr result (self.new ≡ self.old) }
     {
-        let Answered::Call(number) = self.act(name, Act::CallRead)? else {
-            unreachable!();
-        };
-        Ok(number)
+        self.begin(name, Act::CallRead)
     }
 
     /// Begins a write of a value to an object: its first phase sends a request Next to each of the n members of the
@@ -55,10 +52,7 @@ impl Cluster {
             (object_cause self.old name.entry.now (λ object. write_cause value (next self.old) object)) result }
         ensures unchanged { OnErr result (self.new ≡ self.old) }
     {
-        let Answered::Call(number) = self.act(name, Act::CallWrite(value))? else {
-            unreachable!();
-        };
-        Ok(number)
+        self.begin(name, Act::CallWrite(value))
     }
 
     /// Begins a move of an object to a layout. The object's next position exists from this step on, with a bank for
@@ -78,20 +72,9 @@ impl Cluster {
         ensures cause { IsByCause (object_cause self.old name.entry.now (moving_cause self.old id)) result }
         ensures unchanged { OnErr result (self.new ≡ self.old) }
     {
-        let Some(place) = self.objects.get_index_of(name) else {
-            return Err(Refusal::NoObject);
-        };
-        if self.objects[place].is_moving() {
-            return Err(Refusal::MovePending);
-        }
-        let Some(layout) = self.layouts.get(id as usize) else {
-            return Err(Refusal::BadLayout);
-        };
-        let layout = layout.clone()?;
-        let Answered::Call(number) = self.act(name, Act::CallMove(layout))? else {
-            unreachable!();
-        };
-        Ok(number)
+        self.may_move(name, id)?;
+        let layout = self.layouts[id as usize].clone()?;
+        self.begin(name, Act::CallMove(layout))
     }
 
     /// Answers the call of this number. The receipt names the object by its place in the order of creation.
@@ -108,9 +91,9 @@ impl Cluster {
             (object_cause self.old name.entry.now (λ object. answer_cause (next self.old) object call)) result }
         ensures unchanged { OnErr result (self.new ≡ self.old) }
     {
-        let Answered::Receipt(receipt) = self.act(name, Act::Answer(call))? else {
-            unreachable!();
+        let Some(object) = self.find(name) else {
+            return Err(Refusal::NoObject);
         };
-        Ok(receipt)
+        self.answer_at(name, object, call)
     }
 }

@@ -18,7 +18,7 @@ use crate::cluster::mailing::{exchanged, waiting};
 use crate::servers::Servers;
 use mail::{Body, Message};
 use phase::Took;
-use register::{Act, Register};
+use register::{Act, Answered, Register};
 use tag::{MOST_BYTES, MOST_STEPS, Refusal, Stamp};
 
 impl Cluster {
@@ -96,13 +96,9 @@ impl Cluster {
             (object_cause self.old name.entry.now (λ object. take_cause (next self.old) object place)) result }
         ensures unchanged { OnErr result (self.new ≡ self.old) }
     {
-        let register = &mut self.objects[object as usize];
-        register.allowed_steps_may_be_made();
-        let now = self.counter + 1;
-        let waited = waiting(register);
-        let took = register.take(place, now)?;
-        self.mailed = exchanged(self.mailed, waited, waiting(register));
-        self.counter = now;
+        let Answered::Took(took) = self.act_at(name, object, Act::Take(place))? else {
+            unreachable!();
+        };
         Ok(took)
     }
 
@@ -117,8 +113,7 @@ impl Cluster {
             (object_cause self.old name.entry.now (λ object. lose_cause (next self.old) object place)) result }
         ensures unchanged { OnErr result (self.new ≡ self.old) }
     {
-        self.act(name, Act::Lose(place))?;
-        Ok(())
+        self.make(name, Act::Lose(place))
     }
 
     /// A copy of the message at a place is put at the end of the object's mail.
@@ -132,8 +127,7 @@ impl Cluster {
             (object_cause self.old name.entry.now (λ object. repeat_cause (next self.old) object place)) result }
         ensures unchanged { OnErr result (self.new ≡ self.old) }
     {
-        self.act(name, Act::Repeat(place))?;
-        Ok(())
+        self.make(name, Act::Repeat(place))
     }
 
     /// Returns whether the message at a place is a reply, or a request to a server that is up. It is no step and
@@ -145,9 +139,10 @@ impl Cluster {
         ensures value { IfOk result (λ b. if_named self.now name.now (handled_at self.now place) ≡ Some b) }
         ensures cause { IsExactlyByCause (object_cause self.now name.now (place_cause place)) result }
     {
-        let Some(register) = self.objects.get(name) else {
+        let Some(object) = self.find(name) else {
             return Err(Refusal::NoObject);
         };
+        let register = self.register_at(name, object);
         let mail = register.mail_view();
         if mail.len() <= place {
             return Err(Refusal::NoMessage);

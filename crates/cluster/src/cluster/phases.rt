@@ -29,8 +29,8 @@ impl Cluster {
         ensures want { IfOk result (λ w. if_named self.now name.now (λ object. want_at object call) ≡ Some w) }
         ensures cause { IsExactlyByCause (object_cause self.now name.now (λ object. number_cause object call)) result }
     {
-        match self.objects.get(name) {
-            Some(register) => register.want(call),
+        match self.find(name) {
+            Some(object) => self.want_at(name, object, call),
             None => Err(Refusal::NoObject),
         }
     }
@@ -48,8 +48,7 @@ impl Cluster {
             (object_cause self.old name.entry.now (λ object. advance_cause (next self.old) object call)) result }
         ensures unchanged { OnErr result (self.new ≡ self.old) }
     {
-        self.act(name, Act::Advance(call))?;
-        Ok(())
+        self.make(name, Act::Advance(call))
     }
 
     /// Restarts the call of this number, whose fetch lacks pieces. A read restarts with a first reading, which begins
@@ -64,8 +63,7 @@ impl Cluster {
             (object_cause self.old name.entry.now (λ object. again_cause (next self.old) object call)) result }
         ensures unchanged { OnErr result (self.new ≡ self.old) }
     {
-        self.act(name, Act::Again(call))?;
-        Ok(())
+        self.make(name, Act::Again(call))
     }
 
     /// Returns the value whose pieces the call of this number is to send, with the k and the n of the layout that gets
@@ -78,8 +76,8 @@ impl Cluster {
         ensures value { IfOk result (λ r. if_named self.now name.now (λ object. coding_at object call) ≡ Some r) }
         ensures cause { IsByCause (object_cause self.now name.now (λ object. value_cause object call)) result }
     {
-        match self.objects.get(name) {
-            Some(register) => register.value_to_code(call),
+        match self.find(name) {
+            Some(object) => self.value_to_code_at(name, object, call),
             None => Err(Refusal::NoObject),
         }
     }
@@ -99,8 +97,7 @@ impl Cluster {
             (object_cause self.old name.entry.now (λ object. supply_cause (next self.old) object call coded)) result }
         ensures unchanged { OnErr result (self.new ≡ self.old) }
     {
-        self.act(name, Act::Supply(call, coded))?;
-        Ok(())
+        self.make(name, Act::Supply(call, coded))
     }
 
     /// Resends the requests of the current phase of the call of this number: one to each member that has no recorded
@@ -117,8 +114,7 @@ impl Cluster {
             (object_cause self.old name.entry.now (λ object. post_cause (next self.old) object call)) result }
         ensures unchanged { OnErr result (self.new ≡ self.old) }
     {
-        self.act(name, Act::Post(call))?;
-        Ok(())
+        self.make(name, Act::Post(call))
     }
 
     /// Returns the pieces that the call of this number is to decode. Of the pieces that its current phase took, these
@@ -132,8 +128,8 @@ impl Cluster {
             (λ ps. if_named self.now name.now (λ object. Some (fetched_pieces object call)) ≡ Some ps.items) }
         ensures cause { IsByCause (object_cause self.now name.now (λ object. pieces_cause object call)) result }
     {
-        match self.objects.get(name) {
-            Some(register) => register.pieces(call),
+        match self.find(name) {
+            Some(object) => self.pieces_at(name, object, call),
             None => Err(Refusal::NoObject),
         }
     }
@@ -152,7 +148,6 @@ impl Cluster {
             (λ object. settle_cause (next self.old) object call decoded)) result }
         ensures unchanged { OnErr result (self.new ≡ self.old) }
     {
-        self.act(name, Act::Settle(call, decoded))?;
-        Ok(())
+        self.make(name, Act::Settle(call, decoded))
     }
 }

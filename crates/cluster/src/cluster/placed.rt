@@ -75,8 +75,7 @@ impl Cluster {
             (object_cause self.old name.entry.now (λ object. advance_cause (next self.old) object call)) result }
         ensures unchanged { OnErr result (self.new ≡ self.old) }
     {
-        self.act_at(name, object, Act::Advance(call))?;
-        Ok(())
+        self.make_at(name, object, Act::Advance(call))
     }
 
     /// Restarts the call of this number, as `again` does.
@@ -88,8 +87,7 @@ impl Cluster {
             (object_cause self.old name.entry.now (λ object. again_cause (next self.old) object call)) result }
         ensures unchanged { OnErr result (self.new ≡ self.old) }
     {
-        self.act_at(name, object, Act::Again(call))?;
-        Ok(())
+        self.make_at(name, object, Act::Again(call))
     }
 
     /// Returns whether the call of this number may be supplied with its own value, as `may_supply` does.
@@ -141,8 +139,7 @@ impl Cluster {
             (object_cause self.old name.entry.now (λ object. supply_cause (next self.old) object call coded)) result }
         ensures unchanged { OnErr result (self.new ≡ self.old) }
     {
-        self.act_at(name, object, Act::Supply(call, coded))?;
-        Ok(())
+        self.make_at(name, object, Act::Supply(call, coded))
     }
 
     /// Resends the requests of the current phase of the call of this number, as `post` does.
@@ -154,8 +151,7 @@ impl Cluster {
             (object_cause self.old name.entry.now (λ object. post_cause (next self.old) object call)) result }
         ensures unchanged { OnErr result (self.new ≡ self.old) }
     {
-        self.act_at(name, object, Act::Post(call))?;
-        Ok(())
+        self.make_at(name, object, Act::Post(call))
     }
 
     /// The call of this number settles the value that was decoded, as by `settle`.
@@ -174,8 +170,7 @@ impl Cluster {
             (λ object. settle_cause (next self.old) object call decoded)) result }
         ensures unchanged { OnErr result (self.new ≡ self.old) }
     {
-        self.act_at(name, object, Act::Settle(call, decoded))?;
-        Ok(())
+        self.make_at(name, object, Act::Settle(call, decoded))
     }
 
     /// Answers the call of this number, as `answer` does.

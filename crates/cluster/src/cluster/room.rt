@@ -73,9 +73,10 @@ impl Cluster {
         ensures cause { IsExactlyByCause (object_cause self.now name.now (λ object.
             unless (nat_le len LONGEST_VALUE) TooLong (read_cause (next self.now) object))) result }
     {
-        let Some(register) = self.objects.get(name) else {
+        let Some(object) = self.find(name) else {
             return Err(Refusal::NoObject);
         };
+        let register = self.register_at(name, object);
         if len > LONGEST_VALUE {
             return Err(Refusal::TooLong);
         }
@@ -88,9 +89,10 @@ impl Cluster {
     pub fn may_move(&self, name: &str, id: LayoutId) -> Result<(), Refusal>
         ensures cause { IsExactlyByCause (object_cause self.now name.now (moving_cause self.now id)) result }
     {
-        let Some(register) = self.objects.get(name) else {
+        let Some(object) = self.find(name) else {
             return Err(Refusal::NoObject);
         };
+        let register = self.register_at(name, object);
         if register.is_moving() {
             return Err(Refusal::MovePending);
         }
@@ -108,8 +110,8 @@ impl Cluster {
         ensures cause { IsExactlyByCause
             (object_cause self.now name.now (λ object. supplying_cause (next self.now) object call)) result }
     {
-        match self.objects.get(name) {
-            Some(register) => register.may_supply(call, self.counter + 1),
+        match self.find(name) {
+            Some(object) => self.may_supply_at(name, object, call),
             None => Err(Refusal::NoObject),
         }
     }

@@ -61,24 +61,33 @@ impl Cluster {
         ensures cause { IsByCause (create_cause self.old name.now id) result }
         ensures unchanged { OnErr result (self.new ≡ self.old) }
     {
+        self.may_create(name, id)?;
+        let now = self.counter + 1;
+        let alloc = *self.layouts.allocator();
+        let layout = &self.layouts[id as usize];
+        let register = Register::new(alloc, layout.clone()?, delta, now)?;
+        let name = String::from_str(alloc, name)?;
+        self.objects.insert(name, register)?;
+        self.counter = now;
+        Ok(())
+    }
+
+    // Whether an object may be created.
+    fn may_create(&self, name: &str, id: LayoutId) -> Result<(), Refusal>
+        ensures cause { IsExactlyByCause (create_cause self.now name.now id) result }
+    {
         if self.objects.get_index_of(name).is_some() {
             return Err(Refusal::ObjectExists);
         }
-        let Some(layout) = self.layouts.get(id as usize) else {
+        if id as usize >= self.layouts.len() {
             return Err(Refusal::BadLayout);
-        };
+        }
         if name.len() > LONGEST_NAME {
             return Err(Refusal::TooLong);
         }
         if self.counter >= MOST_STEPS || self.objects.len() >= MOST_OBJECTS {
             return Err(Refusal::Full);
         }
-        let now = self.counter + 1;
-        let alloc = *self.layouts.allocator();
-        let register = Register::new(alloc, layout.clone()?, delta, now)?;
-        let name = String::from_str(alloc, name)?;
-        self.objects.insert(name, register)?;
-        self.counter = now;
         Ok(())
     }
 

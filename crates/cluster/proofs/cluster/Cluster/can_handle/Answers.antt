@@ -2,25 +2,27 @@ use Rattle.std.proofs.Common.{◌≡◌, ◌≤◌, length, slice_get, List, Som
 use Rattle.mail.specs.declared.message.Message.{Message}
 use Rattle.cluster.specs.Causes.{place_cause, handled_at}
 use Rattle.cluster.specs.Cluster.{Cluster}
-use Rattle.cluster.proofs.FoundObjectLemmas.{named_found, read_found, cause_found, none_found}
+use Rattle.cluster.proofs.FoundObjectLemmas.{IsFound, read_found, cause_found, none_at}
 use Rattle.cluster.proofs.RequestRoomLemmas.{handled_is, place_past, place_there}
 use Rattle.cluster.proofs.cluster.Cluster.can_handle.Goals as goal
 
 pub returns-in_default-clause-cause : goal.returns-in_default-clause-cause
-returns-in_default-clause-cause c = none_found c.self.inside.objects.entries c.args.name.now c.self.view_is c.in_default.ensures.value _
+returns-in_default-clause-cause c = none_at c.args.self.now c.args.name.now (place_cause c.args.place) c.in_default.ensures
 
 pub returns-then-len-place-clause-cause : goal.returns-then-len-place-clause-cause
 returns-then-len-place-clause-cause c =
-    let found = named_found c.self.inside.objects.entries c.args.name.now c.in-Some.register.now c.self.view_is c.in-Some.ensures.value in
+    let found : IsFound c.args.self.now c.args.name.now c.register_at-register.result.now =
+    record { here = c.register_at-register.ensures } in
     let mail = c.mail_view-mail.result.now in
     let past : length mail ≤ c.args.place = omega (arith, c.len.ensures.value, c.if-len-place.true) in
     cause_found found (place_cause c.args.place)
-    ∙ place_past c.in-Some.register.now.object c.args.place mail c.mail_view-mail.ensures past
+    ∙ place_past c.register_at-register.result.now.object c.args.place mail c.mail_view-mail.ensures past
 
 pub returns : goal.returns
 returns c =
-    let found = named_found c.self.inside.objects.entries c.args.name.now c.in-Some.register.now c.self.view_is c.in-Some.ensures.value in
-    let object = c.in-Some.register.now.object in
+    let found : IsFound c.args.self.now c.args.name.now c.register_at-register.result.now =
+    record { here = c.register_at-register.ensures } in
+    let object = c.register_at-register.result.now.object in
     let m = c.at.result.now in
     let waits : slice_get object.mail c.args.place
     ≡ Some m = ap (λ (ms : List Message). slice_get ms c.args.place) (sym c.mail_view-mail.ensures) ∙ c.at.ensures in
