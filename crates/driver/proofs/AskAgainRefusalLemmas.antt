@@ -23,7 +23,9 @@ use Rattle.register.specs.State.{State}
 use Rattle.register.specs.View.{want_at}
 use Rattle.cluster.specs.Cluster.{Cluster, named}
 use Rattle.cluster.specs.Causes.{next, object_cause}
-use Rattle.driver.specs.Driver.{wanted, asking, IsDue, IsRefused}
+use Rattle.cluster.specs.Preconditions.{MayMake}
+use Rattle.cluster.specs.Steps.{with_step}
+use Rattle.driver.specs.Driver.{IsTurn, wanted, asking, IsDue, IsRefused}
 use Rattle.driver.proofs.NamedObjectLemmas.{read_there, cause_there}
 use Rattle.driver.proofs.WantLemmas.{wants_at, place_of_call}
 use Rattle.driver.proofs.LimitRefusalLemmas.{full_or, full_mail, same_full, sending_full}
@@ -105,6 +107,22 @@ module _ {C : Type 0} (chooses : C → ℕ → ℕ → C → Type 0) (name : Lis
           (full_mail (stepped fragment (Step.Post (pred call)) (next cluster) state.object).mail))) r by
       go true is (inl some) = absurd (other (let e = sym (post_at true is) ∙ some in cc))
       go true is (inr none) = absurd (let e = sym (post_at true is) ∙ none.0 in cc)
+
+  -- the post is made
+  pub post_turn : (new : Cluster) → object_cause cluster name (λ object. post_cause (next cluster) object call) ≡ None
+      → MayMake cluster name (Step.Post (pred call)) → new ≡ with_step cluster name (Step.Post (pred call))
+      → IsTurn chooses name call true cluster c new c
+  post_turn new room may made = go (is_pre_write a.phase.kind) refl
+    where
+      go : (b : Bool) → is_pre_write a.phase.kind ≡ b → IsTurn chooses name call true cluster c new c
+      go false is = record {
+        step = Step.Post (pred call);
+        due = due_asking (Step.Post (pred call)) (sym (asking_is state.object call a false is));
+        room = room;
+        may = may;
+        made = made;
+      }
+      go true is = absurd (let e = sym (post_at true is) ∙ room in cc)
 
   -- where the post is refused with NotNow, the call sends pieces
   sends_there : (object_cause cluster name (λ object. post_cause (next cluster) object call) ≡ Some NotNow)

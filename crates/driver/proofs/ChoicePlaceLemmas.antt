@@ -1,10 +1,12 @@
 -- The places of the messages that pass a test, from a place on.
 use Rattle.std.proofs.Common.{◌≡◌, ℕ, zero, suc, ◌+◌, ◌<◌, ◌≤◌, Bool, true, false, cond, ◌-◌, List, [], ◌∷◌, length, drop, Option, Some}
-use Rattle.std.proofs.Common.{None, slice_get, refl, sym, ap, ◌∙◌, arith, add-one}
+use Rattle.std.proofs.Common.{None, ◌%◌, slice_get, MatchOption, refl, sym, ap, subst, ◌∙◌, arith, add-one}
+use Rattle.std.proofs.lemmas.Nat.{mod_below}
+use Rattle.std.proofs.lemmas.Option.{slice_get-get_or}
 use Rattle.std.specs.Option.{option_or}
 use Rattle.mail.specs.declared.message.Message.{Message}
 use Rattle.register.proofs.ListLemmas.{found, same_some}
-use Rattle.driver.specs.Choices.{places_passing}
+use Rattle.driver.specs.Choices.{Picks, places_passing}
 
 drop_at : {X : Type 0} (xs : List X) (i : ℕ) (x : X) → slice_get xs i ≡ Some x → drop i xs ≡ x ∷ drop (suc i) xs
 drop_at [] i x e = absurd (cc)
@@ -126,3 +128,21 @@ first_of_none test mail place first answer past so_far =
     or_none : (o : Option ℕ) → o ≡ option_or o None
     or_none (Some x) = refl
     or_none None = refl
+
+-- there is nothing to choose from
+pub no_choice : (xs : List ℕ) (count : ℕ) → count ≡ length xs → count ≡ 0 → xs ≡ []
+no_choice [] count same none = refl
+no_choice (x ∷ xs) count same none = absurd (omega arith)
+
+-- a place at the number that the chooser returned, modulo how many there are
+pub picked : {C : Type 0} (chooses : C → ℕ → ℕ → C → Type 0) (xs : List ℕ) (before after : C) (count answer : ℕ) (r : Option ℕ)
+    → count ≡ length xs → 0 < count → chooses before count answer after → r ≡ slice_get xs (answer % count)
+    → MatchOption r ((xs ≡ []) × (after ≡ before)) (λ place. Picks chooses xs before after place)
+picked chooses xs before after count answer (Some place) same some chosen is = (
+  answer,
+  subst (λ n. chooses before n answer after) same chosen,
+  subst (λ n. slice_get xs (answer % n) ≡ Some place) same (sym is),
+)
+picked chooses xs before after count answer None same some chosen is =
+    absurd (let e = is ∙ slice_get-get_or xs (answer % count) 0
+    (subst (λ n. answer % count < n) same (mod_below answer count some)) in cc)

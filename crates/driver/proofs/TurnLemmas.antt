@@ -19,12 +19,12 @@ use Rattle.driver.specs.declared.round.Round.{Round}
 use Rattle.driver.specs.declared.round.Round.TheVariants as round
 use Rattle.driver.specs.Coding.{settling_cause}
 use Rattle.driver.specs.Driver.{wanted, turn_cause, IsNotAnswered, IsNext, IsDue, IsTurn, IsRefused}
-use Rattle.driver.specs.Rounds.{SettlesOwn, MakesRound}
+use Rattle.driver.specs.Rounds.{IsToEncode, IsToDecode, SettlesOwn, MakesRound}
 use Rattle.driver.proofs.NamedObjectLemmas.{read_there, is_there}
 use Rattle.driver.proofs.OpenCallLemmas.{turn_open}
 use Rattle.driver.proofs.StepRefusalLemmas.{settle_refused, supply_refused}
 
-same_want : (a b : Want) → Some a ≡ Some b → a ≡ b
+pub same_want : (a b : Want) → Some a ≡ Some b → a ≡ b
 same_want a b e = cc
 
 same_pieces : (a b : List Piece) → Some a ≡ Some b → a ≡ b
@@ -74,6 +74,17 @@ module _ {C : Type 0} (chooses : C → ℕ → ℕ → C → Type 0) (name : Lis
         (subst (λ (m : Cluster). object_cause m name (λ object. supplying_cause (next m) object call) ≡ None) r.0 room)
         (subst (λ (m : Cluster). MayMake m name (Step.Supply (pred call))) r.0 may)
         (step ∙ ap (λ m. with_step m name (Step.Supply (pred call))) r.0)
+
+    pub encode_ready : (value : List ℕ) (k n : ℕ) → o ≡ round.Encode value k n → IsToEncode middle name call k n value
+    encode_ready value k n is =
+        let r = subst (λ o. MakesRound chooses name call again old before middle after o) is made_by in
+        subst (λ m. IsToEncode m name call k n value) (sym r.0) r.3
+
+    pub decode_ready : (pieces : Vec Piece Global) (k len : ℕ) → o ≡ round.Decode pieces k len
+        → IsToDecode middle name call k len pieces.items
+    decode_ready pieces k len is =
+        let r = subst (λ o. MakesRound chooses name call again old before middle after o) is made_by in
+        subst (λ m. IsToDecode m name call k len pieces.items) (sym r.0) r.2
 
     pub encode_refused : (value : List ℕ) (k n : ℕ) (refusal : Refusal) → o ≡ round.Encode value k n
         → IsRefusalBy (object_cause middle name (λ object. supplying_cause (next middle) object call)) refusal

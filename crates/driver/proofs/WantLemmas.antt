@@ -1,9 +1,10 @@
 -- What a call wants, by its number.
-use Rattle.std.proofs.Common.{◌≡◌, ℕ, zero, suc, pred}
-use Rattle.std.proofs.Common.{Option, Some, None, option_map, slice_get, refl}
+use Rattle.std.proofs.Common.{◌≡◌, ◌≢◌, ℕ, zero, suc, pred}
+use Rattle.std.proofs.Common.{Option, Some, None, option_map, slice_get, refl, sym, ◌∙◌}
 use Rattle.record.specs.Records.{Call, Object}
 use Rattle.record.specs.Wants.{want_of}
 use Rattle.record.specs.declared.stage.Want.{Want}
+use Rattle.record.specs.declared.stage.Want.TheVariants as want
 use Rattle.register.specs.Causes.{call_at}
 use Rattle.register.specs.View.{want_at}
 
@@ -26,3 +27,10 @@ wants_at object number wanted e = go (call_at object number) refl e
         → WantsAt object number wanted
     go None is e = absurd (cc)
     go (Some call) is e = record { call = call; at = is; wants = cc }
+
+-- a call that wants something else than to be answered
+pub other_want : (o : Option Want) (w : Want) → o ≡ Some w → w ≢ want.Answer → o ≢ Some want.Answer
+other_want o w is other e = other (same w want.Answer (sym is ∙ e))
+  where
+    same : (a b : Want) → Some a ≡ Some b → a ≡ b
+    same a b e = cc

@@ -1,6 +1,11 @@
 use Rattle.std.proofs.lemmas.Result.{IfOk-weaker}
 use Rattle.driver.proofs.CodingJobLemmas.{to_encode, value_by}
+use Rattle.driver.proofs.ObjectIndexLemmas.{missing_by}
 use Rattle.driver.proofs.coding.value_to_encode.Goals as goal
+
+pub returns-in_err-may_supply_at-clause-cause : goal.returns-in_err-may_supply_at-clause-cause
+returns-in_err-may_supply_at-clause-cause c =
+    missing_by _ _ _ c.from_residual.ensures.1 c.in_err-may_supply_at.ensures.cause
 
 pub returns-clause-value : goal.returns-clause-value
 returns-clause-value c =
