@@ -11,6 +11,9 @@ use Rattle.script.specs.Command.{SpellsCommand, IsErrorOf, ParsesToCommand}
 use Rattle.script.specs.declared.change.Change.TheVariants as change
 use Rattle.script.specs.declared.command.Command.{Command}
 use Rattle.script.specs.declared.command.Command.TheVariants as of
+use Rattle.script.specs.FirstWord.{number_word}
+use Rattle.script.specs.declared.number_commands.NumberCommand.{NumberCommand}
+use Rattle.script.specs.declared.number_commands.NumberCommand.TheVariants as number
 use Rattle.script.specs.declared.error.LineError.{LineError}
 use Rattle.script.specs.declared.error.LineError.TheVariants.{Bad, NoMemory}
 
@@ -29,6 +32,11 @@ same_word-refl (b ∷ bs) = rw (eq-eqb b b refl) (same_word-refl bs)
 apart : (v w : Word) → v ≡ w → same_word v w ≡ false → ⊥
 apart v w same differ =
     let tested : same_word v w ≡ true = subst (λ x. same_word v x ≡ true) same (same_word-refl v) in cc
+
+-- what the words parse to, for a first word that is this text
+pub begins : (words : List Word) (r : Result Command LineError) (word text : Word) → word ≡ text
+    → ParsesToCommand (text ∷ words) r → ParsesToCommand (word ∷ words) r
+begins words r word text is parses = subst (λ w. ParsesToCommand (w ∷ words) r) (sym is) parses
 
 -- words that spell no command are bad
 pub fails : (words : List Word) (r : Result Command LineError) (e : LineError) → IsErrAnd r (λ y. y ≡ e) → e ≡ Bad
@@ -185,3 +193,19 @@ pub none-Check : (rest : List Word) → ((name : Word) (ns : List ℕ) → ¬ (A
 none-Check rest none (of.Check name calls) s = none name.now calls.items s.1
 none-Check rest none (of.Change (change.Down server)) s = apart (codes "check") _ s.0 refl
 none-Check rest none _ s = apart (codes "check") _ s.0 refl
+
+-- the same for each command of a name and a number
+pub none-number : (kind : NumberCommand) (rest : List Word) → ((name : Word) (n : ℕ) → ¬ (AreNameAndNumber name n rest))
+    → (c : Command) → ¬ (SpellsCommand (number_word kind ∷ rest) c)
+none-number number.Retire rest none = none-Retire rest none
+none-number number.Advance rest none = none-Advance rest none
+none-number number.Supply rest none = none-Supply rest none
+none-number number.Settle rest none = none-Settle rest none
+none-number number.Post rest none = none-Post rest none
+none-number number.Again rest none = none-Again rest none
+none-number number.Answer rest none = none-Answer rest none
+none-number number.Show rest none = none-Show rest none
+none-number number.Serve rest none = none-Serve rest none
+none-number number.Take rest none = none-Take rest none
+none-number number.Lose rest none = none-Lose rest none
+none-number number.Repeat rest none = none-Repeat rest none

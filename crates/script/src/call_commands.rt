@@ -1,5 +1,4 @@
-//! Commands that begin a call, or make one step of a call. Each function reads the words after those that name its
-//! command.
+//! Commands that begin a call, and `supply-as`. Each function reads the words after those that name its command.
 ghost use Rattle.std.specs.Prelude.{◌∷◌, codes, map};
 ghost use Rattle.script.specs.Command.{ParsesToCommand};
 
@@ -45,58 +44,9 @@ fn call_move<'a>(words: &[&'a str]) -> Result<Command<'a>, LineError>
     Ok(Command::Change(Change::CallMove { name, layout }))
 }
 
-pub(crate) fn advance<'a>(words: &[&'a str]) -> Result<Command<'a>, LineError>
-    ensures { ParsesToCommand (codes "advance" ∷ map (λ w. w.now) words.now) result }
-{
-    let (name, call) = name_and_number(words)?;
-    Ok(Command::Change(Change::Advance { name, call }))
-}
-
-pub(crate) fn supply<'a>(words: &[&'a str]) -> Result<Command<'a>, LineError>
-    ensures { ParsesToCommand (codes "supply" ∷ map (λ w. w.now) words.now) result }
-{
-    let (name, call) = name_and_number(words)?;
-    Ok(Command::Change(Change::Supply { name, call }))
-}
-
 pub(crate) fn supply_as<'a>(alloc: Global, words: &[&'a str]) -> Result<Command<'a>, LineError>
     ensures { ParsesToCommand (codes "supply-as" ∷ map (λ w. w.now) words.now) result }
 {
     let (name, call, value) = name_number_and_bytes(alloc, words)?;
     Ok(Command::Change(Change::SupplyAs { name, call, value }))
-}
-
-pub(crate) fn settle<'a>(words: &[&'a str]) -> Result<Command<'a>, LineError>
-    ensures { ParsesToCommand (codes "settle" ∷ map (λ w. w.now) words.now) result }
-{
-    let (name, call) = name_and_number(words)?;
-    Ok(Command::Change(Change::Settle { name, call }))
-}
-
-pub(crate) fn post<'a>(words: &[&'a str]) -> Result<Command<'a>, LineError>
-    ensures { ParsesToCommand (codes "post" ∷ map (λ w. w.now) words.now) result }
-{
-    let (name, call) = name_and_number(words)?;
-    Ok(Command::Change(Change::Post { name, call }))
-}
-
-pub(crate) fn again<'a>(words: &[&'a str]) -> Result<Command<'a>, LineError>
-    ensures { ParsesToCommand (codes "again" ∷ map (λ w. w.now) words.now) result }
-{
-    let (name, call) = name_and_number(words)?;
-    Ok(Command::Change(Change::Again { name, call }))
-}
-
-pub(crate) fn answer<'a>(words: &[&'a str]) -> Result<Command<'a>, LineError>
-    ensures { ParsesToCommand (codes "answer" ∷ map (λ w. w.now) words.now) result }
-{
-    let (name, call) = name_and_number(words)?;
-    Ok(Command::Change(Change::Answer { name, call }))
-}
-
-pub(crate) fn show<'a>(words: &[&'a str]) -> Result<Command<'a>, LineError>
-    ensures { ParsesToCommand (codes "show" ∷ map (λ w. w.now) words.now) result }
-{
-    let (name, call) = name_and_number(words)?;
-    Ok(Command::Show { name, call })
 }

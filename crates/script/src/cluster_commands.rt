@@ -3,7 +3,7 @@ ghost use Rattle.std.specs.Prelude.{◌∷◌, codes, map};
 ghost use Rattle.script.specs.Command.{ParsesToCommand};
 
 use crate::arguments::{
-    name_and_number, name_number_and_delta, no_words, number_and_members, one_number, servers_count,
+    name_number_and_delta, no_words, number_and_members, one_number, servers_count,
 };
 use crate::change::Change;
 use crate::command::Command;
@@ -33,13 +33,6 @@ pub(crate) fn object<'a>(words: &[&'a str]) -> Result<Command<'a>, LineError>
         layout,
         delta,
     }))
-}
-
-pub(crate) fn retire<'a>(words: &[&'a str]) -> Result<Command<'a>, LineError>
-    ensures { ParsesToCommand (codes "retire" ∷ map (λ w. w.now) words.now) result }
-{
-    let (name, position) = name_and_number(words)?;
-    Ok(Command::Change(Change::Retire { name, position }))
 }
 
 pub(crate) fn down<'a>(words: &[&'a str]) -> Result<Command<'a>, LineError>

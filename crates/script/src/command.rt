@@ -1,10 +1,11 @@
 //! The commands of a script, and the words that spell them.
 ghost use Rattle.std.specs.Prelude.{◌∷◌, map};
 ghost use Rattle.script.specs.Command.{ParsesToCommand};
-ghost use Rattle.script.specs.FirstWord.{IsNoneOf, call_words, cluster_words, mail_words};
+ghost use Rattle.script.specs.FirstWord.{IsNoneOf, call_words, cluster_words, number_words};
 
 use crate::change::Change;
 use crate::error::LineError;
+use crate::number_commands::{number_command, parse_number_command};
 use crate::{call_commands, cluster_commands, mail_commands, object_commands};
 use std::alloc::Global;
 
@@ -59,7 +60,10 @@ pub fn parse_command<'a>(alloc: Global, words: &[&'a str]) -> Result<Command<'a>
     let Some((first, rest)) = words.split_first() else {
         return Err(LineError::Bad);
     };
-    parse_cluster_command(alloc, first, rest)
+    match number_command(first) {
+        Some(kind) => parse_number_command(kind, rest),
+        None => parse_cluster_command(alloc, first, rest),
+    }
 }
 
 // Each of the functions below goes on where the first word begins no command of the groups before. One `match` of all
@@ -69,13 +73,13 @@ fn parse_cluster_command<'a>(
     first: &'a str,
     rest: &[&'a str],
 ) -> Result<Command<'a>, LineError>
+    requires { IsNoneOf number_words first.now }
     ensures { ParsesToCommand (first.entry.now ∷ map (λ w. w.now) rest.entry.now) result }
 {
     match first {
         "servers" => cluster_commands::servers(rest),
         "layout" => cluster_commands::layout(alloc, rest),
         "object" => cluster_commands::object(rest),
-        "retire" => cluster_commands::retire(rest),
         "down" => cluster_commands::down(rest),
         "up" => cluster_commands::up(rest),
         "account" => cluster_commands::account(rest),
@@ -88,37 +92,13 @@ fn parse_call_command<'a>(
     first: &'a str,
     rest: &[&'a str],
 ) -> Result<Command<'a>, LineError>
-    requires { IsNoneOf cluster_words first.now }
+    requires numbers { IsNoneOf number_words first.now }
+    requires cluster { IsNoneOf cluster_words first.now }
     ensures { ParsesToCommand (first.entry.now ∷ map (λ w. w.now) rest.entry.now) result }
 {
     match first {
         "call" => call_commands::call(alloc, rest),
-        "advance" => call_commands::advance(rest),
-        "supply" => call_commands::supply(rest),
         "supply-as" => call_commands::supply_as(alloc, rest),
-        "settle" => call_commands::settle(rest),
-        "post" => call_commands::post(rest),
-        "again" => call_commands::again(rest),
-        "answer" => call_commands::answer(rest),
-        "show" => call_commands::show(rest),
-        _ => parse_mail_command(alloc, first, rest),
-    }
-}
-
-fn parse_mail_command<'a>(
-    alloc: Global,
-    first: &'a str,
-    rest: &[&'a str],
-) -> Result<Command<'a>, LineError>
-    requires cluster { IsNoneOf cluster_words first.now }
-    requires calls { IsNoneOf call_words first.now }
-    ensures { ParsesToCommand (first.entry.now ∷ map (λ w. w.now) rest.entry.now) result }
-{
-    match first {
-        "serve" => mail_commands::serve(rest),
-        "take" => mail_commands::take(rest),
-        "lose" => mail_commands::lose(rest),
-        "repeat" => mail_commands::repeat(rest),
         "deliver" => mail_commands::deliver(rest),
         "mail" => mail_commands::mail(rest),
         "bank" => mail_commands::bank(rest),
@@ -131,9 +111,9 @@ fn parse_object_command<'a>(
     first: &'a str,
     rest: &[&'a str],
 ) -> Result<Command<'a>, LineError>
+    requires numbers { IsNoneOf number_words first.now }
     requires cluster { IsNoneOf cluster_words first.now }
     requires calls { IsNoneOf call_words first.now }
-    requires mail { IsNoneOf mail_words first.now }
     ensures { ParsesToCommand (first.entry.now ∷ map (λ w. w.now) rest.entry.now) result }
 {
     match first {

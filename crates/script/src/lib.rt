@@ -14,5 +14,6 @@ mod command;
 mod error;
 mod line;
 mod mail_commands;
+mod number_commands;
 mod object_commands;
 mod values;

@@ -1,5 +1,6 @@
 //! A line of a script, and its words.
 ghost use Rattle.std.specs.Prelude.{◌≡◌, ◌↔◌, IfOk, IsTrue, find, map, not};
+ghost use Rattle.script.specs.Command.{ParsesToCommand};
 ghost use Rattle.script.specs.Line.{IsReadingOfLine, IsSkipped, is_space, words_of};
 
 use crate::command::{Command, parse_command};
@@ -32,8 +33,14 @@ pub fn parse_line(alloc: Global, line: &[u8]) -> Result<Line<'_>, LineError>
     let Ok(text) = str::from_utf8(line) else {
         unreachable!();
     };
+    Ok(Line::Command(parse_text(alloc, text)?))
+}
+
+fn parse_text(alloc: Global, text: &str) -> Result<Command<'_>, LineError>
+    ensures { ParsesToCommand (words_of text.now) result }
+{
     let words = split_words(alloc, text)?;
-    Ok(Line::Command(parse_command(alloc, words.as_slice())?))
+    parse_command(alloc, words.as_slice())
 }
 
 fn is_skipped(line: &[u8]) -> bool

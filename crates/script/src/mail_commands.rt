@@ -2,38 +2,10 @@
 ghost use Rattle.std.specs.Prelude.{◌∷◌, codes, map};
 ghost use Rattle.script.specs.Command.{ParsesToCommand};
 
-use crate::arguments::{name_and_number, name_and_two_numbers, one_name};
+use crate::arguments::{name_and_two_numbers, one_name};
 use crate::change::Change;
 use crate::command::Command;
 use crate::error::LineError;
-
-pub(crate) fn serve<'a>(words: &[&'a str]) -> Result<Command<'a>, LineError>
-    ensures { ParsesToCommand (codes "serve" ∷ map (λ w. w.now) words.now) result }
-{
-    let (name, place) = name_and_number(words)?;
-    Ok(Command::Change(Change::Serve { name, place }))
-}
-
-pub(crate) fn take<'a>(words: &[&'a str]) -> Result<Command<'a>, LineError>
-    ensures { ParsesToCommand (codes "take" ∷ map (λ w. w.now) words.now) result }
-{
-    let (name, place) = name_and_number(words)?;
-    Ok(Command::Change(Change::Take { name, place }))
-}
-
-pub(crate) fn lose<'a>(words: &[&'a str]) -> Result<Command<'a>, LineError>
-    ensures { ParsesToCommand (codes "lose" ∷ map (λ w. w.now) words.now) result }
-{
-    let (name, place) = name_and_number(words)?;
-    Ok(Command::Change(Change::Lose { name, place }))
-}
-
-pub(crate) fn repeat<'a>(words: &[&'a str]) -> Result<Command<'a>, LineError>
-    ensures { ParsesToCommand (codes "repeat" ∷ map (λ w. w.now) words.now) result }
-{
-    let (name, place) = name_and_number(words)?;
-    Ok(Command::Change(Change::Repeat { name, place }))
-}
 
 pub(crate) fn deliver<'a>(words: &[&'a str]) -> Result<Command<'a>, LineError>
     ensures { ParsesToCommand (codes "deliver" ∷ map (λ w. w.now) words.now) result }

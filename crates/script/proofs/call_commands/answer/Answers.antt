@@ -1,8 +1,0 @@
-use Rattle.std.proofs.Common.{◌∷◌, codes, map}
-use Rattle.script.proofs.NoCommandLemmas.{fails, none-Answer}
-use Rattle.script.proofs.call_commands.answer.Goals as goal
-
-pub returns-in_err-name : goal.returns-in_err-name
-returns-in_err-name c =
-    fails (codes "answer" ∷ map (λ w. w.now) c.args.words.now) _ _
-    c.from_residual.ensures.1 c.in_err-name.ensures.err.0 (none-Answer _ c.in_err-name.ensures.err.1)
