@@ -1,6 +1,6 @@
 -- An act of the object that a look-up found: what the cluster keeps, and by what it is refused.
 use Rattle.std.proofs.Common.{◌≡◌, ℕ, suc, pred, ◌+◌, ◌≤◌, Bool, true, false, List}
-use Rattle.std.proofs.Common.{length, Option, Some, None, Result, Ok, Err, IsErrAnd, inl, refl, sym, ◌∙◌, subst, arith}
+use Rattle.std.proofs.Common.{length, Option, Some, None, Result, Ok, Err, IsErrAnd, inl, refl, sym, subst, arith}
 use Rattle.std.proofs.lemmas.Result.{err_from_is_err_and}
 use Rattle.tag.specs.declared.limits.TheConstants.{MOST_STEPS}
 use Rattle.tag.specs.declared.refusal.Refusal.{Refusal}

@@ -1,4 +1,3 @@
-use Rattle.std.proofs.Common.{Some}
 use Rattle.cluster.specs.Causes.{next}
 use Rattle.cluster.specs.Cluster.{named, place_of}
 use Rattle.cluster.proofs.ActLemmas.{act_ok, act_err, begun_call}

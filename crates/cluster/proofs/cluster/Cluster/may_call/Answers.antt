@@ -1,4 +1,4 @@
-use Rattle.std.proofs.Common.{nat_le, ◌<◌, ◌≤◌, refl, sym, ap, subst, ◌∙◌, arith}
+use Rattle.std.proofs.Common.{nat_le, ◌<◌, ◌≤◌, sym, ap, subst, ◌∙◌, arith}
 use Rattle.tag.specs.Refusal.{IsExactlyByCause}
 use Rattle.tag.specs.declared.limits.TheConstants.{LONGEST_VALUE}
 use Rattle.tag.specs.declared.refusal.Refusal.TheVariants.{TooLong}
