@@ -1,6 +1,6 @@
-//! Tests of the coding crates, each called with values that were worked out by hand or by Intel's ISA-L, and of the pool
-//! of coding workers, with values that 0 to 64 workers code. The tests stand in a crate of their own, since a crate with
-//! tests is proved twice.
+//! Tests of the coding crates, each called with values that were worked out by hand or by Intel's ISA-L, and of the
+//! pool of coding workers, with values that 0 to 64 workers code. The tests stand in a crate of their own, since a
+//! crate with tests is proved twice.
 #![tactic(auto)]
 
 #[cfg(test)]

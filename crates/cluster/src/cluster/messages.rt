@@ -18,7 +18,7 @@ use crate::cluster::mailing::{exchanged, waiting};
 use crate::servers::Servers;
 use mail::{Body, Message};
 use phase::Took;
-use register::{Act, Answered, Register};
+use register::{Act, Register};
 use tag::{MOST_BYTES, MOST_STEPS, Refusal, Stamp};
 
 impl Cluster {
@@ -96,9 +96,13 @@ impl Cluster {
             (object_cause self.old name.entry.now (λ object. take_cause (next self.old) object place)) result }
         ensures unchanged { OnErr result (self.new ≡ self.old) }
     {
-        let Answered::Took(took) = self.act_at(name, object, Act::Take(place))? else {
-            unreachable!();
-        };
+        let register = &mut self.objects[object as usize];
+        register.allowed_steps_may_be_made();
+        let now = self.counter + 1;
+        let waited = waiting(register);
+        let took = register.take(place, now)?;
+        self.mailed = exchanged(self.mailed, waited, waiting(register));
+        self.counter = now;
         Ok(took)
     }
 
