@@ -60,22 +60,12 @@ pub third_word : (ws : List (Bor Word)) (d : Bor Word) → d.now ≡ [] → (nam
     → map (λ w. w.now) ws ≡ name ∷ v ∷ w ∷ rest → w ≡ (get_or ws 2 d).now
 third_word ws d empty name v w rest e = sym (ap (λ l. get_or l 2 []) e) ∙ word-at ws 2 d empty
 
--- what does not hold of the word at index 0, or at index 1, does not hold of the first or second of these words
-pub no_first : (ws : List (Bor Word)) (d : Bor Word) → d.now ≡ [] → (P : Word → Type 0) → ¬ (P (get_or ws 0 d).now)
-    → (w : Word) (rest : List Word) → map (λ w. w.now) ws ≡ w ∷ rest → ¬ (P w)
-no_first ws d empty P none w rest e holds = none (subst P (sym (ap (λ l. get_or l 0 []) e) ∙ word-at ws 0 d empty) holds)
-
+-- what does not hold of the word at index 1 does not hold of the second of these words
 pub no_second : (ws : List (Bor Word)) (d : Bor Word) → d.now ≡ [] → (P : Word → Type 0) → ¬ (P (get_or ws 1 d).now)
     → (name w : Word) (rest : List Word) → map (λ w. w.now) ws ≡ name ∷ w ∷ rest → ¬ (P w)
 no_second ws d empty P none name w rest e holds = none (subst P (second_word ws d empty name w rest e) holds)
 
--- what does not hold of the words from index 1, or from index 2, does not hold of these words after one or two
-pub no_rest : (ws : List (Bor Word)) (P : List Word → Type 0) → ¬ (P (map (λ w. w.now) (take (length ws - 1) (drop 1 ws))))
-    → (name : Word) (rest : List Word) → map (λ w. w.now) ws ≡ name ∷ rest → ¬ (P rest)
-no_rest [] P none name rest e holds = cc
-no_rest (v ∷ ws) P none name rest e holds =
-    none (subst P (sym (ap (λ (l : List Word). drop 1 l) e) ∙ ap (map (λ w. w.now)) (sym (take_rest (v ∷ ws) 1))) holds)
-
+-- what does not hold of the words from index 2 does not hold of these words after two
 pub no_rest_2 : (ws : List (Bor Word)) (P : List Word → Type 0) → ¬ (P (map (λ w. w.now) (take (length ws - 2) (drop 2 ws))))
     → (name w : Word) (rest : List Word) → map (λ w. w.now) ws ≡ name ∷ w ∷ rest → ¬ (P rest)
 no_rest_2 [] P none name w rest e holds = cc
@@ -84,11 +74,6 @@ no_rest_2 (v ∷ x ∷ ws) P none name w rest e holds =
     none (subst P (sym (ap (λ (l : List Word). drop 2 l) e) ∙ ap (map (λ w. w.now)) (sym (take_rest (v ∷ x ∷ ws) 2))) holds)
 
 -- all the words, by how many there are
-pub one_word : (ws : List (Bor Word)) (d : Bor Word) → length ws ≡ 1 → map (λ w. w.now) ws ≡ (get_or ws 0 d).now ∷ []
-one_word [] d one = absurd (omega arith)
-one_word (v ∷ []) d one = refl
-one_word (v ∷ w ∷ ws) d one = absurd (omega arith)
-
 pub two_words : (ws : List (Bor Word)) (d : Bor Word) → length ws ≡ 2
     → map (λ w. w.now) ws ≡ (get_or ws 0 d).now ∷ (get_or ws 1 d).now ∷ []
 two_words [] d two = absurd (omega arith)
@@ -100,11 +85,6 @@ pub three_words : (ws : List (Bor Word)) (d : Bor Word) → length ws ≡ 3
     → map (λ w. w.now) ws ≡ (get_or ws 0 d).now ∷ (get_or ws 1 d).now ∷ (get_or ws 2 d).now ∷ []
 three_words [] d three = absurd (omega arith)
 three_words (v ∷ ws) d three = ap (λ (l : List Word). v.now ∷ l) (two_words ws d (omega arith))
-
-pub one_and_rest : (ws : List (Bor Word)) (d : Bor Word) → 1 ≤ length ws
-    → map (λ w. w.now) ws ≡ (get_or ws 0 d).now ∷ map (λ w. w.now) (take (length ws - 1) (drop 1 ws))
-one_and_rest [] d some = absurd (omega arith)
-one_and_rest (v ∷ ws) d some = ap (λ (l : List (Bor Word)). v.now ∷ map (λ w. w.now) l) (sym (take_rest (v ∷ ws) 1))
 
 pub two_and_rest : (ws : List (Bor Word)) (d : Bor Word) → 2 ≤ length ws → map (λ w. w.now) ws
     ≡ (get_or ws 0 d).now ∷ (get_or ws 1 d).now ∷ map (λ w. w.now) (take (length ws - 2) (drop 2 ws))

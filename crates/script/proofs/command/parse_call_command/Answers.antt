@@ -17,15 +17,6 @@ returns-in-mail c = begins (map (λ w. w.now) c.args.rest.now) _ _ _ c.in-mail.i
 pub returns-in-bank : goal.returns-in-bank
 returns-in-bank c = begins (map (λ w. w.now) c.args.rest.now) _ _ _ c.in-bank.is c.bank.ensures
 
-pub parse_object_command-requires-clause-numbers : goal.parse_object_command-requires-clause-numbers
-parse_object_command-requires-clause-numbers c = c.requires.numbers
-
-pub parse_object_command-requires-clause-cluster : goal.parse_object_command-requires-clause-cluster
-parse_object_command-requires-clause-cluster c = c.requires.cluster
-
 pub parse_object_command-requires-clause-calls : goal.parse_object_command-requires-clause-calls
 parse_object_command-requires-clause-calls c =
     let d = c.in_default in (d.not-call, (d.not-text, (d.not-deliver, (d.not-mail, (d.not-bank, tt)))))
-
-pub returns-in_default : goal.returns-in_default
-returns-in_default c = c.parse_object_command.ensures

@@ -20,12 +20,6 @@ returns-in-up c = begins (map (λ w. w.now) c.args.rest.now) _ _ _ c.in-up.is c.
 pub returns-in-account : goal.returns-in-account
 returns-in-account c = begins (map (λ w. w.now) c.args.rest.now) _ _ _ c.in-account.is c.account.ensures
 
-pub parse_call_command-requires-clause-numbers : goal.parse_call_command-requires-clause-numbers
-parse_call_command-requires-clause-numbers c = c.requires
-
 pub parse_call_command-requires-clause-cluster : goal.parse_call_command-requires-clause-cluster
 parse_call_command-requires-clause-cluster c =
     let d = c.in_default in (d.not-servers, (d.not-layout, (d.not-object, (d.not-down, (d.not-up, (d.not-account, tt))))))
-
-pub returns-in_default : goal.returns-in_default
-returns-in_default c = c.parse_call_command.ensures
