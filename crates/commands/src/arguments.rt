@@ -2,7 +2,7 @@
 ghost use Rattle.std.specs.Prelude.{◌≡◌, ◌≢◌, ◌⊎◌, [], ◌∷◌, List, IfErr, IfOk, MatchResult, codes, false, map};
 ghost use Rattle.std.specs.Prelude.{option_map, string_bytes, unwrap_or};
 ghost use Rattle.clap.specs.Words.{fault_of, first_value, found_of, kind_of, matched_of, raw_values, rule_of};
-ghost use Rattle.clap.specs.Words.{subcommand_of, subcommand_rows_of};
+ghost use Rattle.clap.specs.Words.{App, subcommand_of, subcommand_rows_of, with_rule, with_subcommand};
 ghost use Rattle.tag.specs.declared.refusal.Refusal.TheVariants.{NoMemory};
 ghost use Rattle.commands.specs.CommandLine.{IsForm, cas_form, decode_form, fragments_form, marked_words, positional};
 ghost use Rattle.commands.specs.CommandLine.{run_form, several, soak_form};
@@ -23,6 +23,15 @@ pub(crate) fn parse_request(alloc: Global, words: &[String]) -> Result<Request, 
 {
     let marked = marked(alloc, words)?;
     let matches = read_words(alloc, marked.as_slice())?;
+    read_found(alloc, &matches)
+}
+
+/// Returns the request that `clap` found in the words.
+fn read_found(alloc: Global, matches: &ArgMatches<'_>) -> Result<Request, Fault>
+    ensures { (words : List Word) → fault_of cas_form (marked_words words) ≡ []
+        → subcommand_rows_of matches.now ≡ subcommand_of cas_form (marked_words words)
+        → ParsesTo words result }
+{
     let Some((command, found)) = matches.subcommand() else {
         return Err(Fault::Usage);
     };
@@ -83,47 +92,73 @@ fn from_clap(error: Error) -> Fault
 fn cas_form<'a>(alloc: Global) -> Result<Command<'a>, AllocError>
     ensures { IfOk result (λ c. IsForm c cas_form) }
 {
-    Command::new(alloc, "cas")
+    let form = Command::new(alloc, "cas")
         .disable_help_flag(true)
-        .disable_help_subcommand(true)
-        .subcommand(fragments_form(alloc)?)?
-        .subcommand(decode_form(alloc)?)?
-        .subcommand(run_form(alloc)?)?
-        .subcommand(soak_form(alloc)?)
+        .disable_help_subcommand(true);
+    let form = with_form(form, fragments_form(alloc))?;
+    let form = with_form(form, decode_form(alloc))?;
+    let form = with_form(form, run_form(alloc))?;
+    with_form(form, soak_form(alloc))
+}
+
+/// Adds a command to the form.
+fn with_form<'a>(
+    form: Command<'a>,
+    added: Result<Command<'a>, AllocError>,
+) -> Result<Command<'a>, AllocError>
+    ensures { (old inner : App) → IsForm form.entry old → IfOk added.entry (λ c. IsForm c inner)
+        → IfOk result (λ c. IsForm c (with_subcommand old inner.top)) }
+{
+    match added {
+        Ok(added) => form.subcommand(added),
+        Err(error) => Err(error),
+    }
 }
 
 fn fragments_form<'a>(alloc: Global) -> Result<Command<'a>, AllocError>
     ensures { IfOk result (λ c. IsForm c fragments_form) }
 {
-    Command::new(alloc, "fragments")
-        .arg(positional(alloc, "K"))?
-        .arg(positional(alloc, "N"))?
-        .arg(positional(alloc, "HEX"))
+    let form = with_word(alloc, Ok(Command::new(alloc, "fragments")), "K");
+    let form = with_word(alloc, form, "N");
+    with_word(alloc, form, "HEX")
 }
 
 fn decode_form<'a>(alloc: Global) -> Result<Command<'a>, AllocError>
     ensures { IfOk result (λ c. IsForm c decode_form) }
 {
-    Command::new(alloc, "decode")
-        .arg(positional(alloc, "K"))?
-        .arg(positional(alloc, "LEN"))?
-        .arg(several(alloc, "POINT:HEX"))
+    let form = with_word(alloc, Ok(Command::new(alloc, "decode")), "K");
+    let form = with_word(alloc, form, "LEN")?;
+    form.arg(several(alloc, "POINT:HEX"))
 }
 
 fn run_form<'a>(alloc: Global) -> Result<Command<'a>, AllocError>
     ensures { IfOk result (λ c. IsForm c run_form) }
 {
-    Command::new(alloc, "run").arg(positional(alloc, "FILE"))
+    with_word(alloc, Ok(Command::new(alloc, "run")), "FILE")
 }
 
 fn soak_form<'a>(alloc: Global) -> Result<Command<'a>, AllocError>
     ensures { IfOk result (λ c. IsForm c soak_form) }
 {
-    Command::new(alloc, "soak")
-        .arg(positional(alloc, "CLIENTS"))?
-        .arg(positional(alloc, "CALLS"))?
-        .arg(positional(alloc, "MOVES"))?
-        .arg(positional(alloc, "CHOICES"))
+    let form = with_word(alloc, Ok(Command::new(alloc, "soak")), "CLIENTS");
+    let form = with_word(alloc, form, "CALLS");
+    let form = with_word(alloc, form, "MOVES");
+    with_word(alloc, form, "CHOICES")
+}
+
+/// Adds a required word to the form of a command.
+fn with_word<'a>(
+    alloc: Global,
+    form: Result<Command<'a>, AllocError>,
+    id: &'a str,
+) -> Result<Command<'a>, AllocError>
+    ensures { (old : App) → IfOk form.entry (λ c. IsForm c old)
+        → IfOk result (λ c. IsForm c (with_rule old (positional id.entry.now))) }
+{
+    match form {
+        Ok(form) => form.arg(positional(alloc, id)),
+        Err(error) => Err(error),
+    }
 }
 
 fn positional<'a>(alloc: Global, id: &'a str) -> Arg<'a>
