@@ -1,6 +1,9 @@
 //! The cluster with which a soak begins.
-ghost use Rattle.std.specs.Prelude.{◌≡◌, IfErr, IfOk, OnOk};
+ghost use Rattle.std.specs.Prelude.{◌≡◌, None, IfErr, IfOk, OnOk};
 ghost use Rattle.tag.specs.declared.refusal.Refusal.TheVariants.{NoMemory};
+ghost use Rattle.cluster.specs.Causes.{layout_cause};
+ghost use Rattle.cluster.specs.Steps.{with_layout};
+ghost use Rattle.layout.specs.Layout.{IsLawful};
 ghost use Rattle.soak.specs.Setting.{five_servers, setting, with_layouts};
 
 use cluster::Cluster;
@@ -38,8 +41,18 @@ fn add_layouts(cluster: &mut Cluster) -> Result<(), Refusal>
     ensures layouts { OnOk result (cluster.new ≡ with_layouts) }
     ensures refused { IfErr result (λ r. r ≡ NoMemory) }
 {
-    cluster.add_layout(Layout::new(2, &[0, 1, 2, 3])?)?;
-    cluster.add_layout(Layout::new(3, &[0, 1, 2, 3, 4])?)?;
-    cluster.add_layout(Layout::new(1, &[2, 3, 4])?)?;
+    add(cluster, 2, &[0, 1, 2, 3])?;
+    add(cluster, 3, &[0, 1, 2, 3, 4])?;
+    add(cluster, 1, &[2, 3, 4])
+}
+
+// Adds a layout, which the cluster has room for.
+fn add(cluster: &mut Cluster, k: u8, members: &[u8]) -> Result<(), Refusal>
+    requires lawful { IsLawful (record { k = k; members = members.now }) }
+    requires room { layout_cause cluster.old (record { k = k; members = members.now }) ≡ None }
+    ensures added { OnOk result (cluster.new ≡ with_layout cluster.old (record { k = k; members = members.now })) }
+    ensures refused { IfErr result (λ r. r ≡ NoMemory) }
+{
+    cluster.add_layout(Layout::new(k, members)?)?;
     Ok(())
 }
