@@ -132,13 +132,7 @@ fn copy_to_keep(
         (λ e. (e ≡ NoMemory) × ((due ≡ want.Answer) × ((hand.now ≡ hands.Empty)
         × (cluster.now.counter < MOST_STEPS)))) }
 {
-    if due != Want::Answer {
-        return Ok(None);
-    }
-    if !hand.is_empty() {
-        return Ok(None);
-    }
-    if cluster.counter() >= MOST_STEPS {
+    if due != Want::Answer || !hand.is_empty() || cluster.counter() >= MOST_STEPS {
         return Ok(None);
     }
     let Ok(register) = cluster.register(name) else {
