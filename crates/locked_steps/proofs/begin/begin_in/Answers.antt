@@ -1,6 +1,7 @@
 use Rattle.std.proofs.Common.{◌≡◌, ◌<◌, suc, false, List, ℕ, Option, Some, None, refl, ap, ◌∙◌, arith}
 use Rattle.std.specs.Prelude.{is_some, vec_len, vec_capacity}
 use Rattle.std.specs.String.{string_bytes}
+use Rattle.std.proofs.lemmas.Grind.{common_steps}
 use Rattle.locked_steps.specs.Seats.{SeatState, pending_of}
 use Rattle.locked_steps.specs.declared.call_record.CallRecord.{CallRecord}
 use Rattle.locked_steps.proofs.RecordOrderLemmas.{rising_begun, length_begun}
@@ -32,3 +33,9 @@ invariant_of-seat-2 g c =
       unanswered,
       omega (arith, room),
     )
+
+pub invariant_of-booked : goal.invariant_of-booked
+invariant_of-booked g c = grind (arith, common_steps)
+
+pub invariant_of-booked-2 : goal.invariant_of-booked-2
+invariant_of-booked-2 g c = grind (arith, common_steps)

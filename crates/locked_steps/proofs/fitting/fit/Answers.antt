@@ -1,5 +1,6 @@
 use Rattle.std.proofs.Common.{◌≡◌, ◌∙◌, ◌<◌, ◌++◌, length, take, get_or, sym, ap, rules, arith, false, Ok, List}
 use Rattle.std.specs.Prelude.{map, IsTrue}
+use Rattle.std.proofs.lemmas.Grind.{elements}
 use Rattle.std.proofs.lemmas.List.{length-map, map-append, take_all}
 use Rattle.locked_steps.specs.Closing.{AllStand, all_records, key_of}
 use Rattle.locked_steps.specs.Seats.{SeatState, records_of}
@@ -43,3 +44,9 @@ returns-clause-few g c = λ is.
     let n = length-map (all_records (take c.loop-seat.seat-index ss)) key_of in
     let same = ap (λ (l : List SeatState). length (all_records l)) whole in
     omega (arith, c.deref_mut.type_inv.0, keys, n, same)
+
+pub returns-clause-fit : goal.returns-clause-fit
+returns-clause-fit g c = grind (arith, elements)
+
+pub returns-clause-order : goal.returns-clause-order
+returns-clause-order g c = grind (arith, elements)

@@ -1,4 +1,5 @@
-use Rattle.std.proofs.Common.{◌%◌, length, inl, inr, refl, sym, ap, ◌∙◌}
+use Rattle.std.proofs.Common.{◌%◌, length, inl, inr, refl, sym, ap, ◌∙◌, arith}
+use Rattle.std.proofs.lemmas.Grind.{common_steps}
 use Rattle.record.specs.Steps.{Step}
 use Rattle.cluster.specs.Steps.{with_step}
 use Rattle.locked_steps.proofs.ReachableLemmas.{goes_on_step}
@@ -84,3 +85,6 @@ pub returns-in_ok-repeat-clause-course : goal.returns-in_ok-repeat-clause-course
 returns-in_ok-repeat-clause-course g c =
     goes_on_step c.args.cluster.now c.repeat.new.self c.args.name.now (Step.Repeat (c.choose.result % c.len-count.result))
     c.in_ok-repeat.ensures.may c.in_ok-repeat.ensures.step
+
+pub returns-then-count-eq0-clause-step : goal.returns-then-count-eq0-clause-step
+returns-then-count-eq0-clause-step g c = grind (arith, common_steps)

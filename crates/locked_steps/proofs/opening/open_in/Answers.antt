@@ -1,4 +1,7 @@
-use Rattle.std.proofs.Common.{◌≡◌, ◌+◌, ◌++◌, ◌∷◌, [], ap, arith, add-one}
+use Rattle.std.proofs.Common.{◌≡◌, ◌+◌, ◌++◌, ◌≤◌, ◌∷◌, [], length, ap, ◌∙◌, arith, add-one}
+use Rattle.register.proofs.ListLemmas.{all_weaker}
+use Rattle.cluster.specs.Cluster.{Named}
+use Rattle.cluster.specs.Kept.{IsPlaced}
 use Rattle.locked_steps.specs.Seats.{new_seat, new_seats}
 use Rattle.locked_steps.proofs.opening.open_in.Goals as goal
 
@@ -13,3 +16,16 @@ loop-number-preserved g c =
       len = omega arith;
       room = omega arith;
     }
+
+pub new-booked-requires-clause-sound : goal.new-booked-requires-clause-sound
+new-booked-requires-clause-sound g c =
+    let store = c.args.cluster in
+    record {
+      records = c.soundness.ensures.sound;
+      past = all_weaker (IsPlaced (length store.servers) store.counter) (λ (o : Named). o.state.last ≤ store.counter) store.objects
+          (λ o placed. placed.past) c.soundness.ensures.kept.objects;
+    }
+
+pub returns-clause-seats : goal.returns-clause-seats
+returns-clause-seats g c =
+    let all : c.loop-number.number ≡ c.args.seats = omega arith in c.loop-number.invariant.items ∙ ap new_seats all
