@@ -17,21 +17,21 @@ use Rattle.record.specs.Records.{Call, Object, layout_at}
 use Rattle.record.specs.PhaseOrder.{begun_at, due}
 use Rattle.record.specs.Legal.{IsLegal, due_of}
 use Rattle.record.specs.Preconditions.{MayStep}
-use Rattle.record.specs.Wants.{Wants}
+use Rattle.record.specs.Wants.{Wants, want_of}
 use Rattle.record.specs.Steps.{stepped, on_call, advanced_object}
 use Rattle.record.specs.Sending.{sent_pieces}
 use Rattle.soundness.proofs.Sound.WantPreconditionLemmas.{Plain, advance_ready, lacking_of}
 use Rattle.soundness.proofs.Sound.RestartLemmas.{anew_due}
 use Rattle.transfer.specs.Limits.{IsBelowLimit}
-use Rattle.register.specs.Causes.{unless, wants_due, due_step, due_cause, new_phase_cause}
+use Rattle.register.specs.Causes.{unless, call_at, wants_due, due_step, due_cause, new_phase_cause}
 use Rattle.call.specs.Pieces.{piece_from, HavePieces}
 use Rattle.register.specs.Position.{Position}
-use Rattle.register.specs.State.{Contents, made, state_of}
+use Rattle.register.specs.State.{Contents, State, made, state_of}
 use Rattle.register.specs.Tracked.{Tracked}
 use Rattle.register.proofs.BeginPhaseLemmas.{IsBeginning}
 use Rattle.register.proofs.ChangedCallLemmas.{below_limit, due_below, requests_plain, with_due, with_due_is}
 use Rattle.register.proofs.FirstReadingLemmas.{begun_below}
-use Rattle.register.proofs.FoundCallLemmas.{IsFound, IsWanting, at, at_place, place, same, below_due, due_kept, caused}
+use Rattle.register.proofs.FoundCallLemmas.{IsFound, IsWanting, at, at_number, at_place, place, same, below_due, due_kept, caused}
 use Rattle.register.proofs.RoomLemmas.{step_past}
 use Rattle.register.proofs.SentPieceLemmas.{layout_read}
 use Rattle.register.proofs.StepInvariantLemmas.{base_within, due_now, few_positions}
@@ -92,6 +92,34 @@ module _ {c : Contents} {number index : ℕ} {t : Tracked} {w : Want} (anew : Bo
   -- past the limit of steps
   pub due_past : wants_due anew w ≡ true → MOST_STEPS < now → due_cause anew now (state_of c).object number ≡ Some Full
   due_past is past = due_cause_by true is ∙ step_past now _ past
+
+-- what is told of the call of this number
+pub tell_wants : {c : Contents} {number index : ℕ} {t : Tracked} {w : Want} (anew : Bool) → IsWanting c number index t w
+    → wants_due anew w ≡ true → (asked : Call) → call_at (state_of c).object number ≡ Some asked
+    → wants_due anew (want_of (state_of c).object (pred number) asked) ≡ true
+tell_wants {c = c} {number = number} {t = t} anew w is asked there =
+    subst (λ (call : Call). wants_due anew (want_of (state_of c).object (pred number) call) ≡ true)
+    (same_Some t.call asked (sym (at_number w.found) ∙ there)) (ap (wants_due anew) w.wants ∙ is)
+
+pub tell_due : {c : Contents} {number index : ℕ} {t : Tracked} {kind : Kind} {position : ℕ} → IsFound c number index t
+    → due (begun_at t.stage c.base) ≡ Some (kind, position) → (asked : Call) → call_at (state_of c).object number ≡ Some asked
+    → due_of (state_of c).object (pred number) asked ≡ Some (kind, position)
+tell_due {c = c} {number = number} {t = t} {kind = kind} {position = position} f is asked there =
+    subst (λ (call : Call). due_of (state_of c).object (pred number) call ≡ Some (kind, position))
+    (same_Some t.call asked (sym (at_number f) ∙ there)) (sym (due_kept f) ∙ is)
+
+-- what was told of the call of this number: it wants the phase that is due, and this phase is due
+pub as_told : {c : Contents} {s : State} {number index : ℕ} {t : Tracked} {kind : Kind} {position : ℕ} (anew : Bool)
+    → IsFound c number index t → state_of c ≡ s
+    → ((asked : Call) → call_at s.object number ≡ Some asked → wants_due anew (want_of s.object (pred number) asked) ≡ true)
+    → ((asked : Call) → call_at s.object number ≡ Some asked → due_of s.object (pred number) asked ≡ Some (kind, position))
+    → (wants_due anew (want_of (state_of c).object (pred number) t.call) ≡ true) × (due (begun_at t.stage c.base) ≡ Some (kind, position))
+as_told {number = number} {t = t} {kind = kind} {position = position} anew f view wants due_is = (
+  subst (λ (r : State). (asked : Call) → call_at r.object number ≡ Some asked
+      → wants_due anew (want_of r.object (pred number) asked) ≡ true) (sym view) wants t.call (at_number f),
+  due_kept f ∙ subst (λ (r : State). (asked : Call) → call_at r.object number ≡ Some asked
+      → due_of r.object (pred number) asked ≡ Some (kind, position)) (sym view) due_is t.call (at_number f),
+)
 
 -- the step begins the phase that is due, as it is or anew
 due_stepped : (anew : Bool) (index now : ℕ) (object : Object)

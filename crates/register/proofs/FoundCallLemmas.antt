@@ -20,6 +20,7 @@ use Rattle.register.specs.State.{Contents, State, object_of, state_of}
 use Rattle.register.specs.Tracked.{Tracked, HasPositionsBelow, tracked_want}
 use Rattle.register.specs.View.{want_at}
 use Rattle.register.proofs.FirstReadingLemmas.{begun_want}
+use Rattle.register.proofs.ListLemmas.{length_map}
 use Rattle.register.proofs.StepInvariantLemmas.{call_found, due_now, due_placed, is_below, few_positions}
 
 -- the call of this number stands at this place of what is kept
@@ -109,6 +110,11 @@ pub wanting : {c : Contents} {number index : ℕ} {t : Tracked} {positions : Lis
     → v ≡ tracked_want (object_of None positions [] []) t → positions ≡ c.positions → v ≡ w → IsWanting c number index t w
 wanting found is same matched = record { found = found; wants = wanted found is same ∙ matched }
 
+-- the call was read, and wants what it wants
+pub wants_now : {c : Contents} {number index : ℕ} {t : Tracked} (f : IsFound c number index t)
+    → IsWanting c number index t (want_of (state_of c).object (pred number) t.call)
+wants_now f = record { found = f; wants = refl }
+
 pub want_at_is : {c : Contents} {number index : ℕ} {t : Tracked} {w : Want} → IsWanting c number index t w
     → want_at (state_of c).object number ≡ Some w
 want_at_is {c = c} {number = number} w =
@@ -122,6 +128,32 @@ is_found {c = c} {index = index} {t = t} kept place calls_are read = record {
   kept = kept;
   named = place.0;
   there = slice_get_read c.calls (length c.calls) index t refl (subst (λ (xs : List Tracked). index < length xs) calls_are place.1) read;
+}
+
+-- a place among the calls that a caller sees is one among those that are kept
+pub within_calls : {c : Contents} {s : State} {index : ℕ} → IsKept c → state_of c ≡ s → index < length s.object.calls
+    → index < length c.calls
+within_calls {c = c} {index = index} kept view within =
+    subst (λ n. index < n) (length_map (λ (u : Tracked). u.call) c.calls)
+    (subst (λ (r : State). index < length r.object.calls) (sym view) within)
+
+-- and the other way round
+pub seen_at : {c : Contents} {s : State} {number index : ℕ} {calls : List Tracked} → IsKept c → state_of c ≡ s → calls ≡ c.calls
+    → (suc index ≡ number) × (index < length calls) → (suc index ≡ number) × (index < length s.object.calls)
+seen_at {c = c} {index = index} kept view calls_are named = (
+  named.0,
+  subst (λ (r : State). index < length r.object.calls) view
+      (subst (λ n. index < n) (sym (length_map (λ (u : Tracked). u.call) c.calls))
+      (subst (λ (xs : List Tracked). index < length xs) calls_are named.1)),
+)
+
+-- a call that is read at the place of its number is found
+pub found_at : {c : Contents} {s : State} {number index : ℕ} {t : Tracked} → IsKept c → state_of c ≡ s
+    → (suc index ≡ number) × (index < length s.object.calls) → t ≡ get_or c.calls index t → IsFound c number index t
+found_at {c = c} {index = index} {t = t} kept view named read = record {
+  kept = kept;
+  named = named.0;
+  there = slice_get_read c.calls (length c.calls) index t refl (within_calls kept view named.1) read;
 }
 
 -- there are not too many positions

@@ -3,7 +3,7 @@ use Rattle.std.proofs.Common.{◌≡◌, ℕ, suc, ◌+◌, ◌<◌, ◌≤◌, 
 use Rattle.std.proofs.Common.{Some, None, Result, Ok, Err, IsErrAnd, Bool, not, sym, ap, subst, ◌∙◌, inr, refl, arith}
 use Rattle.std.proofs.lemmas.Bool.Decides.{nat_tests}
 use Rattle.tag.specs.Cause.{IsRefusalBy}
-use Rattle.tag.specs.declared.limits.TheConstants.{MOST_BYTES, MOST_MESSAGES, MOST_STEPS}
+use Rattle.tag.specs.declared.limits.TheConstants.{MOST_BYTES, MOST_MESSAGES, MOST_PHASES, MOST_STEPS}
 use Rattle.tag.specs.declared.refusal.Refusal.{Refusal}
 use Rattle.tag.specs.declared.refusal.Refusal.TheVariants.{Full, NoMemory}
 use Rattle.tag.specs.Refusal.{IsByCause}
@@ -106,3 +106,23 @@ pub more_few : (mail more : List Message) (count : ℕ) (b : Bool) → count ≡
     → nat_le (length (mail ++ more)) MOST_MESSAGES ≡ b
 more_few mail more count b is room =
     ap (λ n. nat_le n MOST_MESSAGES) (length_append mail more ∙ ap (λ n. length mail + n) (sym is)) ∙ sym room
+
+-- messages that have room if they are few
+pub fits_by : (messages : List Message) (b : Bool) → HasRoomIfFew messages → nat_le (length messages) MOST_MESSAGES ≡ b
+    → mail_cause messages ≡ unless b Full None
+fits_by messages true room few = few_room messages room few
+fits_by messages false room many = many_full messages many
+
+pub room_by : (few fits b : Bool) (messages : List Message) → HasRoomIfFew messages → nat_le (length messages) MOST_MESSAGES ≡ fits
+    → b ≡ (few && fits) → unless few Full (mail_cause messages) ≡ unless b Full None
+room_by true fits b messages room tested is = fits_by messages fits room tested ∙ ap (λ x. unless x Full None) (sym is)
+room_by false fits b messages room tested is = ap (λ x. unless x Full None) (sym is)
+
+-- whether a phase may begin, by the tests of `can_begin`: on the number of phases, and on that of messages
+pub begin_by : (phases : ℕ) (mail : List Message) (call phase : ℕ) (kind : Kind) (position : ℕ) (servers : List ℕ) (piece : ℕ → Piece)
+    (count : ℕ) (b : Bool) → HasRoomIfFew (mail ++ requests call phase kind position servers 0 piece) → count ≡ length servers
+    → b ≡ (nat_lt phases MOST_PHASES && nat_le (length mail + count) MOST_MESSAGES)
+    → unless (nat_lt phases MOST_PHASES) Full (mail_cause (mail ++ requests call phase kind position servers 0 piece)) ≡ unless b Full None
+begin_by phases mail call phase kind position servers piece count b room is tested =
+    room_by (nat_lt phases MOST_PHASES) (nat_le (length mail + count) MOST_MESSAGES) b _ room
+    (sum_few mail call phase kind position servers piece count (nat_le (length mail + count) MOST_MESSAGES) is refl) tested

@@ -3,34 +3,41 @@ use Rattle.std.proofs.Common.{◌≡◌, ℕ, pred, ◌<◌, nat_lt, Bool, true,
 use Rattle.std.proofs.Common.{Option, Some, None, sym, ap, subst, ◌∙◌, refl}
 use Rattle.std.specs.Cmp.Lexicographic.{same_text}
 use Rattle.std.proofs.lemmas.Bool.{eqb-true}
+use Rattle.std.proofs.lemmas.Option.{same_Some}
 use Rattle.tag.specs.declared.limits.TheConstants.{MOST_PHASES, MOST_STEPS}
 use Rattle.tag.specs.declared.refusal.Refusal.{Refusal}
 use Rattle.tag.specs.declared.refusal.Refusal.TheVariants.{WrongCode, Full}
+use Rattle.bank.specs.declared.kind.Kind.{Kind}
+use Rattle.bank.specs.declared.kind.Kind.TheVariants.{PreWrite}
 use Rattle.mail.specs.Mail.{mail_cause}
 use Rattle.encoder.specs.Coded.{Coding}
 use Rattle.encoder.specs.Fragment.{fragment, piece_at_point}
 use Rattle.layout.specs.Layout.{Layout}
 use Rattle.phase.specs.Phase.{Phase}
-use Rattle.record.specs.Records.{Object, layout_at}
+use Rattle.record.specs.Records.{Call, Object, layout_at}
 use Rattle.record.specs.Steps.{Step, stepped, on_call, advanced_object}
 use Rattle.record.specs.Sending.{sent_value, value_or_empty, fragment_piece, sent_pieces}
 use Rattle.record.specs.Steps.{supplied_by, supplied_object}
 use Rattle.record.specs.Steps as steps
 use Rattle.record.specs.Wants.{current_phase}
-use Rattle.register.specs.Causes.{supply_cause, supplied_cause, supply_room_cause, is_replied, if_step, unless}
-use Rattle.call.specs.Pieces.{piece_from}
-use Rattle.register.specs.Coding.{is_coded_for}
+use Rattle.register.specs.Causes.{call_at, supply_cause, supplied_cause, supply_room_cause, is_replied, if_step, unless}
+use Rattle.call.specs.Pieces.{piece_from, HavePieces}
+use Rattle.register.specs.Coding.{is_coded_for, pieces_due}
 use Rattle.register.specs.Position.{Position}
-use Rattle.register.specs.State.{Contents, state_of}
+use Rattle.register.specs.State.{Contents, State, state_of}
 use Rattle.register.specs.Tracked.{Tracked}
-use Rattle.register.proofs.FoundCallLemmas.{IsFound, at, caused}
+use Rattle.register.proofs.FoundCallLemmas.{IsFound, at, at_number, caused}
 use Rattle.register.proofs.RoomLemmas.{step_past}
-use Rattle.register.proofs.SentPieceLemmas.{IsSendingTo, or_empty, layout_there}
+use Rattle.register.proofs.SentPieceLemmas.{IsSendingTo, or_empty, layout_there, sent_value_there}
 use Rattle.register.proofs.RecordedPieceLemmas.{both_left, both_right}
 
 pub none_of : {X : Type 0} (o : Option X) → ((x : X) → o ≡ Some x → ⊥) → o ≡ None
 none_of None no_some = refl
 none_of (Some x) no_some = absurd (no_some x refl)
+
+filled : (o : Option (List ℕ)) → (None ≡ o → ⊥) → Some (value_or_empty o) ≡ o
+filled None some = absurd (some refl)
+filled (Some value) some = refl
 
 -- a call that was read is to send the pieces of this value, and it is coded for the layout that they go to
 pub record IsSupplied (c : Contents) (number index : ℕ) (t : Tracked) (coded : Coding) (position : ℕ) (layout : Layout)
@@ -115,3 +122,43 @@ module _ {c : Contents} {number index : ℕ} {t : Tracked} {coded : Coding} {pos
       ∙ ap (λ o. on_call object o (λ call. supplied_object fragment object index call now)) (at found)
       ∙ ap (λ o. supplied_by fragment object index t.call now o) current
       ∙ ap (λ b. cond b (advanced_object fragment object index t.call now) (steps.asked_again fragment object t.call (Some phase))) is
+
+-- an encoded value with a piece for each member is enough for a phase of any kind
+pub have_coded : (kind : Kind) (members : ℕ) (coded : Coding) → coded.n ≡ members → HavePieces kind members (Some coded)
+have_coded (PreWrite tag) members coded enough = enough
+have_coded _ members coded enough = tt
+
+-- what is told of the call of this number: where its pieces go, and that they are coded for that
+abbrev pub Sends : (number position : ℕ) → Coding → Object → Call → Type 0
+Sends number position coded o call = (pieces_due o (pred number) call ≡ Some position)
+    × (is_coded_for (layout_at o position) (value_or_empty (sent_value call.kind call.settled)) coded ≡ true)
+
+module _ {c : Contents} {number index position : ℕ} {t : Tracked} where
+  pub tell_sends : {coded : Coding} {layout : Layout} {value : List ℕ} → IsSupplied c number index t coded position layout value
+      → (asked : Call) → call_at (state_of c).object number ≡ Some asked → Sends number position coded (state_of c).object asked
+  tell_sends {coded = coded} {layout = layout} {value = value} s asked there =
+      subst (Sends number position coded (state_of c).object) (same_Some t.call asked (sym (at_number s.to.found) ∙ there)) (
+        s.to.due,
+        ap (λ (l : Layout). is_coded_for l (value_or_empty (sent_value t.call.kind t.call.settled)) coded) s.placed
+            ∙ ap (λ (v : List ℕ). is_coded_for layout v coded) (or_empty (sent_value t.call.kind t.call.settled) value s.sent) ∙ s.right,
+      )
+
+  -- what was told of it
+  module _ (coded : Coding) (found : IsFound c number index t) {s : State} (view : state_of c ≡ s)
+      (told : (asked : Call) → call_at s.object number ≡ Some asked → Sends number position coded s.object asked) where
+    both : Sends number position coded (state_of c).object t.call
+    both =
+        subst (λ (r : State). (asked : Call) → call_at r.object number ≡ Some asked → Sends number position coded r.object asked)
+        (sym view) told t.call (at_number found)
+
+    pub sends_to : IsSendingTo c number index t (Some position)
+    sends_to = record { found = found; due = both.0 }
+
+    pub supplied_to : {layout : Layout} → layout_at (state_of c).object position ≡ layout
+        → IsSupplied c number index t coded position layout (value_or_empty (sent_value t.call.kind t.call.settled))
+    supplied_to {layout = layout} placed = record {
+      to = sends_to;
+      placed = placed;
+      sent = filled (sent_value t.call.kind t.call.settled) (sent_value_there sends_to);
+      right = ap (λ (l : Layout). is_coded_for l (value_or_empty (sent_value t.call.kind t.call.settled)) coded) (sym placed) ∙ both.1;
+    }

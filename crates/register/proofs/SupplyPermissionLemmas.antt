@@ -10,7 +10,6 @@ use Rattle.encoder.specs.Fragment.{fragment}
 use Rattle.piece.specs.declared.piece.Piece.{Piece}
 use Rattle.bank.specs.declared.kind.Kind.{Kind}
 use Rattle.layout.specs.Layout.{Layout}
-use Rattle.mail.specs.declared.message.Message.{Message}
 use Rattle.mail.specs.Mail.{mail_cause}
 use Rattle.phase.specs.Phase.{Phase}
 use Rattle.record.specs.Legal.{due_of}
@@ -22,14 +21,13 @@ use Rattle.record.specs.Wants.{current_phase}
 use Rattle.register.specs.Causes.{call_at, if_call, unless, is_replied, supply_cause, supplied_cause, supply_room_cause, supplying_cause}
 use Rattle.call.specs.Pieces.{piece_from}
 use Rattle.register.specs.Coding.{bytes_eq, is_coded_for, pieces_due, pieces_position}
-use Rattle.register.specs.Kept.{HasRoomIfFew}
 use Rattle.register.specs.Position.{Position}
 use Rattle.register.specs.State.{Contents, State, state_of}
 use Rattle.register.specs.Tracked.{Tracked, asked_again}
 use Rattle.register.proofs.AskAgainLemmas.{IsAsking, again_room, again_by}
 use Rattle.register.proofs.BeginPhaseLemmas.{IsBeginning, mail_begun, begin_room, begin_cause}
 use Rattle.register.proofs.FoundCallLemmas.{caused}
-use Rattle.register.proofs.RoomLemmas.{few_room, many_full, sum_few}
+use Rattle.register.proofs.RoomLemmas.{fits_by, room_by, sum_few}
 use Rattle.register.proofs.SentPieceLemmas.{IsSendingTo, sent_value_there, layout_there}
 use Rattle.register.proofs.SuppliedPieceLemmas.{IsSupplied, room_is, past_both}
 use Rattle.register.proofs.SupplyStepLemmas.{wants_pieces, same_due, begins, asks}
@@ -58,17 +56,6 @@ or_wrong now object number coded = go (call_at object number)
         (λ call. unless (is_some (pieces_due object (pred number) call)) NotNow (supply_room_cause now object (pred number) call)))
     go None = inr refl
     go (Some call) = at call (pieces_due object (pred number) call)
-
--- messages that have room if they are few
-pub fits_by : (messages : List Message) (b : Bool) → HasRoomIfFew messages → nat_le (length messages) MOST_MESSAGES ≡ b
-    → mail_cause messages ≡ unless b Full None
-fits_by messages true room few = few_room messages room few
-fits_by messages false room many = many_full messages many
-
-room_by : (few fits b : Bool) (messages : List Message) → HasRoomIfFew messages → nat_le (length messages) MOST_MESSAGES ≡ fits
-    → b ≡ (few && fits) → unless few Full (mail_cause messages) ≡ unless b Full None
-room_by true fits b messages room tested is = fits_by messages fits room tested ∙ ap (λ x. unless x Full None) (sym is)
-room_by false fits b messages room tested is = ap (λ x. unless x Full None) (sym is)
 
 bytes_same : (xs : List ℕ) → bytes_eq xs xs ≡ true
 bytes_same [] = refl

@@ -71,6 +71,13 @@ module _ {c : Contents} {number index : ℕ} {t : Tracked} {coded : Coding} {pos
       let sends = (supply_ready object (pred number) t.call wants.0 wants.1 wants.2.1).1 in
       begun_due t.stage c.base (λ p e. not_first sends.tag sends.position p (sym sends.is_due ∙ sym (due_kept found) ∙ e)) ∙ due_kept found
 
+  -- and there is one
+  pub some_due : is_replied (current_phase t.call.phases) ≡ true → due t.stage ≡ None → ⊥
+  some_due replied none =
+      let wants = wants_pieces replied in
+      let sends = (supply_ready object (pred number) t.call wants.0 wants.1 wants.2.1).1 in
+      absurd (let clash : Some (PreWrite sends.tag, sends.position) ≡ None = sym sends.is_due ∙ sym (same_due wants) ∙ none in cc)
+
   -- the phase that is due begins
   module _ (replied : is_replied (current_phase t.call.phases) ≡ true) {kind : Kind} {target : ℕ}
       (due_is : due t.stage ≡ Some (kind, target)) where

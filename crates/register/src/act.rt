@@ -1,9 +1,11 @@
 //! A step that a caller asks for, as one value.
 
 ghost use Rattle.std.specs.Prelude.{◌≡◌, ◌<◌, Some, IfOk, OnOk, OnErr};
+ghost use Rattle.std.specs.Result.{result_map_both};
 ghost use Rattle.record.specs.Fragments.{AreBytes};
 ghost use Rattle.register.specs.Act.{HasLawfulValues, IsActCause, act_cause, answered_by, step_of};
 ghost use Rattle.register.specs.State.{made, next_id};
+ghost use Rattle.register.specs.declared.act.Answered.TheVariants.{Call, Nothing};
 
 use crate::register::Register;
 use bytes::Bytes;
@@ -97,43 +99,34 @@ impl Register {
         ensures unchanged { OnErr result (self.new ≡ self.old) }
     {
         match act {
-            Act::CallRead => Ok(Answered::Call(self.call_read(now)?)),
-            Act::CallWrite(value) => Ok(Answered::Call(self.call_write(value, now)?)),
-            Act::CallMove(layout) => Ok(Answered::Call(self.call_move(layout, now)?)),
-            Act::Advance(call) => {
-                self.advance(call, now)?;
-                Ok(Answered::Nothing)
-            }
-            Act::Again(call) => {
-                self.again(call, now)?;
-                Ok(Answered::Nothing)
-            }
-            Act::Supply(call, coded) => {
-                self.supply(call, coded, now)?;
-                Ok(Answered::Nothing)
-            }
-            Act::Post(call) => {
-                self.post(call, now)?;
-                Ok(Answered::Nothing)
-            }
-            Act::Settle(call, decoded) => {
-                self.settle(call, decoded, now)?;
-                Ok(Answered::Nothing)
-            }
+            Act::CallRead => called(self.call_read(now)),
+            Act::CallWrite(value) => called(self.call_write(value, now)),
+            Act::CallMove(layout) => called(self.call_move(layout, now)),
+            Act::Advance(call) => nothing(self.advance(call, now)),
+            Act::Again(call) => nothing(self.again(call, now)),
+            Act::Supply(call, coded) => nothing(self.supply(call, coded, now)),
+            Act::Post(call) => nothing(self.post(call, now)),
+            Act::Settle(call, decoded) => nothing(self.settle(call, decoded, now)),
             Act::Answer(call) => Ok(Answered::Receipt(self.answer(call, object, now)?)),
-            Act::Serve(place) => {
-                self.serve(place, now)?;
-                Ok(Answered::Nothing)
-            }
+            Act::Serve(place) => nothing(self.serve(place, now)),
             Act::Take(place) => Ok(Answered::Took(self.take(place, now)?)),
-            Act::Lose(place) => {
-                self.lose(place, now)?;
-                Ok(Answered::Nothing)
-            }
-            Act::Repeat(place) => {
-                self.repeat(place, now)?;
-                Ok(Answered::Nothing)
-            }
+            Act::Lose(place) => nothing(self.lose(place, now)),
+            Act::Repeat(place) => nothing(self.repeat(place, now)),
         }
     }
+}
+
+// The result of an act that begins a call.
+fn called(made: Result<CallId, Refusal>) -> Result<Answered, Refusal>
+    ensures { result ≡ result_map_both (λ number. Call number) (λ e. e) made }
+{
+    Ok(Answered::Call(made?))
+}
+
+// The result of an act that returns nothing.
+fn nothing(made: Result<(), Refusal>) -> Result<Answered, Refusal>
+    ensures { result ≡ result_map_both (λ u. Nothing) (λ e. e) made }
+{
+    made?;
+    Ok(Answered::Nothing)
 }

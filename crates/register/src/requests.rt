@@ -1,19 +1,45 @@
 //! The requests of a phase that are resent.
 
-ghost use Rattle.std.specs.Prelude.{◌≡◌, ◌+◌, ◌==◌, ◌&&◌, ◌||◌, nat_le, ℕ, List, length, IfOk, IfErr, option_copied};
+ghost use Rattle.std.specs.Prelude.{◌≡◌, ◌+◌, ◌++◌, ◌==◌, ◌&&◌, ◌||◌, nat_le, ℕ, List, length, option_copied, None};
+ghost use Rattle.std.specs.Prelude.{IfOk, IfErr, OnOk, OnErr};
 ghost use Rattle.tag.specs.declared.limits.TheConstants.{MOST_MESSAGES};
 ghost use Rattle.tag.specs.declared.refusal.Refusal.TheVariants.{NoMemory};
 ghost use Rattle.piece.specs.declared.piece.Piece.{Piece};
+ghost use Rattle.mail.specs.Mail.{mail_cause};
 ghost use Rattle.phase.specs.Phase.{has_taken, members_of};
 ghost use Rattle.record.specs.Sending.{requests, missing, waits};
 ghost use Rattle.call.specs.Pieces.{piece_from, HavePieces};
 
-use call::request_to;
+use call::{request_to, requests};
 use encoder::Coded;
+use layout::Layout;
 use mail::{Mail, Message};
 use phase::{Ask, Phase};
 use std::alloc::Global;
 use tag::{CallId, MOST_MESSAGES, Refusal};
+
+/// Posts the requests of a phase to all members of a position with this layout. There must be room for them. If memory
+/// is refused, the mail does not change.
+pub(crate) fn post_requests(
+    alloc: Global,
+    ask: Ask,
+    layout: &Layout,
+    coded: Option<&Coded>,
+    mail: &mut Mail,
+) -> Result<(), Refusal>
+    requires pieces { HavePieces ask.kind (length layout.now.members) (option_copied coded) }
+    requires room { mail_cause (mail.old ++ requests ask.call ask.number ask.kind ask.position
+        layout.now.members 0 (piece_from (option_copied coded))) ≡ None }
+
+    ensures posted { OnOk result (mail.new ≡ mail.old ++ requests ask.call ask.number ask.kind ask.position
+        layout.now.members 0 (piece_from (option_copied coded.entry))) }
+
+    ensures refused { IfErr result (λ e. e ≡ NoMemory) }
+    ensures kept { OnErr result (mail.new ≡ mail.old) }
+{
+    let messages = requests(alloc, ask, layout.n(), coded)?;
+    mail.post_all(messages)
+}
 
 /// Returns the requests of a phase that are resent: those to members that have no recorded reply and no waiting message
 /// of it.

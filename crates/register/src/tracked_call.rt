@@ -19,10 +19,10 @@ ghost use Rattle.register.specs.Causes.{unless};
 ghost use Rattle.register.specs.Kept.{HasRoomIfFew};
 ghost use Rattle.register.specs.Tracked.{with_begun, asked_again, taken_tracked, took_current};
 
-use crate::requests::{has_room, missing, missing_count};
+use crate::requests::{has_room, post_requests};
 use bank::Kind;
 use bytes::Bytes;
-use call::{Call, requests};
+use call::Call;
 use encoder::Coded;
 use layout::Layout;
 use mail::{Mail, Message};
@@ -30,7 +30,7 @@ use phase::{Ask, Phase, Took};
 use record::{CallKind, Stage};
 use std::alloc::Global;
 use std::marker::Model;
-use tag::{CallId, MOST_PHASES, Refusal, Stamp};
+use tag::{Refusal, Stamp};
 
 mod resending;
 mod views;
@@ -101,9 +101,8 @@ impl TrackedCall {
         if !has_room(mail, usize::from(layout.n())) {
             return Err(Refusal::Full);
         }
-        let messages = requests(alloc, ask, layout.n(), None)?;
         let call = Call::begin(alloc, ask, kind, stage, layout, now)?;
-        mail.post_all(messages)?;
+        post_requests(alloc, ask, layout, None, mail)?;
         let stage = call.stage();
         Ok(TrackedCall {
             called: now,
@@ -144,10 +143,7 @@ impl TrackedCall {
         ensures unchanged { OnErr result (self.new ≡ self.old) }
         ensures kept { OnErr result (mail.new ≡ mail.old) }
     {
-        if self.count() >= MOST_PHASES {
-            return Err(Refusal::Full);
-        }
-        if !has_room(mail, usize::from(layout.n())) {
+        if !self.can_begin(layout.n(), mail) {
             return Err(Refusal::Full);
         }
         let alloc = *self.finished.allocator();
@@ -157,10 +153,9 @@ impl TrackedCall {
             kind,
             position,
         };
-        let messages = requests(alloc, ask, layout.n(), coded)?;
-        let phase = self.call.next_phase(alloc, kind, position, layout, now)?;
         self.finished.reserve(1)?;
-        mail.post_all(messages)?;
+        let phase = self.call.next_phase(alloc, kind, position, layout, now)?;
+        post_requests(alloc, ask, layout, coded, mail)?;
         let before = self.call.enter(self.stage, phase);
         self.finished.push_reserved(before);
         self.stage = self.call.stage();

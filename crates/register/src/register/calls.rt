@@ -1,9 +1,10 @@
 //! How calls begin and end.
 
 ghost use Rattle.std.specs.Prelude.{◌≡◌, ◌⊎◌, ℕ, ◌<◌, nat_le, nat_lt, suc, pred, false, List, length, OnOk, OnErr};
-ghost use Rattle.std.specs.Prelude.{IfOk, Some};
+ghost use Rattle.std.specs.Prelude.{IfOk, IfErr, Some};
+ghost use Rattle.std.specs.Vec.{vec_len, vec_capacity};
 ghost use Rattle.tag.specs.Refusal.{IsByCause};
-ghost use Rattle.tag.specs.declared.refusal.Refusal.TheVariants.{Full};
+ghost use Rattle.tag.specs.declared.refusal.Refusal.TheVariants.{Full, NoMemory};
 ghost use Rattle.mail.specs.Mail.{mail_cause};
 ghost use Rattle.record.specs.declared.call.CallKind.TheVariants.{Read, Write};
 ghost use Rattle.record.specs.declared.call.Operation.TheVariants as operations;
@@ -110,6 +111,7 @@ impl Register {
         ensures unchanged { OnErr result (self.new ≡ self.old) }
     {
         self.may_move(now)?;
+        reserve_both(&mut self.positions, &mut self.calls)?;
         let alloc = *self.calls.allocator();
         let next = Position::new(alloc, layout, self.delta, now)?;
         let last = self.positions.len() - 1;
@@ -122,8 +124,6 @@ impl Register {
             kind: Kind::Spread(Status::Pending),
             position,
         };
-        self.positions.reserve(1)?;
-        self.calls.reserve(1)?;
         let call = TrackedCall::begin(
             alloc,
             ask,
@@ -174,6 +174,21 @@ impl Register {
             value,
         })
     }
+}
+
+// Reserves memory for one more position and one more call.
+fn reserve_both(positions: &mut Vec<Position>, calls: &mut Vec<TrackedCall>) -> Result<(), Refusal>
+    ensures positions { positions.new.items ≡ positions.old.items }
+    ensures calls { calls.new.items ≡ calls.old.items }
+    ensures lens { (vec_len positions.new ≡ vec_len positions.old) × (vec_len calls.new ≡ vec_len calls.old) }
+    ensures room { OnOk result ((vec_len positions.new < vec_capacity positions.new)
+        × (vec_len calls.new < vec_capacity calls.new)) }
+
+    ensures refused { IfErr result (λ e. e ≡ NoMemory) }
+{
+    positions.reserve(1)?;
+    calls.reserve(1)?;
+    Ok(())
 }
 
 // Whether a move is open after the answer of a call with this operation.

@@ -1,17 +1,22 @@
 //! The values that calls encode, and those that they settle.
 
-ghost use Rattle.std.specs.Prelude.{◌≡◌, ◌⊎◌, ◌≤◌, ◌<◌, pred, [], length, option_copied, OnOk, OnErr, IfOk, Some, None};
+ghost use Rattle.std.specs.Prelude.{◌≡◌, ◌⊎◌, ◌≤◌, ◌<◌, suc, pred, [], length, option_copied, true, Some, None};
+ghost use Rattle.std.specs.Prelude.{OnOk, OnErr, IfOk, IfErr};
 ghost use Rattle.tag.specs.Refusal.{IsByCause, IsExactlyByCause};
 ghost use Rattle.tag.specs.declared.refusal.Refusal.TheVariants.{Full, WrongCode};
+ghost use Rattle.decoder.specs.Decoded.{IsDecoded};
 ghost use Rattle.encoder.specs.Coded.{Coding};
 ghost use Rattle.record.specs.Steps.{Step};
 ghost use Rattle.record.specs.PhaseOrder.{due};
+ghost use Rattle.record.specs.Records.{Call as Asked, layout_at};
+ghost use Rattle.record.specs.Sending.{sent_value, value_or_empty};
 ghost use Rattle.record.specs.Wants.{current_phase};
 ghost use Rattle.register.specs.State.{made, object_of};
-ghost use Rattle.tag.specs.declared.limits.TheConstants.{MOST_POSITIONS};
+ghost use Rattle.tag.specs.declared.limits.TheConstants.{MOST_POSITIONS, MOST_STEPS};
 ghost use Rattle.register.specs.Tracked.{HasPositionsBelow, tracked_want};
-ghost use Rattle.register.specs.Coding.{pieces_position, sending_position};
-ghost use Rattle.register.specs.Causes.{unless, value_cause, supply_cause, supplying_cause, pieces_cause, settle_cause};
+ghost use Rattle.register.specs.Coding.{is_coded_for, pieces_due, pieces_position, sending_position};
+ghost use Rattle.register.specs.Causes.{call_at, unless, value_cause, supply_cause, supplying_cause, pieces_cause};
+ghost use Rattle.register.specs.Causes.{settle_cause};
 ghost use Rattle.register.specs.View.{coding_at, fetched_pieces};
 
 use crate::pieces::{is_coded_for, is_decoded_from, piece_by};
@@ -101,6 +106,40 @@ impl Register {
         ensures cause { IsByCause (supply_cause now self.old.object call coded.now) result }
         ensures unchanged { OnErr result (self.new ≡ self.old) }
     {
+        let (index, position) = self.supplied_call(call, coded, now)?;
+        let tracked = &self.calls[index];
+        if is_replied(tracked.current()) {
+            let Some((kind, to)) = due(tracked.stage()) else {
+                unreachable!();
+            };
+            let layout = self.positions[position as usize].layout();
+            self.calls[index].begin_next(kind, to, layout, Some(coded), &mut self.mail, now)?;
+            self.last = now;
+            Ok(())
+        } else {
+            self.calls[index].ask_again(call, Some(coded), &mut self.mail)?;
+            self.last = now;
+            Ok(())
+        }
+    }
+
+    // The index of the call of this number, with the position that gets the pieces of its value, if this is its encoded
+    // value and it may send them at step `now`.
+    fn supplied_call(
+        &self,
+        call: CallId,
+        coded: &Coded,
+        now: Stamp,
+    ) -> Result<(usize, u32), Refusal>
+        ensures place { IfOk result (λ r. (suc r.0 ≡ call) × (r.0 < length self.now.object.calls)) }
+        ensures sends { IfOk result (λ r. (asked : Asked) → call_at self.now.object call ≡ Some asked
+            → (pieces_due self.now.object (pred call) asked ≡ Some r.1)
+            × (is_coded_for (layout_at self.now.object r.1) (value_or_empty (sent_value asked.kind asked.settled))
+            coded.now ≡ true)) }
+
+        ensures within { IfOk result (λ r. now ≤ MOST_STEPS) }
+        ensures cause { IfErr result (λ e. supply_cause now self.now.object call coded.now ≡ Some e) }
+    {
         let index = index_of(&self.calls, call)?;
         let tracked = &self.calls[index];
         let Some(position) = pieces_position(&self.positions, tracked) else {
@@ -116,18 +155,7 @@ impl Register {
         if now > MOST_STEPS {
             return Err(Refusal::Full);
         }
-        if is_replied(tracked.current()) {
-            let Some((kind, position)) = due(tracked.stage()) else {
-                unreachable!();
-            };
-            self.calls[index].begin_next(kind, position, layout, Some(coded), &mut self.mail, now)?;
-            self.last = now;
-            Ok(())
-        } else {
-            self.calls[index].ask_again(call, Some(coded), &mut self.mail)?;
-            self.last = now;
-            Ok(())
-        }
+        Ok((index, position))
     }
 
     /// Returns the pieces that the call of this number is to decode. Of the pieces that its current phase took, these
@@ -171,6 +199,18 @@ impl Register {
         ensures cause { IsExactlyByCause (settle_cause now self.old.object call decoded) result }
         ensures unchanged { OnErr result (self.new ≡ self.old) }
     {
+        let index = self.settling_call(call, &decoded, now)?;
+        self.calls[index].settle(decoded.into_value());
+        self.last = now;
+        Ok(())
+    }
+
+    // The index of the call of this number, if it may settle this value at step `now`.
+    fn settling_call(&self, call: CallId, decoded: &Decoded, now: Stamp) -> Result<usize, Refusal>
+        ensures place { IfOk result (λ index. (suc index ≡ call) × (index < length self.now.object.calls)) }
+        ensures decoded { IfOk result (λ index. IsDecoded decoded.now) }
+        ensures cause { IsExactlyByCause (settle_cause now self.now.object call decoded.now) result }
+    {
         let index = index_of(&self.calls, call)?;
         let k = match want_of(&self.positions, &self.calls[index]) {
             Want::Settle { k, len: _ } => k,
@@ -180,15 +220,13 @@ impl Register {
         let Some(phase) = self.calls[index].current() else {
             unreachable!();
         };
-        if !is_decoded_from(k, phase.replies(), &decoded) {
+        if !is_decoded_from(k, phase.replies(), decoded) {
             return Err(Refusal::WrongCode);
         }
         if now > MOST_STEPS {
             return Err(Refusal::Full);
         }
-        self.calls[index].settle(decoded.into_value());
-        self.last = now;
-        Ok(())
+        Ok(index)
     }
 }
 

@@ -1,16 +1,18 @@
 //! What calls want, and how they continue.
 
 ghost use Rattle.std.specs.Prelude.{◌≡◌, ◌≤◌, ◌⊎◌, ◌<◌, suc, pred, [], length, option_copied, OnOk, OnErr, IfOk, IfErr};
-ghost use Rattle.std.specs.Prelude.{Some, None};
+ghost use Rattle.std.specs.Prelude.{Some, None, true};
 ghost use Rattle.tag.specs.Refusal.{IsByCause, IsExactlyByCause};
 ghost use Rattle.tag.specs.declared.refusal.Refusal.TheVariants.{NoCall};
 ghost use Rattle.record.specs.Steps.{Step};
-ghost use Rattle.record.specs.Wants.{is_fetch, value_len};
+ghost use Rattle.record.specs.Legal.{due_of};
+ghost use Rattle.record.specs.Records.{Call as Asked};
+ghost use Rattle.record.specs.Wants.{is_fetch, value_len, want_of};
 ghost use Rattle.register.specs.Coding.{is_pre_write};
-ghost use Rattle.tag.specs.declared.limits.TheConstants.{MOST_POSITIONS};
+ghost use Rattle.tag.specs.declared.limits.TheConstants.{MOST_POSITIONS, MOST_STEPS};
 ghost use Rattle.register.specs.Tracked.{HasPositionsBelow, tracked_want};
 ghost use Rattle.register.specs.State.{made, object_of};
-ghost use Rattle.register.specs.Causes.{number_cause, advance_cause, again_cause, post_cause, is_plain};
+ghost use Rattle.register.specs.Causes.{call_at, number_cause, advance_cause, again_cause, post_cause, is_plain};
 ghost use Rattle.register.specs.Causes.{due_step, due_cause, wants_due, is_replied};
 ghost use Rattle.register.specs.View.{want_at};
 
@@ -71,16 +73,7 @@ impl Register {
         ensures cause { IsByCause (due_cause anew now self.old.object call) result }
         ensures unchanged { OnErr result (self.new ≡ self.old) }
     {
-        let index = index_of(&self.calls, call)?;
-        if !wants_due(anew, want_of(&self.positions, &self.calls[index])) {
-            return Err(Refusal::NotNow);
-        }
-        if now > MOST_STEPS {
-            return Err(Refusal::Full);
-        }
-        let Some((kind, position)) = due(begun_at(self.calls[index].stage(), self.base)) else {
-            unreachable!();
-        };
+        let (index, kind, position) = self.due_phase(call, anew, now)?;
         self.calls[index].begin_next(
             kind,
             position,
@@ -91,6 +84,33 @@ impl Register {
         )?;
         self.last = now;
         Ok(())
+    }
+
+    // The index of the call of this number, with the kind and the position of the phase that is due, if the call wants
+    // to begin it at step `now`: as an advance, or if `anew` as a restart.
+    fn due_phase(&self, call: CallId, anew: bool, now: Stamp) -> Result<(usize, Kind, u32), Refusal>
+        ensures place { IfOk result (λ r. (suc r.0 ≡ call) × (r.0 < length self.now.object.calls)) }
+        ensures wants { IfOk result (λ r. (asked : Asked) → call_at self.now.object call ≡ Some asked
+            → wants_due anew (want_of self.now.object (pred call) asked) ≡ true) }
+
+        ensures due { IfOk result (λ r. (asked : Asked) → call_at self.now.object call ≡ Some asked
+            → due_of self.now.object (pred call) asked ≡ Some (r.1, r.2)) }
+
+        ensures within { IfOk result (λ r. now ≤ MOST_STEPS) }
+        ensures cause { IfErr result (λ e. due_cause anew now self.now.object call ≡ Some e) }
+    {
+        let index = index_of(&self.calls, call)?;
+        let tracked = &self.calls[index];
+        if !wants_due(anew, want_of(&self.positions, tracked)) {
+            return Err(Refusal::NotNow);
+        }
+        if now > MOST_STEPS {
+            return Err(Refusal::Full);
+        }
+        let Some((kind, position)) = due(begun_at(tracked.stage(), self.base)) else {
+            unreachable!();
+        };
+        Ok((index, kind, position))
     }
 
     /// Resends the requests of the current phase of the call of this number: one to each member that has no recorded
