@@ -162,3 +162,7 @@ module _ {c : Contents} {number index position : ℕ} {t : Tracked} where
       sent = filled (sent_value t.call.kind t.call.settled) (sent_value_there sends_to);
       right = ap (λ (l : Layout). is_coded_for l (value_or_empty (sent_value t.call.kind t.call.settled)) coded) (sym placed) ∙ both.1;
     }
+
+    pub supplied_there : {here : Position} {layout : Layout} → here ≡ get_or c.positions position here → layout ≡ here.layout
+        → IsSupplied c number index t coded position layout (value_or_empty (sent_value t.call.kind t.call.settled))
+    supplied_there read is = supplied_to (layout_there sends_to read is)

@@ -7,16 +7,14 @@ use Rattle.register.proofs.register.Register.begin_due.Goals as goal
 
 pub index-requires : goal.index-requires
 index-requires c =
-    let e = c.in_ok-index.ensures in
-    let f = found_at c.self.invariant c.self.view_is e.place c.index_mut.ensures.value in
-    let d = as_told c.args.anew f c.self.view_is e.wants e.due in
+    let f = found_at c.self.invariant c.self.view_is c.in_ok-index.ensures.place c.index_mut.ensures.value in
+    let d = as_told c.args.anew f c.self.view_is c.in_ok-index.ensures.wants c.in_ok-index.ensures.due in
     let there = due_there f d.1 in omega (arith, there)
 
 pub begin_next-requires : goal.begin_next-requires
 begin_next-requires c =
-    let e = c.in_ok-index.ensures in
-    let f = found_at c.self.invariant c.self.view_is e.place c.index_mut.ensures.value in
-    let d = as_told c.args.anew f c.self.view_is e.wants e.due in
+    let f = found_at c.self.invariant c.self.view_is c.in_ok-index.ensures.place c.index_mut.ensures.value in
+    let d = as_told c.args.anew f c.self.view_is c.in_ok-index.ensures.wants c.in_ok-index.ensures.due in
     let b = beginning c.args.anew (wants_now f) d.0 d.1 c.index.ensures c.layout.ensures c.index_mut.ensures.value in
     record {
       pieces = needs_none c.args.anew (wants_now f) d.0 d.1 _;
@@ -25,30 +23,27 @@ begin_next-requires c =
 
 pub invariant_of-self-2 : goal.invariant_of-self-2
 invariant_of-self-2 c =
-    let e = c.in_ok-index.ensures in
-    let f = found_at c.self.invariant c.self.view_is e.place c.index_mut.ensures.value in
-    let d = as_told c.args.anew f c.self.view_is e.wants e.due in
+    let f = found_at c.self.invariant c.self.view_is c.in_ok-index.ensures.place c.index_mut.ensures.value in
+    let d = as_told c.args.anew f c.self.view_is c.in_ok-index.ensures.wants c.in_ok-index.ensures.due in
     let b = beginning c.args.anew (wants_now f) d.0 d.1 c.index.ensures c.layout.ensures c.index_mut.ensures.value in
     begin_kept b c.args.now c.in_ok-begin_next.ensures.mail c.in_ok-begin_next.ensures.call c.self.view_is c.requires.after
     c.in_ok-begin_next.ensures.cause
 
 pub returns : goal.returns
 returns c =
-    let e = c.in_ok-index.ensures in
-    let f = found_at c.self.invariant c.self.view_is e.place c.index_mut.ensures.value in
-    let d = as_told c.args.anew f c.self.view_is e.wants e.due in
+    let f = found_at c.self.invariant c.self.view_is c.in_ok-index.ensures.place c.index_mut.ensures.value in
+    let d = as_told c.args.anew f c.self.view_is c.in_ok-index.ensures.wants c.in_ok-index.ensures.due in
     let b = beginning c.args.anew (wants_now f) d.0 d.1 c.index.ensures c.layout.ensures c.index_mut.ensures.value in
     record {
       step = rw (← c.self.view_is) (begin_step b c.args.now c.in_ok-begin_next.ensures.mail c.in_ok-begin_next.ensures.call);
-      cause = rw (← c.self.view_is) (begin_cause b c.args.now e.within ∙ c.in_ok-begin_next.ensures.cause);
+      cause = rw (← c.self.view_is) (begin_cause b c.args.now c.in_ok-index.ensures.within ∙ c.in_ok-begin_next.ensures.cause);
       unchanged = tt;
     }
 
 pub returns-in_err-begin_next-clause-cause : goal.returns-in_err-begin_next-clause-cause
 returns-in_err-begin_next-clause-cause c =
-    let e = c.in_ok-index.ensures in
-    let f = found_at c.self.invariant c.self.view_is e.place c.index_mut.ensures.value in
-    let d = as_told c.args.anew f c.self.view_is e.wants e.due in
+    let f = found_at c.self.invariant c.self.view_is c.in_ok-index.ensures.place c.index_mut.ensures.value in
+    let d = as_told c.args.anew f c.self.view_is c.in_ok-index.ensures.wants c.in_ok-index.ensures.due in
     let b = beginning c.args.anew (wants_now f) d.0 d.1 c.index.ensures c.layout.ensures c.index_mut.ensures.value in
     same_cause _ c.from_residual-in_err-begin_next.result _ c.from_residual-in_err-begin_next.ensures.1
-    (rw (← c.self.view_is) (by_cause (begin_cause b c.args.now e.within) c.in_err-begin_next.ensures.cause))
+    (rw (← c.self.view_is) (by_cause (begin_cause b c.args.now c.in_ok-index.ensures.within) c.in_err-begin_next.ensures.cause))

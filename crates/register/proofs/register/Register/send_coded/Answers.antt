@@ -9,56 +9,48 @@ use Rattle.register.proofs.FoundCallLemmas.{found_at}
 use Rattle.register.proofs.AskAgainLemmas.{again_pieces, again_room, again_by, again_step, again_kept}
 use Rattle.register.proofs.RefusedStepLemmas.{as_it_was, on_error, written_back}
 use Rattle.register.proofs.RoomLemmas.{by_cause, same_cause}
-use Rattle.register.proofs.SentPieceLemmas.{layout_there, position_there}
-use Rattle.register.proofs.SuppliedPieceLemmas.{have_coded, members_are, sends_to, supplied_to}
+use Rattle.register.proofs.SentPieceLemmas.{position_there}
+use Rattle.register.proofs.SuppliedPieceLemmas.{have_coded, members_are, sends_to, supplied_to, supplied_there}
 use Rattle.register.proofs.SupplyStepLemmas.{beginning, asking, some_due}
 use Rattle.register.proofs.register.Register.send_coded.Goals as goal
 
 pub index-requires : goal.index-requires
 index-requires c =
-    let e = c.in_ok-index.ensures in
-    let f = found_at c.self.invariant c.self.view_is e.place c.index-tracked.ensures in
-    let there = position_there (sends_to c.args.coded.now f c.self.view_is e.sends) in omega (arith, there)
+    let f = found_at c.self.invariant c.self.view_is c.in_ok-index.ensures.place c.index-tracked.ensures in
+    let there = position_there (sends_to c.args.coded.now f c.self.view_is c.in_ok-index.ensures.sends) in omega (arith, there)
 
 -- The phase that is due begins
 
 pub due-requires : goal.due-requires
 due-requires c =
-    let e = c.in_ok-index.ensures in
-    let f = found_at c.self.invariant c.self.view_is e.place c.index-tracked.ensures in
+    let f = found_at c.self.invariant c.self.view_is c.in_ok-index.ensures.place c.index-tracked.ensures in
     stage_near f c.stage.ensures
 
 pub unreachable-requires : goal.unreachable-requires
 unreachable-requires c =
-    let e = c.in_ok-index.ensures in
-    let f = found_at c.self.invariant c.self.view_is e.place c.index-tracked.ensures in
-    let p = supplied_to c.args.coded.now f c.self.view_is e.sends refl in
+    let f = found_at c.self.invariant c.self.view_is c.in_ok-index.ensures.place c.index-tracked.ensures in
+    let p = supplied_to c.args.coded.now f c.self.view_is c.in_ok-index.ensures.sends refl in
     some_due p (ap is_replied (sym c.current.ensures) ∙ sym c.is_replied.ensures ∙ c.if-is_replied.true)
     (ap due (sym c.stage.ensures) ∙ sym c.in_default.ensures)
 
 pub begin_next-requires-clause-pieces : goal.begin_next-requires-clause-pieces
 begin_next-requires-clause-pieces c =
-    let e = c.in_ok-index.ensures in
-    let f = found_at c.self.invariant c.self.view_is e.place c.index-tracked.ensures in
-    let placed = layout_there (sends_to c.args.coded.now f c.self.view_is e.sends) c.index.ensures c.layout-layout.ensures in
-    have_coded c.in-Some.kind _ _ (members_are (supplied_to c.args.coded.now f c.self.view_is e.sends placed))
+    let f = found_at c.self.invariant c.self.view_is c.in_ok-index.ensures.place c.index-tracked.ensures in
+    have_coded c.in-Some.kind _ _
+    (members_are (supplied_there c.args.coded.now f c.self.view_is c.in_ok-index.ensures.sends c.index.ensures c.layout-layout.ensures))
 
 pub begin_next-requires-clause-room : goal.begin_next-requires-clause-room
 begin_next-requires-clause-room c =
-    let e = c.in_ok-index.ensures in
-    let f = found_at c.self.invariant c.self.view_is e.place c.index-tracked.ensures in
-    let placed = layout_there (sends_to c.args.coded.now f c.self.view_is e.sends) c.index.ensures c.layout-layout.ensures in
-    let p = supplied_to c.args.coded.now f c.self.view_is e.sends placed in
+    let f = found_at c.self.invariant c.self.view_is c.in_ok-index.ensures.place c.index-tracked.ensures in
+    let p = supplied_there c.args.coded.now f c.self.view_is c.in_ok-index.ensures.sends c.index.ensures c.layout-layout.ensures in
     let b = beginning p c.current.ensures c.is_replied.ensures c.index_mut.ensures.value
     c.if-is_replied.true c.stage.ensures c.due.ensures c.in-Some.is in
     begin_room b c.args.now c.self.view_is c.requires.after
 
 pub invariant_of-self-then-is_replied : goal.invariant_of-self-then-is_replied
 invariant_of-self-then-is_replied c =
-    let e = c.in_ok-index.ensures in
-    let f = found_at c.self.invariant c.self.view_is e.place c.index-tracked.ensures in
-    let placed = layout_there (sends_to c.args.coded.now f c.self.view_is e.sends) c.index.ensures c.layout-layout.ensures in
-    let p = supplied_to c.args.coded.now f c.self.view_is e.sends placed in
+    let f = found_at c.self.invariant c.self.view_is c.in_ok-index.ensures.place c.index-tracked.ensures in
+    let p = supplied_there c.args.coded.now f c.self.view_is c.in_ok-index.ensures.sends c.index.ensures c.layout-layout.ensures in
     let b = beginning p c.current.ensures c.is_replied.ensures c.index_mut.ensures.value
     c.if-is_replied.true c.stage.ensures c.due.ensures c.in-Some.is in
     let n = c.in_ok-begin_next.ensures in
@@ -66,34 +58,28 @@ invariant_of-self-then-is_replied c =
 
 pub returns-in_ok-begin_next-clause-step : goal.returns-in_ok-begin_next-clause-step
 returns-in_ok-begin_next-clause-step c =
-    let e = c.in_ok-index.ensures in
-    let f = found_at c.self.invariant c.self.view_is e.place c.index-tracked.ensures in
-    let placed = layout_there (sends_to c.args.coded.now f c.self.view_is e.sends) c.index.ensures c.layout-layout.ensures in
-    let p = supplied_to c.args.coded.now f c.self.view_is e.sends placed in
+    let f = found_at c.self.invariant c.self.view_is c.in_ok-index.ensures.place c.index-tracked.ensures in
+    let p = supplied_there c.args.coded.now f c.self.view_is c.in_ok-index.ensures.sends c.index.ensures c.layout-layout.ensures in
     let b = beginning p c.current.ensures c.is_replied.ensures c.index_mut.ensures.value
     c.if-is_replied.true c.stage.ensures c.due.ensures c.in-Some.is in
     rw (← c.self.view_is) (begin_step b c.args.now c.in_ok-begin_next.ensures.mail c.in_ok-begin_next.ensures.call)
 
 pub returns-in_ok-begin_next-clause-cause : goal.returns-in_ok-begin_next-clause-cause
 returns-in_ok-begin_next-clause-cause c =
-    let e = c.in_ok-index.ensures in
-    let f = found_at c.self.invariant c.self.view_is e.place c.index-tracked.ensures in
-    let placed = layout_there (sends_to c.args.coded.now f c.self.view_is e.sends) c.index.ensures c.layout-layout.ensures in
-    let p = supplied_to c.args.coded.now f c.self.view_is e.sends placed in
+    let f = found_at c.self.invariant c.self.view_is c.in_ok-index.ensures.place c.index-tracked.ensures in
+    let p = supplied_there c.args.coded.now f c.self.view_is c.in_ok-index.ensures.sends c.index.ensures c.layout-layout.ensures in
     let b = beginning p c.current.ensures c.is_replied.ensures c.index_mut.ensures.value
     c.if-is_replied.true c.stage.ensures c.due.ensures c.in-Some.is in
-    rw (← c.self.view_is) (begin_cause b c.args.now e.within ∙ c.in_ok-begin_next.ensures.cause)
+    rw (← c.self.view_is) (begin_cause b c.args.now c.in_ok-index.ensures.within ∙ c.in_ok-begin_next.ensures.cause)
 
 pub returns-in_err-begin_next-clause-cause : goal.returns-in_err-begin_next-clause-cause
 returns-in_err-begin_next-clause-cause c =
-    let e = c.in_ok-index.ensures in
-    let f = found_at c.self.invariant c.self.view_is e.place c.index-tracked.ensures in
-    let placed = layout_there (sends_to c.args.coded.now f c.self.view_is e.sends) c.index.ensures c.layout-layout.ensures in
-    let p = supplied_to c.args.coded.now f c.self.view_is e.sends placed in
+    let f = found_at c.self.invariant c.self.view_is c.in_ok-index.ensures.place c.index-tracked.ensures in
+    let p = supplied_there c.args.coded.now f c.self.view_is c.in_ok-index.ensures.sends c.index.ensures c.layout-layout.ensures in
     let b = beginning p c.current.ensures c.is_replied.ensures c.index_mut.ensures.value
     c.if-is_replied.true c.stage.ensures c.due.ensures c.in-Some.is in
     same_cause _ c.from_residual-in_err-begin_next.result _ c.from_residual-in_err-begin_next.ensures.1
-    (rw (← c.self.view_is) (by_cause (begin_cause b c.args.now e.within) c.in_err-begin_next.ensures.cause))
+    (rw (← c.self.view_is) (by_cause (begin_cause b c.args.now c.in_ok-index.ensures.within) c.in_err-begin_next.ensures.cause))
 
 pub returns-in_err-begin_next-clause-unchanged : goal.returns-in_err-begin_next-clause-unchanged
 returns-in_err-begin_next-clause-unchanged c =
@@ -106,54 +92,48 @@ returns-in_err-begin_next-clause-unchanged c =
 
 pub ask_again-requires-clause-pieces : goal.ask_again-requires-clause-pieces
 ask_again-requires-clause-pieces c =
-    let e = c.in_ok-index.ensures in
-    let f = found_at c.self.invariant c.self.view_is e.place c.index-tracked.ensures in
-    let p = supplied_to c.args.coded.now f c.self.view_is e.sends refl in
+    let f = found_at c.self.invariant c.self.view_is c.in_ok-index.ensures.place c.index-tracked.ensures in
+    let p = supplied_to c.args.coded.now f c.self.view_is c.in_ok-index.ensures.sends refl in
     let a = asking p c.current.ensures c.is_replied.ensures c.index-else-is_replied.ensures c.if-is_replied.false in
     again_pieces a
 
 pub ask_again-requires-clause-room : goal.ask_again-requires-clause-room
 ask_again-requires-clause-room c =
-    let e = c.in_ok-index.ensures in
-    let f = found_at c.self.invariant c.self.view_is e.place c.index-tracked.ensures in
-    let p = supplied_to c.args.coded.now f c.self.view_is e.sends refl in
+    let f = found_at c.self.invariant c.self.view_is c.in_ok-index.ensures.place c.index-tracked.ensures in
+    let p = supplied_to c.args.coded.now f c.self.view_is c.in_ok-index.ensures.sends refl in
     let a = asking p c.current.ensures c.is_replied.ensures c.index-else-is_replied.ensures c.if-is_replied.false in
     again_room a c.args.now c.self.view_is c.requires.after
 
 pub invariant_of-self-else-is_replied : goal.invariant_of-self-else-is_replied
 invariant_of-self-else-is_replied c =
-    let e = c.in_ok-index.ensures in
-    let f = found_at c.self.invariant c.self.view_is e.place c.index-tracked.ensures in
-    let p = supplied_to c.args.coded.now f c.self.view_is e.sends refl in
+    let f = found_at c.self.invariant c.self.view_is c.in_ok-index.ensures.place c.index-tracked.ensures in
+    let p = supplied_to c.args.coded.now f c.self.view_is c.in_ok-index.ensures.sends refl in
     let a = asking p c.current.ensures c.is_replied.ensures c.index-else-is_replied.ensures c.if-is_replied.false in
     again_kept a c.args.now c.in_ok-ask_again.ensures.mail c.self.view_is c.requires.after
 
 pub returns-in_ok-ask_again-clause-step : goal.returns-in_ok-ask_again-clause-step
 returns-in_ok-ask_again-clause-step c =
-    let e = c.in_ok-index.ensures in
-    let f = found_at c.self.invariant c.self.view_is e.place c.index-tracked.ensures in
-    let p = supplied_to c.args.coded.now f c.self.view_is e.sends refl in
+    let f = found_at c.self.invariant c.self.view_is c.in_ok-index.ensures.place c.index-tracked.ensures in
+    let p = supplied_to c.args.coded.now f c.self.view_is c.in_ok-index.ensures.sends refl in
     let a = asking p c.current.ensures c.is_replied.ensures c.index-else-is_replied.ensures c.if-is_replied.false in
     rw (← c.self.view_is) (again_step a c.args.now c.in_ok-ask_again.ensures.mail)
 
 pub returns-in_ok-ask_again-clause-cause : goal.returns-in_ok-ask_again-clause-cause
 returns-in_ok-ask_again-clause-cause c =
-    let e = c.in_ok-index.ensures in
-    let f = found_at c.self.invariant c.self.view_is e.place c.index-tracked.ensures in
-    let p = supplied_to c.args.coded.now f c.self.view_is e.sends refl in
+    let f = found_at c.self.invariant c.self.view_is c.in_ok-index.ensures.place c.index-tracked.ensures in
+    let p = supplied_to c.args.coded.now f c.self.view_is c.in_ok-index.ensures.sends refl in
     let a = asking p c.current.ensures c.is_replied.ensures c.index-else-is_replied.ensures c.if-is_replied.false in
     rw (← c.self.view_is)
-    (again_by a c.args.now e.within (λ cause. cause ≡ None) c.in_ok-ask_again.ensures.cause)
+    (again_by a c.args.now c.in_ok-index.ensures.within (λ cause. cause ≡ None) c.in_ok-ask_again.ensures.cause)
 
 pub returns-in_err-ask_again-clause-cause : goal.returns-in_err-ask_again-clause-cause
 returns-in_err-ask_again-clause-cause c =
-    let e = c.in_ok-index.ensures in
-    let f = found_at c.self.invariant c.self.view_is e.place c.index-tracked.ensures in
-    let p = supplied_to c.args.coded.now f c.self.view_is e.sends refl in
+    let f = found_at c.self.invariant c.self.view_is c.in_ok-index.ensures.place c.index-tracked.ensures in
+    let p = supplied_to c.args.coded.now f c.self.view_is c.in_ok-index.ensures.sends refl in
     let a = asking p c.current.ensures c.is_replied.ensures c.index-else-is_replied.ensures c.if-is_replied.false in
     let r = c.in_err-ask_again.field-0.0 in
     same_cause _ c.from_residual-in_err-ask_again.result _ c.from_residual-in_err-ask_again.ensures.1
-    (rw (← c.self.view_is) (again_by a c.args.now e.within
+    (rw (← c.self.view_is) (again_by a c.args.now c.in_ok-index.ensures.within
     (λ (cause : Option Refusal). IsRefusalBy cause r) c.in_err-ask_again.ensures.cause))
 
 pub returns-in_err-ask_again-clause-unchanged : goal.returns-in_err-ask_again-clause-unchanged
