@@ -1,7 +1,9 @@
 //! Whole calls through the lock.
 
-ghost use Rattle.std.specs.Prelude.{◌≡◌, IfErr, IfOk, OnErr};
+ghost use Rattle.std.specs.Prelude.{◌≡◌, ◌≤◌, IfErr, IfOk, OnErr, length};
+ghost use Rattle.tag.specs.declared.limits.TheConstants.{MOST_WORKERS};
 ghost use Rattle.tag.specs.declared.refusal.Refusal.TheVariants.{NoMemory};
+ghost use Rattle.driver.specs.Coding.{GiveBack};
 ghost use Rattle.client.specs.Callers.{CanBeCoded, IsCodedFrom, IsRoundWithoutAnswer, StaysOpen};
 ghost use Rattle.client.specs.Refusals.{IsRefusedThen};
 ghost use Rattle.locked_steps.specs.Moves.{asked_if};
@@ -10,10 +12,12 @@ ghost use Rattle.locked_steps.specs.declared.handed_in.HandedIn.TheVariants as h
 use crate::store::Store;
 use crate::store::caller::Caller;
 use coding_pool::{Gate, encode_all};
-use decoder::decode;
+use decoder::{Decoded, decode};
 use driver::{Chooser, Round};
 use locked_steps::{HandedIn, StoreName};
+use piece::Piece;
 use register::Receipt;
+use std::alloc::Global;
 use std::sync::Wait;
 use std::thread::Threads;
 use tag::Refusal;
@@ -54,35 +58,52 @@ impl<L: StoreName> Store<L> {
                     left = left.saturating_sub(1);
                     hand = HandedIn::Empty;
                 }
-                other => hand = self.coded(rt, gate, other)?,
+                other => hand = coded(rt, self.alloc, self.workers, gate, other)?,
             }
         }
         unreachable!()
     }
+}
 
-    // What the next round is to hand in: the encoded value, or the value of the decoded pieces.
-    fn coded<G: Gate, R: Threads + Wait + Sync>(
-        &self,
-        rt: &R,
-        gate: &G,
-        round: Round,
-    ) -> Result<HandedIn, Refusal>
-        requires { CanBeCoded round }
-        ensures coded { IfOk result (λ hand. IsRoundWithoutAnswer round → IsCodedFrom round hand) }
-        ensures refused { IfErr result (λ e. e ≡ NoMemory) }
-    {
-        match round {
-            Round::Encode { value, k, n } => {
-                let coded = encode_all(rt, self.alloc, self.workers, gate, k, n, value)?;
-                Ok(HandedIn::Coded(coded))
-            }
-            Round::Decode { pieces, k, len } => {
-                gate.enter(0);
-                let decoded = decode(self.alloc, k, len, pieces);
-                gate.leave(0);
-                Ok(HandedIn::Decoded(decoded?))
-            }
-            _ => Ok(HandedIn::Empty),
+// What the next round is to hand in: the encoded value, or the value of the decoded pieces.
+fn coded<G: Gate, R: Threads + Wait + Sync>(
+    rt: &R,
+    alloc: Global,
+    workers: usize,
+    gate: &G,
+    round: Round,
+) -> Result<HandedIn, Refusal>
+    requires codable { CanBeCoded round }
+    requires few { workers ≤ MOST_WORKERS }
+    ensures coded { IfOk result (λ hand. IsRoundWithoutAnswer round → IsCodedFrom round hand) }
+    ensures refused { IfErr result (λ e. e ≡ NoMemory) }
+{
+    match round {
+        Round::Encode { value, k, n } => Ok(HandedIn::Coded(encode_all(
+            rt, alloc, workers, gate, k, n, value,
+        )?)),
+        Round::Decode { pieces, k, len } => {
+            Ok(HandedIn::Decoded(decode_at_gate(alloc, gate, pieces, k, len)?))
         }
+        _ => Ok(HandedIn::Empty),
     }
+}
+
+// Decodes a value while the gate is told of it.
+fn decode_at_gate<G: Gate>(
+    alloc: Global,
+    gate: &G,
+    pieces: Vec<Piece>,
+    k: u8,
+    len: u32,
+) -> Result<Decoded, Refusal>
+    requires { GiveBack k len pieces.items }
+    ensures decoded { IfOk result
+        (λ d. (d.k ≡ k) × (d.pieces ≡ pieces.items) × (length d.value ≡ len)) }
+    ensures refused { IfErr result (λ e. e ≡ NoMemory) }
+{
+    gate.enter(0);
+    let decoded = decode(alloc, k, len, pieces);
+    gate.leave(0);
+    decoded
 }
