@@ -3,12 +3,18 @@
 #![tactic(auto)]
 
 use coding_commands::Fault;
-use commands::run_words;
+use program::run_words;
 use std::io::{BufWriter, IsTerminal};
 use std::process::ExitCode;
 use std::rt::Stdout;
 use std::{env, io};
 use tag::Refusal;
+
+mod arguments;
+mod file;
+mod program;
+mod request;
+mod soaking;
 
 fn main(rt: HostRuntime) -> ExitCode {
     let mut err = rt.stderr();

@@ -1,4 +1,0 @@
-use Rattle.commands.proofs.program.run_words.Goals as goal
-
-pub returns-in-Ok : goal.returns-in-Ok
-returns-in-Ok g c = c.carry_out.ensures _ c.in-Ok.ensures
