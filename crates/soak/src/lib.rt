@@ -4,7 +4,6 @@
 
 pub use audit::are_accounted;
 pub use chooser::Congruential;
-pub use load::{Load, Timing, run_load};
 pub use moves::{layout_after, object_moved};
 pub use plan::Plan;
 pub use planned_call::{object_called, value_written};
@@ -18,7 +17,6 @@ mod chooser;
 mod client_thread;
 mod counts;
 mod crew;
-mod load;
 mod moves;
 mod plan;
 mod planned_call;

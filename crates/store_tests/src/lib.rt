@@ -1,15 +1,11 @@
-//! Tests of stores of one object over four servers, which threads of the tests use, and of what a soak chooses. They
-//! stand in a crate of their own, so that the store is proved once less.
+//! Tests of stores of one object over four servers, which threads of the tests use. They stand in a crate of their own,
+//! so that the store is proved once less.
 #![tactic(auto)]
 
 #[cfg(test)]
 mod acts;
 #[cfg(test)]
 mod anew;
-#[cfg(test)]
-mod choices;
-#[cfg(test)]
-mod choosing;
 #[cfg(test)]
 mod coding;
 #[cfg(test)]

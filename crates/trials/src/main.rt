@@ -4,6 +4,7 @@
 #![tactic(auto)]
 
 mod load;
+mod measure;
 mod pool;
 mod printing_gate;
 mod store;
@@ -14,12 +15,12 @@ use std::process::ExitCode;
 fn main(rt: HostRuntime) -> ExitCode {
     // Nothing is asked of memory for this word.
     if let Err(FillError::NotPresent) = rt.arg(1, &mut []) {
-        let is_well = store::play(&rt, &rt) && pool::play(&rt, &rt) && load::play(&rt, &rt);
+        let is_well = store::play(&rt, &rt) && pool::play(&rt, &rt) && measure::play(&rt, &rt);
         return if is_well {
             ExitCode::SUCCESS
         } else {
             ExitCode::FAILURE
         };
     }
-    ExitCode::from(load::measure(&rt, &rt))
+    ExitCode::from(measure::measure(&rt, &rt))
 }

@@ -1,4 +1,4 @@
-use Rattle.soak.proofs.load.run_load.Given as goal
+use Rattle.trials.proofs.load.run_load.Given as goal
 
 abbrev pub ghosts-load_named-L-Ledger : goal.ghosts-load_named-L-Ledger
 ghosts-load_named-L-Ledger g a = record { name = a.blank.name; parts = a.blank.parts }
