@@ -7,8 +7,10 @@ RECEIPTS, CALLS = "receipts 2\n", "calls 8\n"
 REFUSED = "refused NoMemory\n"
 
 
-def play_trials(machine, trials, wanted):
-    """Plays both, `wanted` being what it prints with ample memory. Answers what was not as it should be, a line each."""
+def play_trials(machine, trials, text):
+    """Plays both, where `text` begins with what the program prints with ample memory, up to the calls. Answers what was not
+    as it should be, a line each."""
+    wanted = text.partition(CALLS)[0] + CALLS
     ample = machine.run([trials])
     if ample.out != wanted or ample.status != 0:
         return [f"trials: {ample.out!r} in place of {wanted!r}"]

@@ -1,4 +1,4 @@
-use Rattle.embed.proofs.by_store.play.Given as goal
+use Rattle.trials.proofs.by_store.play.Given as goal
 
 abbrev pub ghosts-open_and_close-L-Ledger : goal.ghosts-open_and_close-L-Ledger
 ghosts-open_and_close-L-Ledger g a = record { name = a.blank.name; parts = a.blank.parts }
