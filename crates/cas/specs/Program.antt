@@ -5,11 +5,11 @@ use Rattle.std.specs.Io.KnownBytes.{Appends, Keeps}
 use Rattle.std.specs.declared.io.ErrorKind.{ErrorKind}
 use Rattle.player.specs.Script.{Runs, unread_status}
 use Rattle.soak.specs.Closed.{IsOfClosed}
-use Rattle.soak.specs.Setting.{setting}
-use Rattle.soak.specs.Summary.{summary_text}
-use Rattle.soak.specs.Summary.{exit_status_of_summary}
-use Rattle.soak.specs.declared.plan.Plan.{Plan}
-use Rattle.soak.specs.declared.summary.Summary.{Summary}
+use Rattle.soak_parts.specs.Setting.{setting}
+use Rattle.soak_parts.specs.Summary.{summary_text}
+use Rattle.soak_parts.specs.Summary.{exit_status_of_summary}
+use Rattle.soak_parts.specs.declared.plan.Plan.{Plan}
+use Rattle.soak_parts.specs.declared.summary.Summary.{Summary}
 use Rattle.coding_commands.specs.Fault.{exit_status_of}
 use Rattle.coding_commands.specs.Program.{AnswersRequest}
 use Rattle.words.specs.Written.{Written}

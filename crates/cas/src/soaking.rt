@@ -2,12 +2,13 @@
 ghost use Rattle.std.specs.Prelude.{◌≡◌, ◌⊎◌, ◌++◌, ◌∷◌, [], IfErr, OnOk};
 ghost use Rattle.tag.specs.declared.refusal.Refusal.TheVariants.{NoMemory};
 ghost use Rattle.std.specs.Io.KnownBytes.{Appends};
-ghost use Rattle.soak.specs.Summary.{summary_text};
+ghost use Rattle.soak_parts.specs.Summary.{summary_text};
 ghost use Rattle.cas.specs.Program.{Soaks};
 ghost use Rattle.coding_commands.specs.declared.fault.Fault.TheVariants.{OutputLost, Refused};
 
 use coding_commands::Fault;
-use soak::{Plan, Summary, run_plan};
+use soak::run_plan;
+use soak_parts::{Plan, Summary};
 use std::io::Write;
 use std::sync::Wait;
 use std::thread::Threads;

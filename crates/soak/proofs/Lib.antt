@@ -1,3 +1,1 @@
-mod AccountSumLemmas
 mod MadeCallLemmas
-mod SoakLayoutLemmas

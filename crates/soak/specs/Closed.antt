@@ -8,9 +8,9 @@ use Rattle.locked_steps.specs.Course.{IsReachable}
 use Rattle.locked_steps.specs.Moves.{AdminState}
 use Rattle.locked_steps.specs.Seats.{SeatState}
 use Rattle.soak.specs.Made.{HasMade, HasMoved}
-use Rattle.soak.specs.Summary.{IsSummaryOf}
-use Rattle.soak.specs.declared.plan.Plan.{Plan}
-use Rattle.soak.specs.declared.summary.Summary.{Summary}
+use Rattle.soak_parts.specs.Summary.{IsSummaryOf}
+use Rattle.soak_parts.specs.declared.plan.Plan.{Plan}
+use Rattle.soak_parts.specs.declared.summary.Summary.{Summary}
 
 -- a store was opened with `first`; each seat made the calls of the plan, and the administrator its moves and nothing
 -- else; the store was closed with a seat for each client; steps had led from `first` to its cluster, whose reads and

@@ -1,10 +1,2 @@
-pub mod Audit
-pub mod Call
-pub mod Chooser
 pub mod Closed
 pub mod Made
-pub mod Moves
-pub mod Plan
-pub mod Progress
-pub mod Setting
-pub mod Summary

@@ -2,12 +2,10 @@
 ghost use Rattle.std.specs.Prelude.{IfOk, OnOk};
 ghost use Rattle.soak.specs.Made.{HasMade, IsUnusedSeat, Makes};
 
-use crate::chooser::Congruential;
 use crate::counts::Counts;
 use crate::moves::MOST_TURNS;
-use crate::plan::Plan;
-use crate::planned_call::{object_called, value_written};
 use client::{Seat, Store, StoreName};
+use soak_parts::{Congruential, Plan, object_called, value_written};
 use std::alloc::Global;
 use std::sync::Wait;
 use std::thread::Threads;

@@ -1,36 +1,17 @@
-//! The moves of the administrator, by their numbers, and the thread that makes them.
-ghost use Rattle.std.specs.Prelude.{◌≡◌, ◌<◌, IfOk, OnOk};
+//! The thread of the administrator.
+ghost use Rattle.std.specs.Prelude.{◌≡◌, IfOk, OnOk};
 ghost use Rattle.locked_steps.specs.Moves.{new_admin};
 ghost use Rattle.soak.specs.Made.{HasMoved, MakesMove};
-ghost use Rattle.soak.specs.Moves.{layout_after, object_moved};
 
-use crate::chooser::Congruential;
 use crate::counts::Counts;
-use crate::plan::{MOST_CLIENTS, Plan};
 use client::{Admin, Store, StoreName};
-use cluster::LayoutId;
+use soak_parts::{Congruential, MOST_CLIENTS, Plan, layout_after, object_moved};
 use std::sync::Wait;
 use std::thread::Threads;
 use tag::Refusal;
 
 /// The greatest number of turns of each call and each move.
 pub(crate) const MOST_TURNS: u64 = 1_000_000;
-
-/// Returns the name of the object that the move of this number moves: `a` and `b` in turn.
-pub fn object_moved(number: u64) -> &'static str
-    ensures { result.now ≡ object_moved number }
-{
-    if number % 2 == 0 { "a" } else { "b" }
-}
-
-/// Returns the number of the layout to which the move of this number leads. Each object passes through the three
-/// layouts in a cycle.
-pub fn layout_after(number: u64) -> LayoutId
-    ensures layout { result ≡ layout_after number }
-    ensures there { result < 3 }
-{
-    ((number / 2 + 1) % 3) as u32
-}
 
 /// What the thread of the administrator returns: the administrator, or the refusal of one of its moves.
 pub(crate) type Moved<L> = Result<Admin<L>, Refusal>;

@@ -1,14 +1,12 @@
 //! A whole soak.
 ghost use Rattle.std.specs.Prelude.{◌≡◌, ◌+◌, ◌*◌, IfOk};
 ghost use Rattle.soak.specs.Closed.{IsClosed, IsOfClosed};
-ghost use Rattle.soak.specs.Setting.{setting};
+ghost use Rattle.soak_parts.specs.Setting.{setting};
 
 use crate::crew::work_all;
-use crate::plan::Plan;
-use crate::setting::make_setting;
-use crate::summary::Summary;
 use client::{Closed, Store, StoreName};
 use cluster::Cluster;
+use soak_parts::{Plan, Summary, make_setting};
 use std::alloc::Global;
 use std::io::Write;
 use std::marker::Brand;

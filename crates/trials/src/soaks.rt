@@ -1,7 +1,8 @@
 //! What the choices of a soak decide: the first numbers of its chooser, and the history that a soak leaves.
 use driver::Chooser;
 use record::Entry;
-use soak::{Congruential, Plan, run_store};
+use soak::run_store;
+use soak_parts::{Congruential, Plan};
 use std::alloc::Global;
 use std::sync::Wait;
 use std::thread::Threads;

@@ -1,4 +1,4 @@
-use Rattle.soak.specs.Setting.{setting}
+use Rattle.soak_parts.specs.Setting.{setting}
 use Rattle.soak.proofs.MadeCallLemmas.{summed_up, summed_up-receipts}
 use Rattle.soak.proofs.run.run_plan.Goals as goal
 

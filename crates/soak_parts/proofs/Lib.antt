@@ -1,0 +1,2 @@
+mod AccountSumLemmas
+mod SoakLayoutLemmas
