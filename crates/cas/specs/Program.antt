@@ -17,8 +17,8 @@ use Rattle.words.specs.Word.{Word}
 use Rattle.coding_commands.specs.Request.{SpellsCoding}
 use Rattle.coding_commands.specs.declared.fault.Fault.{Fault}
 use Rattle.coding_commands.specs.declared.request.CodingRequest.{CodingRequest}
-use Rattle.cas.specs.Request.{IsFaultOf, Spells}
-use Rattle.cas.specs.declared.request.Request.TheVariants as request
+use Rattle.commands.specs.Request.{IsFaultOf, Spells}
+use Rattle.commands.specs.declared.request.Request.TheVariants as request
 
 -- the file could not be opened, with an error of this kind: the status says so, and nothing is written
 abbrev pub IsUnopened : ErrorKind → Written → Written → ℕ → Type 0

@@ -10,10 +10,8 @@ use std::rt::Stdout;
 use std::{env, io};
 use tag::Refusal;
 
-mod arguments;
 mod file;
 mod program;
-mod request;
 mod soaking;
 
 fn main(rt: HostRuntime) -> ExitCode {

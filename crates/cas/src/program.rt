@@ -2,13 +2,12 @@
 ghost use Rattle.std.specs.Prelude.{List, map, string_bytes};
 ghost use Rattle.words.specs.Word.{Word};
 ghost use Rattle.cas.specs.Program.{EndsBy};
-ghost use Rattle.cas.specs.Request.{Spells};
+ghost use Rattle.commands.specs.Request.{Spells};
 
-use crate::arguments::parse_request;
 use crate::file::run_file;
-use crate::request::Request;
 use crate::soaking::run_soak;
 use coding_commands::answer_request;
+use commands::{Request, parse_request};
 use std::io::Write;
 use std::rt::Files;
 use std::sync::Wait;

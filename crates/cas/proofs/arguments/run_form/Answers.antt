@@ -1,4 +1,0 @@
-use Rattle.cas.proofs.arguments.run_form.Goals as goal
-
-pub returns : goal.returns
-returns c = c.with_word.ensures _ (c.new.ensures.app, c.new.ensures.local)
