@@ -7,9 +7,10 @@ ghost use Rattle.tag.specs.declared.refusal.Refusal.TheVariants.{NoMemory};
 ghost use Rattle.atomicity.specs.Atomic.{IsAtomic, IsSequence};
 ghost use Rattle.record.specs.Journals.{entries};
 ghost use Rattle.atomicity.specs.Sequence.{IsTagSequence};
-ghost use Rattle.history.specs.Calls.{AreCallsOf, tagged_entry};
+ghost use Rattle.certificates.specs.Calls.{AreCallsOf};
+ghost use Rattle.history.specs.Calls.{tagged_entry};
 
-use crate::order::order_by_tags;
+use certificates::order_by_tags;
 use record::{Entry, TaggedCall};
 use register::Register;
 use std::alloc::{AllocError, Global};

@@ -1,5 +1,5 @@
-//! Tests of the small crates that an object is built from, each called once with values that were worked out by hand.
-//! The tests stand in a crate of their own, since a crate with tests is proved twice.
+//! Tests of the small crates that an object is built from, each called once with values that were worked out by hand,
+//! and of certificates. The tests stand in a crate of their own, since a crate with tests is proved twice.
 #![tactic(auto)]
 
 #[cfg(test)]
@@ -8,6 +8,8 @@ mod banks;
 mod calls;
 #[cfg(test)]
 mod edges_of_words;
+#[cfg(test)]
+mod histories;
 #[cfg(test)]
 mod layouts;
 #[cfg(test)]

@@ -1,7 +1,8 @@
 use Rattle.std.proofs.Common.{List, map, sym, ap, ◌∙◌, subst}
 use Rattle.record.specs.declared.call.Entry.{Entry}
 use Rattle.record.specs.declared.call.TaggedCall.{TaggedCall}
-use Rattle.history.specs.Calls.{AreCallsOf, tagged_entry}
+use Rattle.certificates.specs.Calls.{AreCallsOf}
+use Rattle.history.specs.Calls.{tagged_entry}
 use Rattle.history.proofs.CallEntryLemmas.{calls_of_entries}
 use Rattle.history.proofs.object.tagged_calls.Goals as goal
 
