@@ -21,7 +21,9 @@ class ByAnswer:
         return self.names.get(crate.name, set())
 
     def enter(self, crate, results):
-        self.names[crate.name] = {it.edit.name for it in results if it.by_answer}
+        """Notes of each edit that was tried whether an answer refused it."""
+        tried = {it.edit.name for it in results}
+        self.names[crate.name] = (self.of(crate) - tried) | {it.edit.name for it in results if it.by_answer}
 
     def write(self, crates):
         """Writes the lines of the crates that have wrong bodies, in the order of their names."""

@@ -19,6 +19,10 @@ class Result:
     is_weak: bool = False  # refused only because a proof names what the edit took away
     by_answer: bool = False  # refused since an answer by hand is wrong now
 
+    def is_refused(self):
+        """Whether the edit is refused for its meaning."""
+        return self.verdict is Verdict.REFUSED and not self.is_weak
+
 
 def batches_of(edits):
     """Parts the edits into batches, in each of which no two lie in one function."""
