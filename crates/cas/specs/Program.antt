@@ -8,7 +8,7 @@ use Rattle.soak.specs.Closed.{IsOfClosed}
 use Rattle.soak_parts.specs.Setting.{setting}
 use Rattle.soak_parts.specs.Summary.{summary_text}
 use Rattle.soak_parts.specs.Summary.{exit_status_of_summary}
-use Rattle.soak_parts.specs.declared.plan.Plan.{Plan}
+use Rattle.soak_plan.specs.declared.plan.Plan.{Plan}
 use Rattle.soak_parts.specs.declared.summary.Summary.{Summary}
 use Rattle.coding_commands.specs.Fault.{exit_status_of}
 use Rattle.coding_commands.specs.Program.{AnswersRequest}

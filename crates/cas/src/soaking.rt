@@ -8,7 +8,8 @@ ghost use Rattle.coding_commands.specs.declared.fault.Fault.TheVariants.{OutputL
 
 use coding_commands::Fault;
 use soak::run_plan;
-use soak_parts::{Plan, Summary};
+use soak_parts::Summary;
+use soak_plan::Plan;
 use std::io::Write;
 use std::sync::Wait;
 use std::thread::Threads;

@@ -1,7 +1,7 @@
 -- Requests and faults of the command line.
 use Rattle.std.proofs.Common.{◌≡◌, ◌∙◌, ℕ, List, [], ◌∷◌, get_or, refl, ap, sym, arith, subst, inl, inr, codes}
 use Rattle.words.specs.Number.{IsNumber}
-use Rattle.soak_parts.specs.declared.plan.Plan.{Plan}
+use Rattle.soak_plan.specs.declared.plan.Plan.{Plan}
 use Rattle.words.specs.Word.{Word}
 use Rattle.coding_commands.specs.Request.{HasCodingForm, SpellsCoding}
 use Rattle.coding_commands.specs.declared.fault.Fault.{Fault}

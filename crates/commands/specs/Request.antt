@@ -3,7 +3,7 @@
 use Rattle.std.specs.Prelude.{◌≡◌, ◌⊎◌, List, [], ◌∷◌, codes, Result, MatchResult, string_bytes}
 use Rattle.tag.specs.declared.refusal.Refusal.TheVariants.{NoMemory}
 use Rattle.words.specs.Number.{IsNumber}
-use Rattle.soak_parts.specs.Plan.{IsWithin}
+use Rattle.soak_plan.specs.Plan.{IsWithin}
 use Rattle.words.specs.Word.{Word}
 use Rattle.coding_commands.specs.Request.{HasCodingForm, SpellsCoding}
 use Rattle.coding_commands.specs.declared.fault.Fault.{Fault}

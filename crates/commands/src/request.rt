@@ -7,7 +7,7 @@ ghost use Rattle.coding_commands.specs.declared.fault.Fault.TheVariants.{BadArgu
 ghost use Rattle.commands.specs.Request.{ParsesTo};
 
 use coding_commands::{CodingRequest, Fault};
-use soak_parts::Plan;
+use soak_plan::Plan;
 use std::alloc::Global;
 use words::parse_number;
 

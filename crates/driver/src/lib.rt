@@ -4,6 +4,7 @@
 pub use choices::{Filter, choice_at, choose};
 pub use chooser::{Chooser, First};
 pub use coding::{settle, supply};
+pub use congruential::Congruential;
 pub use driver::finish;
 pub use messages::{Handled, handle, handle_at};
 pub use round::{Round, make_round, make_round_at, make_step_at};
@@ -12,6 +13,7 @@ pub use whole_call::{NotAnswered, move_to, read, write};
 mod choices;
 mod chooser;
 mod coding;
+mod congruential;
 mod driver;
 mod messages;
 mod round;

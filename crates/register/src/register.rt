@@ -10,6 +10,7 @@ use std::marker::Model;
 use tag::{Refusal, Stamp};
 
 mod calls;
+mod checks;
 mod coding;
 mod laws;
 mod messages;

@@ -14,11 +14,11 @@ use Rattle.locked_steps.specs.Closing.{all_records, receipts_of}
 use Rattle.locked_steps.specs.Moves.{AdminState}
 use Rattle.locked_steps.specs.Seats.{SeatState, SettlesPending, record_begun, pending_list, new_seat, new_seats, records_of, with_pending}
 use Rattle.locked_steps.proofs.SeatRecordLemmas.{all_append, all_back, all_front}
-use Rattle.soak_parts.specs.Call.{object_called}
+use Rattle.soak_plan.specs.Call.{object_called}
 use Rattle.soak.specs.Closed.{IsClosed, IsOfClosed}
 use Rattle.soak.specs.Made.{HasMade, IsUnusedSeat, Makes, MakesAll, MakesMove, MovesAll, call_begun_by}
 use Rattle.soak_parts.specs.Summary.{IsSummaryOf}
-use Rattle.soak_parts.specs.declared.plan.Plan.{Plan}
+use Rattle.soak_plan.specs.declared.plan.Plan.{Plan}
 use Rattle.soak_parts.specs.declared.summary.Summary.{Summary}
 
 -- one call more

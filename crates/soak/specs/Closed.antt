@@ -9,7 +9,7 @@ use Rattle.locked_steps.specs.Moves.{AdminState}
 use Rattle.locked_steps.specs.Seats.{SeatState}
 use Rattle.soak.specs.Made.{HasMade, HasMoved}
 use Rattle.soak_parts.specs.Summary.{IsSummaryOf}
-use Rattle.soak_parts.specs.declared.plan.Plan.{Plan}
+use Rattle.soak_plan.specs.declared.plan.Plan.{Plan}
 use Rattle.soak_parts.specs.declared.summary.Summary.{Summary}
 
 -- a store was opened with `first`; each seat made the calls of the plan, and the administrator its moves and nothing

@@ -8,8 +8,8 @@ use Rattle.locked_steps.specs.Seats.{SeatState, AddsAnswered, new_seat}
 use Rattle.locked_steps.specs.declared.call_record.Begin.{Begin}
 use Rattle.locked_steps.specs.declared.call_record.Begin.TheVariants as begin
 use Rattle.client.specs.Locked.{MovesThen}
-use Rattle.soak_parts.specs.Call.{object_called, value_written}
-use Rattle.soak_parts.specs.Moves.{layout_after, object_moved}
+use Rattle.soak_plan.specs.Call.{object_called, value_written}
+use Rattle.soak_plan.specs.Moves.{layout_after, object_moved}
 
 -- what a client's call of this number does: an even number writes, and an odd one reads
 abbrev pub call_begun_by : (client call : ℕ) → Begin

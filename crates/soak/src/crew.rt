@@ -9,7 +9,7 @@ use crate::counts::Counts;
 use crate::moves::{Moved, make_moves};
 use crate::watch::watch_all;
 use client::{Admin, Seat, Store, StoreName};
-use soak_parts::Plan;
+use soak_plan::Plan;
 use std::alloc::Global;
 use std::io::Write;
 use std::sync::Wait;

@@ -5,7 +5,8 @@ ghost use Rattle.soak.specs.Made.{HasMoved, MakesMove};
 
 use crate::counts::Counts;
 use client::{Admin, Store, StoreName};
-use soak_parts::{Congruential, MOST_CLIENTS, Plan, layout_after, object_moved};
+use driver::Congruential;
+use soak_plan::{MOST_CLIENTS, Plan, layout_after, object_moved};
 use std::sync::Wait;
 use std::thread::Threads;
 use tag::Refusal;

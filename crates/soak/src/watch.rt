@@ -1,6 +1,6 @@
 //! The line on a terminal that shows how far a soak has come.
 use crate::counts::Counts;
-use soak_parts::{Plan, Progress};
+use soak_plan::{Plan, Progress};
 use std::io::Write;
 use std::sync::Wait;
 use std::time::{Clock, Duration, Instant};

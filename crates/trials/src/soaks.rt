@@ -1,8 +1,8 @@
 //! What the choices of a soak decide: the first numbers of its chooser, and the history that a soak leaves.
-use driver::Chooser;
+use driver::{Chooser, Congruential};
 use record::Entry;
 use soak::run_store;
-use soak_parts::{Congruential, Plan};
+use soak_plan::Plan;
 use std::alloc::Global;
 use std::sync::Wait;
 use std::thread::Threads;

@@ -1,25 +1,22 @@
 //! The values that calls encode, and those that they settle.
 
-ghost use Rattle.std.specs.Prelude.{◌≡◌, ◌⊎◌, ◌≤◌, ◌<◌, suc, pred, [], length, option_copied, true, Some, None};
-ghost use Rattle.std.specs.Prelude.{OnOk, OnErr, IfOk, IfErr};
+ghost use Rattle.std.specs.Prelude.{◌≡◌, ◌⊎◌, ◌≤◌, ◌<◌, pred, [], length, option_copied, Some, None};
+ghost use Rattle.std.specs.Prelude.{OnOk, OnErr, IfOk};
 ghost use Rattle.tag.specs.Refusal.{IsByCause, IsExactlyByCause};
 ghost use Rattle.tag.specs.declared.refusal.Refusal.TheVariants.{Full, WrongCode};
-ghost use Rattle.decoder.specs.Decoded.{IsDecoded};
 ghost use Rattle.encoder.specs.Coded.{Coding};
 ghost use Rattle.record.specs.Steps.{Step};
 ghost use Rattle.record.specs.PhaseOrder.{due};
-ghost use Rattle.record.specs.Records.{Call as Asked, layout_at};
-ghost use Rattle.record.specs.Sending.{sent_value, value_or_empty};
 ghost use Rattle.record.specs.Wants.{current_phase};
 ghost use Rattle.register.specs.State.{made, object_of};
 ghost use Rattle.tag.specs.declared.limits.TheConstants.{MOST_POSITIONS, MOST_STEPS};
 ghost use Rattle.register.specs.Tracked.{HasPositionsBelow, tracked_want};
-ghost use Rattle.register.specs.Coding.{is_coded_for, pieces_due, pieces_position, sending_position};
-ghost use Rattle.register.specs.Causes.{call_at, unless, value_cause, supply_cause, supplying_cause, pieces_cause};
+ghost use Rattle.register.specs.Coding.{pieces_position, sending_position};
+ghost use Rattle.register.specs.Causes.{unless, value_cause, supply_cause, supplying_cause, pieces_cause};
 ghost use Rattle.register.specs.Causes.{settle_cause};
 ghost use Rattle.register.specs.View.{coding_at, fetched_pieces};
 
-use crate::pieces::{is_coded_for, is_decoded_from, piece_by};
+use crate::pieces::piece_by;
 use crate::position::Position;
 use crate::register::Register;
 use crate::register::phases::{index_of, is_pre_write, is_replied, want_of};
@@ -123,41 +120,6 @@ impl Register {
         }
     }
 
-    // The index of the call of this number, with the position that gets the pieces of its value, if this is its encoded
-    // value and it may send them at step `now`.
-    fn supplied_call(
-        &self,
-        call: CallId,
-        coded: &Coded,
-        now: Stamp,
-    ) -> Result<(usize, u32), Refusal>
-        ensures place { IfOk result (λ r. (suc r.0 ≡ call) × (r.0 < length self.now.object.calls)) }
-        ensures sends { IfOk result (λ r. (asked : Asked) → call_at self.now.object call ≡ Some asked
-            → (pieces_due self.now.object (pred call) asked ≡ Some r.1)
-            × (is_coded_for (layout_at self.now.object r.1) (value_or_empty (sent_value asked.kind asked.settled))
-            coded.now ≡ true)) }
-
-        ensures within { IfOk result (λ r. now ≤ MOST_STEPS) }
-        ensures cause { IfErr result (λ e. supply_cause now self.now.object call coded.now ≡ Some e) }
-    {
-        let index = index_of(&self.calls, call)?;
-        let tracked = &self.calls[index];
-        let Some(position) = pieces_position(&self.positions, tracked) else {
-            return Err(Refusal::NotNow);
-        };
-        let Some(value) = tracked.value() else {
-            unreachable!();
-        };
-        let layout = self.positions[position as usize].layout();
-        if !is_coded_for(layout, value, coded) {
-            return Err(Refusal::WrongCode);
-        }
-        if now > MOST_STEPS {
-            return Err(Refusal::Full);
-        }
-        Ok((index, position))
-    }
-
     /// Returns the pieces that the call of this number is to decode. Of the pieces that its current phase took, these
     /// are the k with the least points, in the order of their points.
     ///
@@ -204,34 +166,10 @@ impl Register {
         self.last = now;
         Ok(())
     }
-
-    // The index of the call of this number, if it may settle this value at step `now`.
-    fn settling_call(&self, call: CallId, decoded: &Decoded, now: Stamp) -> Result<usize, Refusal>
-        ensures place { IfOk result (λ index. (suc index ≡ call) × (index < length self.now.object.calls)) }
-        ensures decoded { IfOk result (λ index. IsDecoded decoded.now) }
-        ensures cause { IsExactlyByCause (settle_cause now self.now.object call decoded.now) result }
-    {
-        let index = index_of(&self.calls, call)?;
-        let k = match want_of(&self.positions, &self.calls[index]) {
-            Want::Settle { k, len: _ } => k,
-            Want::Again => return Err(Refusal::Collected),
-            _ => return Err(Refusal::NotNow),
-        };
-        let Some(phase) = self.calls[index].current() else {
-            unreachable!();
-        };
-        if !is_decoded_from(k, phase.replies(), decoded) {
-            return Err(Refusal::WrongCode);
-        }
-        if now > MOST_STEPS {
-            return Err(Refusal::Full);
-        }
-        Ok(index)
-    }
 }
 
 // The position whose members are to get the pieces of a call, if it sends any.
-fn pieces_position(positions: &[Position], call: &TrackedCall) -> Option<u32>
+pub fn pieces_position(positions: &[Position], call: &TrackedCall) -> Option<u32>
     requires count { length positions.now ≤ MOST_POSITIONS }
     requires below { HasPositionsBelow (length positions.now) call.now }
     ensures { result ≡ pieces_position (tracked_want (object_of None positions.now [] []) call.now) (due call.now.stage)

@@ -5,14 +5,12 @@ ghost use Rattle.std.specs.Prelude.{Some, None, true};
 ghost use Rattle.tag.specs.Refusal.{IsByCause, IsExactlyByCause};
 ghost use Rattle.tag.specs.declared.refusal.Refusal.TheVariants.{NoCall};
 ghost use Rattle.record.specs.Steps.{Step};
-ghost use Rattle.record.specs.Legal.{due_of};
-ghost use Rattle.record.specs.Records.{Call as Asked};
 ghost use Rattle.record.specs.Wants.{is_fetch, value_len, want_of};
 ghost use Rattle.register.specs.Coding.{is_pre_write};
 ghost use Rattle.tag.specs.declared.limits.TheConstants.{MOST_POSITIONS, MOST_STEPS};
 ghost use Rattle.register.specs.Tracked.{HasPositionsBelow, tracked_want};
 ghost use Rattle.register.specs.State.{made, object_of};
-ghost use Rattle.register.specs.Causes.{call_at, number_cause, advance_cause, again_cause, post_cause, is_plain};
+ghost use Rattle.register.specs.Causes.{number_cause, advance_cause, again_cause, post_cause, is_plain};
 ghost use Rattle.register.specs.Causes.{due_step, due_cause, wants_due, is_replied};
 ghost use Rattle.register.specs.View.{want_at};
 
@@ -23,7 +21,7 @@ use bank::{Answer, Kind};
 use phase::{Phase, Taken};
 use record::Want;
 use tag::{CallId, MOST_STEPS, Refusal, Stamp};
-use transfer::{begun_at, due};
+use transfer::due;
 
 impl Register {
     /// Returns what the call of this number wants next: `Done` if it is answered. It allocates no memory.
@@ -84,33 +82,6 @@ impl Register {
         )?;
         self.last = now;
         Ok(())
-    }
-
-    // The index of the call of this number, with the kind and the position of the phase that is due, if the call wants
-    // to begin it at step `now`: as an advance, or if `anew` as a restart.
-    fn due_phase(&self, call: CallId, anew: bool, now: Stamp) -> Result<(usize, Kind, u32), Refusal>
-        ensures place { IfOk result (λ r. (suc r.0 ≡ call) × (r.0 < length self.now.object.calls)) }
-        ensures wants { IfOk result (λ r. (asked : Asked) → call_at self.now.object call ≡ Some asked
-            → wants_due anew (want_of self.now.object (pred call) asked) ≡ true) }
-
-        ensures due { IfOk result (λ r. (asked : Asked) → call_at self.now.object call ≡ Some asked
-            → due_of self.now.object (pred call) asked ≡ Some (r.1, r.2)) }
-
-        ensures within { IfOk result (λ r. now ≤ MOST_STEPS) }
-        ensures cause { IfErr result (λ e. due_cause anew now self.now.object call ≡ Some e) }
-    {
-        let index = index_of(&self.calls, call)?;
-        let tracked = &self.calls[index];
-        if !wants_due(anew, want_of(&self.positions, tracked)) {
-            return Err(Refusal::NotNow);
-        }
-        if now > MOST_STEPS {
-            return Err(Refusal::Full);
-        }
-        let Some((kind, position)) = due(begun_at(tracked.stage(), self.base)) else {
-            unreachable!();
-        };
-        Ok((index, kind, position))
     }
 
     /// Resends the requests of the current phase of the call of this number: one to each member that has no recorded
@@ -190,7 +161,7 @@ pub fn want_of(positions: &[Position], call: &TrackedCall) -> Want
 }
 
 // Whether a call that wants this is to begin the phase that is due: as an advance, or if `anew` as a restart.
-fn wants_due(anew: bool, wanted: Want) -> bool
+pub fn wants_due(anew: bool, wanted: Want) -> bool
     ensures { result ≡ wants_due anew wanted }
 {
     match wanted {

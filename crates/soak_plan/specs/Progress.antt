@@ -2,7 +2,7 @@
 -- The line that tells how far a soak has come.
 use Rattle.std.specs.Prelude.{ℕ, List, ◌++◌, codes}
 use Rattle.std.specs.Fmt.{decimal}
-use Rattle.soak_parts.specs.declared.progress.Progress.{Progress}
+use Rattle.soak_plan.specs.declared.progress.Progress.{Progress}
 
 -- a word, and how many of how many are done
 abbrev pub part : (word : List ℕ) (count all : ℕ) → List ℕ

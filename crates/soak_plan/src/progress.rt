@@ -18,7 +18,7 @@ pub struct Progress {
 
 impl fmt::Display for Progress {
     ghost use Rattle.std.specs.Prelude.{Some};
-    ghost use Rattle.soak_parts.specs.Progress.{progress_text};
+    ghost use Rattle.soak_plan.specs.Progress.{progress_text};
 
     ghost output = { λ progress. Some (progress_text progress) };
 

@@ -1,6 +1,6 @@
 //! The plan of a soak.
 ghost use Rattle.std.specs.Prelude.{◌≡◌, MatchOption};
-ghost use Rattle.soak_parts.specs.Plan.{IsWithin};
+ghost use Rattle.soak_plan.specs.Plan.{IsWithin};
 
 /// The greatest number of clients of a soak.
 pub const MOST_CLIENTS: u64 = 64;

@@ -1,7 +1,7 @@
-//! The chooser that the threads of a soak use.
+//! A chooser that computes its numbers.
 ghost use Rattle.std.specs.Prelude.{◌≡◌, ◌+◌, ◌%◌, ◌^◌};
 
-use driver::Chooser;
+use crate::chooser::Chooser;
 
 const FACTOR: u64 = 6_364_136_223_846_793_005;
 
@@ -27,7 +27,7 @@ impl Congruential {
 
 impl Chooser for Congruential {
     ghost use Rattle.std.specs.Prelude.{◌≡◌};
-    ghost use Rattle.soak_parts.specs.Chooser.{chosen, state_after};
+    ghost use Rattle.driver.specs.Congruential.{chosen, state_after};
 
     ghost chooses = { λ before below answer after. (after.state ≡ state_after before.state)
         × (answer ≡ chosen after.state) };

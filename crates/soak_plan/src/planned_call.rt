@@ -1,6 +1,6 @@
 //! The calls of a client, by their numbers.
 ghost use Rattle.std.specs.Prelude.{◌≡◌, IfOk};
-ghost use Rattle.soak_parts.specs.Call.{object_called, value_written};
+ghost use Rattle.soak_plan.specs.Call.{object_called, value_written};
 
 use bytes::Bytes;
 use std::alloc::{AllocError, Global};

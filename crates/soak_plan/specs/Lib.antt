@@ -1,0 +1,4 @@
+pub mod Call
+pub mod Moves
+pub mod Plan
+pub mod Progress
