@@ -1,4 +1,4 @@
-use Rattle.std.proofs.Common.{Some, None}
+use Rattle.std.proofs.Common.{rules, Some, None}
 use Rattle.node_store.proofs.RecoveryLemmas.{so_far_more, so_far_end, read_as}
 use Rattle.node_store.proofs.reading.recover_machine.Goals as goal
 
@@ -21,3 +21,6 @@ returns g c =
     (left next.reader) c.loop-end.at c.loop-end.invariant
     (read_as carries_out c.loop-end.at c.loop-end.machine next.machine (left c.loop-end.reader) (left next.reader)
     c.in_ok-end.field-0 None c.in_default.is c.in_ok-end.ensures)
+
+pub loop-end-init : goal.loop-end-init
+loop-end-init g c = search rules

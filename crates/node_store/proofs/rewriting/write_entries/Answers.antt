@@ -1,4 +1,4 @@
-use Rattle.std.proofs.Common.{ap, ℕ, Vec, Global, arith}
+use Rattle.std.proofs.Common.{rules, ap, ℕ, Vec, Global, arith}
 use Rattle.node_store.proofs.RewritingLemmas.{one_waits, part_written, same_written}
 use Rattle.node_store.proofs.rewriting.write_entries.Goals.{then-len-ge-PART_BYTES+in_ok-length, else-len-ge-PART_BYTES}
 use Rattle.node_store.proofs.rewriting.write_entries.Goals as goal
@@ -16,3 +16,6 @@ loop-entry-preserved g c =
       | else-len-ge-PART_BYTES w ↦ same_written _ _ _ _ _ _ _ _ (ap g.L.Log.written w.log-is)
           (ap (λ (v : Vec ℕ Global). v.items) w.part-is) w.length-is waits
     ]
+
+pub returns-clause-synced : goal.returns-clause-synced
+returns-clause-synced g c = search rules

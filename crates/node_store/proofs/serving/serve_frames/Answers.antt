@@ -77,3 +77,9 @@ returns-clause-serves g c =
     serves_idle g.M.Machine.handles g.M.Machine.notes c.args.machine.now c.loop.machine
     (known c.args.input.now) (known c.loop.input) (kept c.args.log.now) (kept c.loop.log)
     (held c.args.output.now) (held c.loop.output) (NoInput c.from.result) (λ (bytes : List ℕ). tt) c.loop.invariant.0
+
+pub loop-init : goal.loop-init
+loop-init g c = search rules
+
+pub returns-then-has_grown-clause-grown : goal.returns-then-has_grown-clause-grown
+returns-then-has_grown-clause-grown g c = search rules

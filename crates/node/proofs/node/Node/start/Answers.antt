@@ -1,4 +1,4 @@
-use Rattle.std.proofs.Common.{◌∙◌, subst}
+use Rattle.std.proofs.Common.{rules, ◌∙◌, subst}
 use Rattle.recoveries.specs.Records.{IsStarted}
 use Rattle.node_keeper.specs.Keeping.{kept_of}
 use Rattle.node.proofs.StartLemmas.{started_of, starts}
@@ -21,3 +21,6 @@ returns c =
       entries = c.in_ok-entries.ensures.entries ∙ done.entries;
       refused = tt;
     }
+
+pub returns-in_err-name_log-clause-started : goal.returns-in_err-name_log-clause-started
+returns-in_err-name_log-clause-started c = search rules

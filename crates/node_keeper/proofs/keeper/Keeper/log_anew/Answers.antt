@@ -1,3 +1,5 @@
+use Rattle.std.proofs.Common.{arith}
+use Rattle.std.proofs.lemmas.Grind.{common_steps}
 use Rattle.std.specs.List.{AllByRecursion}
 use Rattle.rewritten_logs.specs.Records.{epoch_records}
 use Rattle.node_objects.specs.Objects.{heard_names}
@@ -32,3 +34,6 @@ returns-clause-writes c =
     let keeper = c.args.self.now in
     writes_rest keeper.digest (epoch_records keeper.ids.epoch) (object_records_of keeper) c.log_objects.result
     c.in_ok-log_epochs.ensures.writes c.log_objects.ensures.writes
+
+pub returns-clause-appended : goal.returns-clause-appended
+returns-clause-appended c = grind (arith, common_steps)

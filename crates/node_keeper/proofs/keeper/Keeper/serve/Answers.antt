@@ -1,4 +1,4 @@
-use Rattle.std.proofs.Common.{[], option_to_list, refl, subst, ◌∷◌}
+use Rattle.std.proofs.Common.{rules, [], option_to_list, refl, subst, ◌∷◌}
 use Rattle.local_object.specs.Doing.{serve_events}
 use Rattle.node_objects.specs.Doing.{IsDoneAt}
 use Rattle.node_objects.specs.Objects.{objects_of}
@@ -78,3 +78,6 @@ returns-in_err-send-in-Some-clause-refused c =
     (subst (λ (i : NamedLetter). IsUnwritten (IsSendable old.ids.node old.digest
     (sending c.args.sender (record { name = i.name; letter = reply }))) c.in_err-send-in-Some.field-0.0)
     same c.in_err-send-in-Some.ensures.writes))
+
+pub returns-in_err-it-clause-acts : goal.returns-in_err-it-clause-acts
+returns-in_err-it-clause-acts c = search rules

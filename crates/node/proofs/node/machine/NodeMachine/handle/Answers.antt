@@ -1,4 +1,4 @@
-use Rattle.std.proofs.Common.{[], subst, sym}
+use Rattle.std.proofs.Common.{rules, [], subst, sym}
 use Rattle.std.proofs.lemmas.List.{append-nil}
 use Rattle.node_clients.specs.Desk.{NoneWaits}
 use Rattle.node_strings.specs.Arrival.{arrival_at}
@@ -31,3 +31,6 @@ returns c =
     c.new-work.ensures.outputs c.in_ok-take_frame.ensures.again
     (subst (λ xs. AreFirst taken.outputs.items xs) (sym c.into_effects.ensures.outputs)
     (c.in_ok-finish.ensures.outputs taken.outputs.items ([], sym (append-nil taken.outputs.items)))))
+
+pub returns-in_err-take_frame : goal.returns-in_err-take_frame
+returns-in_err-take_frame c = search rules

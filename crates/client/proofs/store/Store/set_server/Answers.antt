@@ -1,0 +1,5 @@
+use Rattle.std.proofs.Common.{rules}
+use Rattle.client.proofs.store.Store.set_server.Goals as goal
+
+pub returns : goal.returns
+returns g c = search rules

@@ -1,0 +1,5 @@
+use Rattle.std.proofs.Common.{rules}
+use Rattle.node_store.proofs.rewriting.write_part.Goals as goal
+
+pub returns-clause-written : goal.returns-clause-written
+returns-clause-written g c = search rules
