@@ -1,89 +1,71 @@
-//! Commands as `redis-cli`, `redis-benchmark` and Python's library send them.
-use super::samples::{assert_asks, assert_fault, assert_sent, text};
-use client_commands::{Command, CommandFault};
+//! Commands as `redis-cli`, `redis-benchmark` and Python's library send them. What they ask for is compared as it is
+//! printed for debugging, which names all its parts.
+use super::samples::{assert_asks, frame_of};
+use crate::checks::frame_in;
+
+/// What a client sends, and what it asks for.
+static SENT: [(&[u8], &str); 11] = [
+    (b"*2\r\n$3\r\nGET\r\n$5\r\nmykey\r\n", "Ok(Get(b\"mykey\"))"),
+    (b"*2\r\n$3\r\ngEt\r\n$0\r\n\r\n", "Ok(Get(b\"\"))"),
+    (
+        b"*3\r\n$3\r\nSET\r\n$5\r\nmykey\r\n$6\r\na\r\n\x00\xffz\r\n",
+        "Ok(Set { name: b\"mykey\", value: b\"a\\r\\n\\0\\xffz\" })",
+    ),
+    (
+        b"*3\r\n$3\r\nset\r\n$9\r\n\xc3\xa9\r\n name\r\n$0\r\n\r\n",
+        "Ok(Set { name: b\"\\xc3\\xa9\\r\\n name\", value: b\"\" })",
+    ),
+    (b"*1\r\n$4\r\nPING\r\n", "Ok(Ping(None))"),
+    (
+        b"*2\r\n$4\r\nPING\r\n$11\r\nhello world\r\n",
+        "Ok(Ping(Some(b\"hello world\")))",
+    ),
+    (
+        b"*2\r\n$4\r\nECHO\r\n$12\r\nHello World!\r\n",
+        "Ok(Echo(b\"Hello World!\"))",
+    ),
+    (b"*1\r\n$4\r\nINFO\r\n", "Ok(Info)"),
+    // What `redis-cli` sends when it starts.
+    (b"*2\r\n$7\r\nCOMMAND\r\n$4\r\nDOCS\r\n", "Ok(ListCommands)"),
+    (
+        b"*7\r\n$4\r\nMOVE\r\n$5\r\nphoto\r\n$1\r\n2\r\n$1\r\n7\r\n$1\r\n0\r\n$3\r\n255\r\n$2\r\n10\r\n",
+        "Ok(Move { name: b\"photo\", layout: Layout { k: 2, members: [7, 0, 255, 10] } })",
+    ),
+    // An inline command of Redis is no frame at all; an array without strings asks for nothing.
+    (b"*0\r\n", "Err(UnknownCommand)"),
+];
 
 #[test]
-fn get(rt: HostRuntime) {
-    let alloc = rt.alloc();
-    let wanted = Command::Get(text(&rt, alloc, b"mykey"));
-    assert_sent(
-        &rt,
-        alloc,
-        b"*2\r\n$3\r\nGET\r\n$5\r\nmykey\r\n",
-        Ok(wanted),
-    );
-    let wanted = Command::Get(text(&rt, alloc, b""));
-    assert_sent(&rt, alloc, b"*2\r\n$3\r\ngEt\r\n$0\r\n\r\n", Ok(wanted));
+fn sent(rt: HostRuntime) {
+    for &(bytes, wanted) in &SENT {
+        assert_asks(&rt, rt.alloc(), frame_in(&rt, rt.alloc(), bytes), wanted);
+    }
 }
 
-#[test]
-fn set(rt: HostRuntime) {
-    let alloc = rt.alloc();
-    let sent = b"*3\r\n$3\r\nSET\r\n$5\r\nmykey\r\n$6\r\na\r\n\x00\xffz\r\n";
-    let name = text(&rt, alloc, b"mykey");
-    let value = text(&rt, alloc, b"a\r\n\x00\xffz");
-    assert_sent(&rt, alloc, sent, Ok(Command::Set { name, value }));
-}
+/// The strings of a frame, and what it asks for.
+static STRINGS: [(&[&[u8]], &str); 9] = [
+    (&[b"info", b"server", b"clients"], "Ok(Info)"),
+    (&[b"COMMAND"], "Ok(ListCommands)"),
+    // What libraries say of themselves, and what ends a connection.
+    (&[b"client", b"id"], "Ok(ClientId)"),
+    (&[b"CLIENT", b"SETNAME", b"tester"], "Ok(DescribeClient)"),
+    (
+        &[b"CLIENT", b"SETINFO", b"LIB-NAME", b"redis-py"],
+        "Ok(DescribeClient)",
+    ),
+    (&[b"QUIT"], "Ok(Quit)"),
+    (
+        &[b"move", b"", b"1", b"9"],
+        "Ok(Move { name: b\"\", layout: Layout { k: 1, members: [9] } })",
+    ),
+    // `redis-benchmark` asks for settings, which a node does not have.
+    (&[b"CONFIG", b"GET", b"save"], "Err(UnknownCommand)"),
+    (&[b"LPUSH", b"mylist", b"World"], "Err(UnknownCommand)"),
+];
 
 #[test]
-fn set_of_an_empty_value(rt: HostRuntime) {
-    let alloc = rt.alloc();
-    let sent = b"*3\r\n$3\r\nset\r\n$9\r\n\xc3\xa9\r\n name\r\n$0\r\n\r\n";
-    let name = text(&rt, alloc, b"\xc3\xa9\r\n name");
-    let value = text(&rt, alloc, b"");
-    assert_sent(&rt, alloc, sent, Ok(Command::Set { name, value }));
-}
-
-#[test]
-fn ping(rt: HostRuntime) {
-    let alloc = rt.alloc();
-    assert_sent(&rt, alloc, b"*1\r\n$4\r\nPING\r\n", Ok(Command::Ping(None)));
-    let sent = b"*2\r\n$4\r\nPING\r\n$11\r\nhello world\r\n";
-    let wanted = Command::Ping(Some(text(&rt, alloc, b"hello world")));
-    assert_sent(&rt, alloc, sent, Ok(wanted));
-}
-
-#[test]
-fn echo(rt: HostRuntime) {
-    let alloc = rt.alloc();
-    let sent = b"*2\r\n$4\r\nECHO\r\n$12\r\nHello World!\r\n";
-    let wanted = Command::Echo(text(&rt, alloc, b"Hello World!"));
-    assert_sent(&rt, alloc, sent, Ok(wanted));
-}
-
-#[test]
-fn info(rt: HostRuntime) {
-    let alloc = rt.alloc();
-    assert_sent(&rt, alloc, b"*1\r\n$4\r\nINFO\r\n", Ok(Command::Info));
-    assert_asks(&rt, alloc, &[b"info", b"server", b"clients"], Command::Info);
-}
-
-/// What `redis-cli` sends when it starts.
-#[test]
-fn lists_of_commands(rt: HostRuntime) {
-    let alloc = rt.alloc();
-    let sent = b"*2\r\n$7\r\nCOMMAND\r\n$4\r\nDOCS\r\n";
-    assert_sent(&rt, alloc, sent, Ok(Command::ListCommands));
-    assert_asks(&rt, alloc, &[b"COMMAND"], Command::ListCommands);
-}
-
-/// What libraries say of themselves, and what ends a connection.
-#[test]
-fn connections(rt: HostRuntime) {
-    let alloc = rt.alloc();
-    assert_asks(&rt, alloc, &[b"client", b"id"], Command::ClientId);
-    let strings: [&[u8]; 3] = [b"CLIENT", b"SETNAME", b"tester"];
-    assert_asks(&rt, alloc, &strings, Command::DescribeClient);
-    let strings: [&[u8]; 4] = [b"CLIENT", b"SETINFO", b"LIB-NAME", b"redis-py"];
-    assert_asks(&rt, alloc, &strings, Command::DescribeClient);
-    assert_asks(&rt, alloc, &[b"QUIT"], Command::Quit);
-}
-
-/// `redis-benchmark` asks for settings, which a node does not have.
-#[test]
-fn unknown(rt: HostRuntime) {
-    let alloc = rt.alloc();
-    let fault = CommandFault::UnknownCommand;
-    assert_fault(&rt, alloc, &[b"CONFIG", b"GET", b"save"], fault);
-    assert_fault(&rt, alloc, &[b"LPUSH", b"mylist", b"World"], fault);
+fn of_strings(rt: HostRuntime) {
+    for &(texts, wanted) in &STRINGS {
+        assert_asks(&rt, rt.alloc(), frame_of(&rt, rt.alloc(), texts), wanted);
+    }
 }

@@ -1,11 +1,15 @@
 //! Frames that ask for no command, and why.
-use super::samples::{asked_by, assert_asks, assert_fault, assert_sent, text};
-use client_commands::{Command, CommandFault, CommandName};
+use super::samples::{assert_asks, assert_fault, fault_of, frame_of};
+use client_commands::{Command, CommandFault, CommandName, read_command};
+use frames::Frame;
 use std::alloc::Global;
 use std::process::Abort;
 
+/// A name of a byte more than is allowed.
+const LONG: &[u8] = &[b'n'; 256];
+
 /// Strings, and the fault of their frame.
-static FAULTS: [(&[&[u8]], CommandFault); 22] = [
+static FAULTS: [(&[&[u8]], CommandFault); 26] = [
     (&[], CommandFault::UnknownCommand),
     (&[b""], CommandFault::UnknownCommand),
     (&[b"GETS", b"photo"], CommandFault::UnknownCommand),
@@ -61,73 +65,69 @@ static FAULTS: [(&[&[u8]], CommandFault); 22] = [
         &[b"MOVE", b"photo", b"1"],
         CommandFault::WrongCount(CommandName::Move),
     ),
+    (
+        &[b"MOVE", b"photo", b"1", b"3", b"4", b"3"],
+        CommandFault::BadLayout,
+    ),
+    (&[b"GET", LONG], CommandFault::NameTooLong),
+    (&[b"SET", LONG, b"hello"], CommandFault::NameTooLong),
+    (&[b"MOVE", LONG, b"x", b"3"], CommandFault::NameTooLong),
 ];
 
 #[test]
 fn faults(rt: HostRuntime) {
-    let alloc = rt.alloc();
-    for &(strings, fault) in &FAULTS {
-        assert_fault(&rt, alloc, strings, fault);
+    for &(texts, fault) in &FAULTS {
+        assert_fault(&rt, rt.alloc(), texts, fault);
     }
 }
 
-/// A name of 255 bytes is short enough, and one of 256 bytes is not.
+/// Three rows of 85 bytes.
+const GET_LONGEST: &str = "Ok(Get(b\"\
+    nnnnnnnnnnnnnnnnnnnnnnnnnnnnnnnnnnnnnnnnnnnnnnnnnnnnnnnnnnnnnnnnnnnnnnnnnnnnnnnnnnnnn\
+    nnnnnnnnnnnnnnnnnnnnnnnnnnnnnnnnnnnnnnnnnnnnnnnnnnnnnnnnnnnnnnnnnnnnnnnnnnnnnnnnnnnnn\
+    nnnnnnnnnnnnnnnnnnnnnnnnnnnnnnnnnnnnnnnnnnnnnnnnnnnnnnnnnnnnnnnnnnnnnnnnnnnnnnnnnnnnn\"))";
+
+/// A name of 255 bytes is short enough.
 #[test]
-fn long_names(rt: HostRuntime) {
-    let alloc = rt.alloc();
-    let longest: &[u8] = &[b'n'; 255];
-    let wanted = Command::Get(text(&rt, alloc, longest));
-    assert_asks(&rt, alloc, &[b"GET", longest], wanted);
-    let long: &[u8] = &[b'n'; 256];
-    let fault = CommandFault::NameTooLong;
-    assert_fault(&rt, alloc, &[b"GET", long], fault);
-    assert_fault(&rt, alloc, &[b"SET", long, b"hello"], fault);
-    assert_fault(&rt, alloc, &[b"MOVE", long, b"x", b"3"], fault);
+fn the_longest_name(rt: HostRuntime) {
+    let frame = frame_of(&rt, rt.alloc(), &[b"GET", &[b'n'; 255]]);
+    assert_asks(&rt, rt.alloc(), frame, GET_LONGEST);
 }
 
-// A value of so many bytes is too long for a command with this name, or the name is, as the fault says.
-fn assert_long<R: Abort>(rt: &R, alloc: Global, name: &[u8], len: usize, fault: CommandFault) {
+// The frame of a `SET` of this name and of a value of so many bytes.
+fn set_of<R: Abort>(rt: &R, alloc: Global, name: &[u8], len: usize) -> Frame {
     let value = vec![in alloc; b'v'; len].expect(rt, "memory");
-    assert_fault(rt, alloc, &[b"SET", name, &value], fault);
+    frame_of(rt, alloc, &[b"SET", name, &value])
+}
+
+fn is_set(asked: &Result<Command, CommandFault>) -> bool {
+    matches!(asked, Ok(Command::Set { .. }))
 }
 
 /// A value of 16 MiB is short enough.
 #[test]
 fn longest_value(rt: HostRuntime) {
-    let alloc = rt.alloc();
-    let value = vec![in alloc; b'v'; 16_777_216].expect(&rt, "memory");
-    let command = asked_by(&rt, alloc, &[b"SET", b"photo", &value]);
-    assert!(rt; matches!(command, Ok(Command::Set { .. })));
+    let frame = set_of(&rt, rt.alloc(), b"photo", 16_777_216);
+    assert!(rt; is_set(&read_command(frame)));
 }
 
 /// A byte more is not. A name that is too long comes first.
 #[test]
 fn long_values(rt: HostRuntime) {
-    let alloc = rt.alloc();
-    assert_long(&rt, alloc, b"photo", 16_777_217, CommandFault::ValueTooLong);
-    let long: &[u8] = &[b'n'; 256];
-    assert_long(&rt, alloc, long, 16_777_217, CommandFault::NameTooLong);
+    let fault = fault_of(set_of(&rt, rt.alloc(), b"photo", 16_777_217));
+    assert!(rt; fault == Some(CommandFault::ValueTooLong));
+    let fault = fault_of(set_of(&rt, rt.alloc(), LONG, 16_777_217));
+    assert!(rt; fault == Some(CommandFault::NameTooLong));
 }
 
 /// A `MOVE` has from 1 to 255 nodes, whatever they are.
 #[test]
 fn many_nodes(rt: HostRuntime) {
-    let alloc = rt.alloc();
-    let mut strings: Vec<&[u8]> = Vec::new(alloc);
-    strings.push(b"MOVE").expect(&rt, "memory");
-    strings.push(b"photo").expect(&rt, "memory");
-    for _ in 0..256 {
-        strings.push(b"1").expect(&rt, "memory");
-    }
-    assert_fault(&rt, alloc, &strings, CommandFault::BadLayout);
-    strings.push(b"x").expect(&rt, "memory");
+    let mut texts: [&[u8]; 259] = [b"1"; 259];
+    texts[0] = b"MOVE";
+    texts[1] = b"photo";
+    texts[258] = b"x";
+    assert_fault(&rt, rt.alloc(), &texts[..258], CommandFault::BadLayout);
     let fault = CommandFault::WrongCount(CommandName::Move);
-    assert_fault(&rt, alloc, &strings, fault);
-}
-
-/// An inline command of Redis is no frame at all; an array without strings asks for nothing.
-#[test]
-fn no_strings(rt: HostRuntime) {
-    let alloc = rt.alloc();
-    assert_sent(&rt, alloc, b"*0\r\n", Err(CommandFault::UnknownCommand));
+    assert_fault(&rt, rt.alloc(), &texts, fault);
 }

@@ -120,20 +120,21 @@ fn numbers() -> [u8; 256] {
     numbers
 }
 
+fn has_ends(layout: &Layout) -> bool {
+    layout.k() == 100 && layout.n() == 255 && layout.member(0) == 137 && layout.member(254) == 126
+}
+
 #[test]
 fn places_a_name_on_all_of_255_nodes(rt: HostRuntime) {
     let numbers = numbers();
     let most = numbers.get(..255).expect(&rt, "as many numbers");
     let nodes = ClusterNodes::new(100, 255, most).expect(&rt, "as many nodes as there may be");
-    let layout = nodes.place(b"photo");
-    assert_eq!(rt; (layout.k(), layout.n()), (100, 255));
-    assert_eq!(rt; layout.member(0), 137);
-    assert_eq!(rt; layout.member(254), 126);
+    assert!(rt; has_ends(&nodes.place(b"photo")));
 }
 
 fn assert_refuses(rt: &impl Abort, story: &str, k: u8, n: u8, nodes: &[u8]) {
-    let made = ClusterNodes::new(k, n, nodes);
-    assert_eq!(rt; made.err(), Some(Refusal::BadLayout), "{story}");
+    let refusal = ClusterNodes::new(k, n, nodes).err();
+    assert!(rt; refusal == Some(Refusal::BadLayout), "{story}");
 }
 
 #[test]

@@ -1,4 +1,5 @@
 //! Texts that are read.
+use crate::checks::assert_prints;
 use cluster_file::{ClusterFile, read_cluster_file};
 use std::alloc::Global;
 use std::process::Abort;
@@ -19,27 +20,59 @@ pub(crate) fn read<R: Abort>(rt: &R, alloc: Global, text: &[u8]) -> ClusterFile 
     read_cluster_file(alloc, text).expect(rt, "a file")
 }
 
-#[test]
-fn by_hand(rt: HostRuntime) {
-    let file = read(&rt, rt.alloc(), BY_HAND);
-    assert_eq!(rt; file.nodes(), [0, 1, 2, 3, 4, 5].as_slice());
-    assert_eq!(rt; file.n(), 4);
-    assert_eq!(rt; file.k(), 2);
-    assert_eq!(rt; file.delta(), None);
-    assert_eq!(rt; file.mover(), 3);
-    assert_eq!(rt; file.later(), [9, 255].as_slice());
-    assert_eq!(rt; file.ticks(), 50);
+/// A text, and what its file says.
+struct Row {
+    text: &'static [u8],
+    nodes: &'static [u8],
+    n: u8,
+    k: u8,
+    delta: Option<u32>,
+    mover: u8,
+    later: &'static [u8],
+    ticks: u32,
 }
 
+static ROWS: [Row; 2] = [
+    Row {
+        text: BY_HAND,
+        nodes: &[0, 1, 2, 3, 4, 5],
+        n: 4,
+        k: 2,
+        delta: None,
+        mover: 3,
+        later: &[9, 255],
+        ticks: 50,
+    },
+    Row {
+        text: b"nodes 7\r\nn 1\r\nk 1\r\ndelta 4294967295\r\nmover 7\r\nlater\r\nticks 4294967295\r\n",
+        nodes: &[7],
+        n: 1,
+        k: 1,
+        delta: Some(4_294_967_295),
+        mover: 7,
+        later: &[],
+        ticks: 4_294_967_295,
+    },
+];
+
+fn says_nodes(file: &ClusterFile, row: &Row) -> bool {
+    file.nodes() == row.nodes && file.later() == row.later && file.mover() == row.mover
+}
+
+fn says_numbers(file: &ClusterFile, row: &Row) -> bool {
+    file.n() == row.n && file.k() == row.k && file.delta() == row.delta && file.ticks() == row.ticks
+}
+
+/// A text by hand, and one with lines that end with CR LF.
 #[test]
-fn lines_that_end_with_cr_lf(rt: HostRuntime) {
-    let text =
-        b"nodes 7\r\nn 1\r\nk 1\r\ndelta 4294967295\r\nmover 7\r\nlater\r\nticks 4294967295\r\n";
-    let file = read(&rt, rt.alloc(), text);
-    assert_eq!(rt; file.nodes(), [7].as_slice());
-    assert_eq!(rt; file.delta(), Some(4_294_967_295));
-    assert!(rt; file.later().is_empty());
-    assert_eq!(rt; file.ticks(), 4_294_967_295);
+fn settings_of_texts(rt: HostRuntime) {
+    for row in &ROWS {
+        let file = read(&rt, rt.alloc(), row.text);
+        assert!(rt;
+            says_nodes(&file, row) && says_numbers(&file, row),
+            "{file:?}"
+        );
+    }
 }
 
 #[test]
@@ -52,7 +85,10 @@ fn nodes_of_both_lists(rt: HostRuntime) {
 #[test]
 fn the_layout_of_a_name(rt: HostRuntime) {
     let layout = read(&rt, rt.alloc(), BY_HAND).placement().place(b"photo");
-    assert!(rt; layout.k() == 2 && layout.n() == 4);
-    assert!(rt; layout.member(0) == 3 && layout.member(1) == 5);
-    assert!(rt; layout.member(2) == 2 && layout.member(3) == 0);
+    assert_prints(
+        &rt,
+        rt.alloc(),
+        &layout,
+        "Layout { k: 2, members: [3, 5, 2, 0] }",
+    );
 }

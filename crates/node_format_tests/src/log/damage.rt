@@ -1,5 +1,5 @@
 //! A log that is cut or damaged.
-use super::sample::{HEAD_LENGTH, NOTHING, SET, cut};
+use super::sample::{HEAD_LENGTH, SET, with_zeros};
 use node_log::{Damage, Entry, LogError, read_entry};
 use std::alloc::Global;
 
@@ -7,7 +7,7 @@ fn read(alloc: Global, log: &[u8]) -> Result<Option<Entry>, LogError> {
     read_entry(alloc, &mut &*log)
 }
 
-fn ends(alloc: Global, log: &[u8]) -> bool {
+pub(crate) fn ends(alloc: Global, log: &[u8]) -> bool {
     matches!(read(alloc, log), Ok(None))
 }
 
@@ -15,6 +15,15 @@ fn is_damaged(alloc: Global, log: &[u8], damage: Damage) -> bool {
     match read(alloc, log) {
         Err(LogError::Damaged(found)) => found == damage,
         _ => false,
+    }
+}
+
+// The damage where the byte at this place is another one.
+fn damage_at(place: usize) -> Damage {
+    if place < HEAD_LENGTH {
+        Damage::WrongHead
+    } else {
+        Damage::WrongDigest
     }
 }
 
@@ -30,75 +39,68 @@ fn a_cut_at_every_byte(rt: HostRuntime) {
 #[test]
 fn zeros_behind_a_cut(rt: HostRuntime) {
     for len in 0..SET.len() {
-        let log = cut(&rt, rt.alloc(), len, SET.len() - len);
-        assert!(rt; ends(rt.alloc(), &log));
-        let longer = cut(&rt, rt.alloc(), len, 5000);
-        assert!(rt; ends(rt.alloc(), &longer));
+        let first = &SET[..len];
+        assert!(rt;
+            ends(
+                rt.alloc(),
+                &with_zeros(&rt, rt.alloc(), first, SET.len() - len, b"")
+            )
+        );
+        assert!(rt; ends(rt.alloc(), &with_zeros(&rt, rt.alloc(), first, 5000, b"")));
     }
 }
 
 /// Zeros with another byte behind them are damage.
 #[test]
 fn a_byte_behind_zeros(rt: HostRuntime) {
-    let mut log = cut(&rt, rt.alloc(), 0, 40);
-    log.push(1).expect(&rt, "memory");
+    let log = with_zeros(&rt, rt.alloc(), b"", 40, b"\x01");
     assert!(rt; is_damaged(rt.alloc(), &log, Damage::WrongHead));
-    let mut log = cut(&rt, rt.alloc(), 30, 5000);
-    log.push(1).expect(&rt, "memory");
+    let log = with_zeros(&rt, rt.alloc(), &SET[..30], 5000, b"\x01");
     assert!(rt; is_damaged(rt.alloc(), &log, Damage::WrongDigest));
 }
 
-/// Whichever byte is another one, the damage is reported.
+/// Whichever byte is another one, and whichever other one a byte of the length in the head is, the damage is reported,
+/// also where that length leads beyond the end of the log, or to another byte of it.
 #[test]
 fn a_changed_byte(rt: HostRuntime) {
     for place in 0..SET.len() {
-        let mut log = Vec::from_slice(rt.alloc(), SET).expect(&rt, "memory");
-        log[place] = log[place] ^ 1;
-        let damage = if place < HEAD_LENGTH {
-            Damage::WrongHead
-        } else {
-            Damage::WrongDigest
-        };
-        assert!(rt; is_damaged(rt.alloc(), &log, damage));
-    }
-}
-
-/// A length in the head that leads beyond the end of the log, or to another byte of it, is no end.
-#[test]
-fn another_length(rt: HostRuntime) {
-    for place in 0..8 {
-        for byte in 1..=255 {
+        let last = if place < 8 { 255 } else { 1 };
+        for change in 1..=last {
             let mut log = Vec::from_slice(rt.alloc(), SET).expect(&rt, "memory");
-            log[place] = log[place] ^ byte;
-            assert!(rt; is_damaged(rt.alloc(), &log, Damage::WrongHead));
+            log[place] = log[place] ^ change;
+            assert!(rt; is_damaged(rt.alloc(), &log, damage_at(place)));
         }
     }
 }
 
-/// Bodies with right digests that are no frame, or two.
-#[test]
-fn no_frame(rt: HostRuntime) {
-    let text = b"\x00\x00\x00\x00\x00\x00\x00\x0f\xf26\xd2e6e\xaa\x02SET photo hello";
-    assert!(rt; is_damaged(rt.alloc(), text, Damage::NoFrame));
-    let two = b"\x00\x00\x00\x00\x00\x00\x00\x08\xdc\xd3\x00}k}\x99\x81*0\r\n*0\r\n";
-    assert!(rt; is_damaged(rt.alloc(), two, Damage::NoFrame));
-    let mut none = Vec::new(rt.alloc());
-    assert!(rt;
-        none.extend_from_slice(b"\x00\x00\x00\x00\x00\x00\x00\x00\x00\x00\x00\x00+`\xb5]")
-            .is_ok()
-    );
-    assert!(rt; none.extend_from_slice(NOTHING).is_ok());
-    assert!(rt; is_damaged(rt.alloc(), &none, Damage::NoFrame));
-}
+/// Logs whose first bytes are no entry.
+static NO_ENTRIES: [(&str, &[u8], Damage); 4] = [
+    (
+        "a body with a right digest that is no frame",
+        b"\x00\x00\x00\x00\x00\x00\x00\x0f\xf26\xd2e6e\xaa\x02SET photo hello",
+        Damage::NoFrame,
+    ),
+    (
+        "a body with a right digest that is two frames",
+        b"\x00\x00\x00\x00\x00\x00\x00\x08\xdc\xd3\x00}k}\x99\x81*0\r\n*0\r\n",
+        Damage::NoFrame,
+    ),
+    (
+        "an empty body with a right digest, and the entry without strings behind it",
+        b"\x00\x00\x00\x00\x00\x00\x00\x00\x00\x00\x00\x00+`\xb5]\
+            \x00\x00\x00\x00\x00\x00\x00\x04\xecY\x8b\x9e.WX\xab*0\r\n",
+        Damage::NoFrame,
+    ),
+    (
+        "no head",
+        b"*1\r\n$8\r\n\xe3\xb0\xc4B\x98\xfc\x1c\x14\r\n",
+        Damage::WrongHead,
+    ),
+];
 
-/// Bytes that begin with no head.
 #[test]
-fn no_head(rt: HostRuntime) {
-    assert!(rt;
-        is_damaged(
-            rt.alloc(),
-            b"*1\r\n$8\r\n\xe3\xb0\xc4B\x98\xfc\x1c\x14\r\n",
-            Damage::WrongHead
-        )
-    );
+fn no_entries(rt: HostRuntime) {
+    for &(story, log, damage) in &NO_ENTRIES {
+        assert!(rt; is_damaged(rt.alloc(), log, damage), "{story}");
+    }
 }

@@ -1,41 +1,45 @@
 //! Entries written and read back.
-use super::sample::{NOTHING, SET, is_set, set};
-use bytes::Bytes;
+use super::damage::ends;
+use super::limits::zeros;
+use super::sample::{SET, SET_AND_NOTHING, set};
+use crate::checks::{assert_bytes, assert_strings, strings};
 use frames::{Fault, FrameError, MOST_STRINGS};
 use node_log::{Entry, read_entry, write_entry};
+use std::alloc::Global;
+use std::process::Abort;
 
 #[test]
 fn an_entry(rt: HostRuntime) {
     let mut out = Vec::new(rt.alloc());
-    assert!(rt; write_entry(&mut out, &set(&rt, rt.alloc())).is_ok());
-    assert_eq!(rt; out.as_slice(), SET);
+    write_entry(&mut out, &set(&rt, rt.alloc())).expect(&rt, "memory");
+    assert_bytes(&rt, &out, SET);
+}
+
+/// The next entry of the log has these strings.
+fn assert_next<R: Abort>(rt: &R, alloc: Global, log: &mut &[u8], wanted: &[&[u8]]) {
+    let entry = read_entry(alloc, log)
+        .expect(rt, "no damage")
+        .expect(rt, "an entry");
+    assert_strings(rt, entry.strings(), &strings(rt, alloc, wanted));
 }
 
 #[test]
 fn two_entries_in_a_row(rt: HostRuntime) {
-    let mut log = Vec::new(rt.alloc());
-    assert!(rt; log.extend_from_slice(SET).is_ok());
-    assert!(rt; log.extend_from_slice(NOTHING).is_ok());
-    let mut rest = log.as_slice();
-    let first = read_entry(rt.alloc(), &mut rest);
-    assert!(rt; matches!(&first, Ok(Some(entry)) if is_set(entry.strings())));
-    let second = read_entry(rt.alloc(), &mut rest);
-    assert!(rt; matches!(&second, Ok(Some(entry)) if entry.strings().is_empty()));
-    assert!(rt; matches!(read_entry(rt.alloc(), &mut rest), Ok(None)));
+    let mut rest: &[u8] = SET_AND_NOTHING;
+    assert_next(&rt, rt.alloc(), &mut rest, &[b"SET", b"photo", b"hello"]);
+    assert_next(&rt, rt.alloc(), &mut rest, &[]);
+    assert!(rt; ends(rt.alloc(), rest));
 }
 
 #[test]
 fn the_strings_come_back(rt: HostRuntime) {
-    let strings = set(&rt, rt.alloc()).into_strings();
-    assert!(rt; is_set(&strings));
+    let found = set(&rt, rt.alloc()).into_strings();
+    let wanted = strings(&rt, rt.alloc(), &[b"SET", b"photo", b"hello"]);
+    assert_strings(&rt, &found, &wanted);
 }
 
 #[test]
 fn a_string_too_many(rt: HostRuntime) {
-    let mut strings = Vec::new(rt.alloc());
-    for _ in 0..=MOST_STRINGS {
-        strings.push(Bytes::new()).expect(&rt, "memory");
-    }
-    let refused = Entry::new(rt.alloc(), strings);
+    let refused = Entry::new(rt.alloc(), zeros(&rt, rt.alloc(), MOST_STRINGS + 1, 0));
     assert!(rt; matches!(refused, Err(FrameError::Fault(Fault::TooManyStrings))));
 }

@@ -1,8 +1,11 @@
 //! Frames and faults, read from memory and from a slow reader.
-use super::commands::{GET, SET, is_get, is_set};
+use super::commands::{SET, is_set};
 use super::slow::Slow;
+use crate::checks::{assert_bytes, assert_prints};
 use frames::{Fault, FrameError, read_frame};
+use std::alloc::Global;
 use std::io::ErrorKind;
+use std::process::Abort;
 
 /// Bytes that are no frame, and why.
 static FAULTS: [(&[u8], Fault); 20] = [
@@ -28,36 +31,59 @@ static FAULTS: [(&[u8], Fault); 20] = [
     (b"*2\r\n$1\r\na\r\n", Fault::UnexpectedEnd),
 ];
 
+/// What is read of `GET photo`.
+const GET_READ: &str = "Ok(Some(Frame { strings: [b\"GET\", b\"photo\"] }))";
+
+/// What is read of `SET`.
+const SET_READ: &str = "Ok(Some(Frame { strings: [b\"SET\", b\"photo\", b\"\\r\\n*1\"] }))";
+
+/// The next frame of the input is printed so for debugging.
+fn assert_reads<R: Abort>(rt: &R, alloc: Global, input: &mut &[u8], wanted: &str) {
+    assert_prints(rt, alloc, &read_frame(alloc, input), wanted);
+}
+
 #[test]
 fn commands_in_a_row(rt: HostRuntime) {
     let mut input: &[u8] = b"*2\r\n$3\r\nGET\r\n$5\r\nphoto\r\n*1\r\n$0\r\n\r\n*0\r\nPING";
-    let first = read_frame(rt.alloc(), &mut input);
-    assert!(rt; matches!(&first, Ok(Some(frame)) if is_get(frame)));
-    let second = read_frame(rt.alloc(), &mut input);
-    assert!(rt; matches!(&second, Ok(Some(frame)) if frame.strings().len() == 1));
-    let third = read_frame(rt.alloc(), &mut input);
-    assert!(rt; matches!(&third, Ok(Some(frame)) if frame.strings().is_empty()));
-    assert_eq!(rt; input, b"PING".as_slice());
+    assert_reads(&rt, rt.alloc(), &mut input, GET_READ);
+    assert_reads(
+        &rt,
+        rt.alloc(),
+        &mut input,
+        "Ok(Some(Frame { strings: [b\"\"] }))",
+    );
+    assert_reads(
+        &rt,
+        rt.alloc(),
+        &mut input,
+        "Ok(Some(Frame { strings: [] }))",
+    );
+    assert_bytes(&rt, input, b"PING");
 }
 
 #[test]
 fn nothing_at_the_end(rt: HostRuntime) {
-    assert!(rt; matches!(read_frame(rt.alloc(), &mut &GET[..0]), Ok(None)));
+    assert_reads(&rt, rt.alloc(), &mut b"".as_slice(), "Ok(None)");
+}
+
+fn fault_of(alloc: Global, bytes: &[u8]) -> Option<Fault> {
+    match read_frame(alloc, &mut &*bytes).err() {
+        Some(FrameError::Fault(fault)) => Some(fault),
+        _ => None,
+    }
 }
 
 #[test]
 fn faults(rt: HostRuntime) {
-    for &(bytes, expected) in &FAULTS {
-        let read = read_frame(rt.alloc(), &mut &*bytes);
-        assert!(rt; matches!(read, Err(FrameError::Fault(fault)) if fault == expected));
+    for &(bytes, fault) in &FAULTS {
+        assert!(rt; fault_of(rt.alloc(), bytes) == Some(fault), "{bytes:?}");
     }
 }
 
 #[test]
 fn a_cut_at_every_byte(rt: HostRuntime) {
     for len in 1..SET.len() {
-        let read = read_frame(rt.alloc(), &mut &SET[..len]);
-        assert!(rt; matches!(read, Err(FrameError::Fault(Fault::UnexpectedEnd))));
+        assert!(rt; fault_of(rt.alloc(), &SET[..len]) == Some(Fault::UnexpectedEnd));
     }
 }
 
@@ -75,8 +101,12 @@ fn a_reader_that_fails_at_every_byte(rt: HostRuntime) {
 #[test]
 fn one_byte_at_a_time(rt: HostRuntime) {
     let mut reader = Slow::new(rt.alloc(), SET, SET.len());
-    let read = read_frame(rt.alloc(), &mut reader);
-    assert!(rt; matches!(&read, Ok(Some(frame)) if is_set(frame)));
+    assert_prints(
+        &rt,
+        rt.alloc(),
+        &read_frame(rt.alloc(), &mut reader),
+        SET_READ,
+    );
 }
 
 /// With enough memory this is a frame, and wherever memory is refused, `NoMemory`.

@@ -1,5 +1,5 @@
 //! An entry, and its bytes.
-use bytes::Bytes;
+use crate::checks::strings;
 use node_log::Entry;
 use std::alloc::Global;
 use std::process::Abort;
@@ -12,44 +12,29 @@ pub(crate) const SET: &[u8] =
 /// The number of bytes of a head.
 pub(crate) const HEAD_LENGTH: usize = 16;
 
-/// The entry without strings.
-pub(crate) const NOTHING: &[u8] = b"\x00\x00\x00\x00\x00\x00\x00\x04\xecY\x8b\x9e.WX\xab*0\r\n";
-
-fn text<R: Abort>(rt: &R, alloc: Global, text: &[u8]) -> Bytes {
-    Bytes::copy_from_slice(alloc, text).expect(rt, "memory")
-}
+/// That entry, and behind it the one without strings.
+pub(crate) const SET_AND_NOTHING: &[u8] = b"\x00\x00\x00\x00\x00\x00\x00#\xbde\x19o\xd7!l{\
+    *3\r\n$3\r\nSET\r\n$5\r\nphoto\r\n$5\r\nhello\r\n\
+    \x00\x00\x00\x00\x00\x00\x00\x04\xecY\x8b\x9e.WX\xab*0\r\n";
 
 /// Returns the entry of `SET photo hello`, made of its strings.
 pub(crate) fn set<R: Abort>(rt: &R, alloc: Global) -> Entry {
-    let mut strings = Vec::new(alloc);
-    strings.push(text(rt, alloc, b"SET")).expect(rt, "memory");
-    strings.push(text(rt, alloc, b"photo")).expect(rt, "memory");
-    strings.push(text(rt, alloc, b"hello")).expect(rt, "memory");
+    let strings = strings(rt, alloc, &[b"SET", b"photo", b"hello"]);
     Entry::new(alloc, strings).expect(rt, "an entry")
 }
 
-/// Returns whether the strings are `SET`, `photo` and `hello`.
-pub(crate) fn is_set(strings: &[Bytes]) -> bool {
-    match strings {
-        [name, key, value] => {
-            is_text(name, b"SET") && is_text(key, b"photo") && is_text(value, b"hello")
-        }
-        _ => false,
-    }
-}
-
-fn is_text(string: &[u8], text: &[u8]) -> bool {
-    string == text
-}
-
-/// The first bytes of the entry, and zeros behind them.
-pub(crate) fn cut<R: Abort>(rt: &R, alloc: Global, len: usize, zeros: usize) -> Vec<u8> {
-    let mut log = Vec::new(alloc);
-    for byte in SET.iter().take(len) {
-        log.push(*byte).expect(rt, "memory");
-    }
+/// These bytes, so many zeros behind them, and other bytes behind these.
+pub(crate) fn with_zeros<R: Abort>(
+    rt: &R,
+    alloc: Global,
+    first: &[u8],
+    zeros: usize,
+    last: &[u8],
+) -> Vec<u8> {
+    let mut log = Vec::from_slice(alloc, first).expect(rt, "memory");
     for _ in 0..zeros {
         log.push(0).expect(rt, "memory");
     }
+    log.extend_from_slice(last).expect(rt, "memory");
     log
 }

@@ -7,21 +7,19 @@ const ASCENDING: [u8; 32] = [
     26, 27, 28, 29, 30, 31,
 ];
 
-/// The examples of RFC 3720, B.4: 32 bytes of zeros, of ones, and in ascending order.
-#[test]
-fn examples_of_the_rfc(rt: HostRuntime) {
-    assert_eq!(rt; checksum(&[0; 32]), 0x8A9136AA);
-    assert_eq!(rt; checksum(&[255; 32]), 0x62A8AB43);
-    assert_eq!(rt; checksum(&ASCENDING), 0x46DD794E);
-}
-
-/// The check value of the catalogue of parametrised CRC algorithms, of nine bytes: one more than eight.
-#[test]
-fn the_check_value(rt: HostRuntime) {
-    assert_eq!(rt; checksum(b"123456789"), 0xE3069283);
-}
+/// The examples of RFC 3720, B.4: 32 bytes of zeros, of ones, and in ascending order; the check value of the catalogue
+/// of parametrised CRC algorithms, of nine bytes: one more than eight; and the sum of no bytes.
+static SUMS: [(&[u8], u32); 5] = [
+    (&[0; 32], 0x8A9136AA),
+    (&[255; 32], 0x62A8AB43),
+    (&ASCENDING, 0x46DD794E),
+    (b"123456789", 0xE3069283),
+    (b"", 0),
+];
 
 #[test]
-fn no_bytes(rt: HostRuntime) {
-    assert_eq!(rt; checksum(&[]), 0);
+fn published_sums(rt: HostRuntime) {
+    for &(bytes, sum) in &SUMS {
+        assert_eq!(rt; checksum(bytes), sum);
+    }
 }

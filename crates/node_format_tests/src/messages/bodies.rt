@@ -1,10 +1,9 @@
 //! Each kind of request and of reply. What a message says is compared as it is printed for debugging, which names all
 //! its fields.
 use super::samples::{ASK_NEXT, HEAD, NEXT, Strings, frame, message};
-use frames::Frame;
+use crate::checks::{assert_prints, assert_strings};
 use node_messages::{NodeMessage, frame_of};
 use std::alloc::Global;
-use std::fmt::Debug;
 use std::process::Abort;
 
 /// Strings behind `HEAD`, and the body and the next layout of their message, as they are printed.
@@ -145,28 +144,15 @@ static REPLIES: [Row; 10] = [
     },
 ];
 
-fn assert_text<R: Abort>(rt: &R, text: &str, expected: &str) {
-    assert!(rt; text == expected, "{text}");
-}
-
-fn assert_prints<R: Abort, T: Debug>(rt: &R, alloc: Global, value: &T, expected: &str) {
-    let text = format!(in alloc; "{value:?}").expect(rt, "memory");
-    assert_text(rt, text.as_str(), expected);
-}
-
 fn assert_says<R: Abort>(rt: &R, alloc: Global, read: &NodeMessage, row: &Row) {
     assert_prints(rt, alloc, &read.message.body, row.body);
     assert_prints(rt, alloc, &read.next, row.next);
 }
 
-fn are_equal(one: &Frame, other: &Frame) -> bool {
-    one.strings() == other.strings()
-}
-
 fn assert_writes<R: Abort>(rt: &R, alloc: Global, read: &NodeMessage, row: &Row) {
     let written = frame_of(alloc, read).expect(rt, "a frame");
     let expected = frame(rt, alloc, HEAD, row.strings);
-    assert!(rt; are_equal(&written, &expected));
+    assert_strings(rt, written.strings(), expected.strings());
 }
 
 // The strings are those of such a message, and they are written again from it.
@@ -176,20 +162,18 @@ fn assert_row<R: Abort>(rt: &R, alloc: Global, row: &Row) {
     assert_writes(rt, alloc, &read, row);
 }
 
-fn assert_rows<R: Abort>(rt: &R, alloc: Global, rows: &[Row]) {
-    for row in rows {
-        assert_row(rt, alloc, row);
+#[test]
+fn requests(rt: HostRuntime) {
+    for row in &REQUESTS {
+        assert_row(&rt, rt.alloc(), row);
     }
 }
 
 #[test]
-fn requests(rt: HostRuntime) {
-    assert_rows(&rt, rt.alloc(), &REQUESTS);
-}
-
-#[test]
 fn replies(rt: HostRuntime) {
-    assert_rows(&rt, rt.alloc(), &REPLIES);
+    for row in &REPLIES {
+        assert_row(&rt, rt.alloc(), row);
+    }
 }
 
 /// A request Next with all that stands before it. The digest is `0123456789abcdef`.
@@ -198,11 +182,7 @@ const WHOLE: &str = "NodeMessage { \
     name: b\"photo\", layout: Layout { k: 2, members: [3, 4, 5, 6] }, next: None, \
     message: Message { call: 7, phase: 2, position: 1, member: 3, body: Request(Next) } }";
 
-fn assert_whole<R: Abort>(rt: &R, alloc: Global) {
-    assert_prints(rt, alloc, &message(rt, alloc, ASK_NEXT), WHOLE);
-}
-
 #[test]
 fn what_stands_before_the_body(rt: HostRuntime) {
-    assert_whole(&rt, rt.alloc());
+    assert_prints(&rt, rt.alloc(), &message(&rt, rt.alloc(), ASK_NEXT), WHOLE);
 }

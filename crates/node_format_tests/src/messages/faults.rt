@@ -143,26 +143,18 @@ fn changed<R: Abort>(rt: &R, alloc: Global, row: &HeadRow) -> Frame {
     Frame::new(list).expect(rt, "a frame")
 }
 
-fn assert_heads<R: Abort>(rt: &R, alloc: Global, rows: &[HeadRow]) {
-    for row in rows {
-        assert_fault(rt, alloc, changed(rt, alloc, row), row.2);
-    }
-}
-
 #[test]
 fn in_the_head(rt: HostRuntime) {
-    assert_heads(&rt, rt.alloc(), &IN_THE_HEAD);
-}
-
-fn assert_tails<R: Abort>(rt: &R, alloc: Global, rows: &[TailRow]) {
-    for row in rows {
-        assert_fault(rt, alloc, frame(rt, alloc, HEAD, row.0), row.1);
+    for row in &IN_THE_HEAD {
+        assert_fault(&rt, rt.alloc(), changed(&rt, rt.alloc(), row), row.2);
     }
 }
 
 #[test]
 fn behind_the_head(rt: HostRuntime) {
-    assert_tails(&rt, rt.alloc(), &BEHIND_THE_HEAD);
+    for row in &BEHIND_THE_HEAD {
+        assert_fault(&rt, rt.alloc(), frame(&rt, rt.alloc(), HEAD, row.0), row.1);
+    }
 }
 
 /// These strings have the fault that some are missing.
@@ -170,30 +162,18 @@ fn assert_cut<R: Abort>(rt: &R, alloc: Global, head: Strings, tail: Strings) {
     assert_fault(rt, alloc, frame(rt, alloc, head, tail), Fault::WrongCount);
 }
 
-fn assert_cut_heads<R: Abort>(rt: &R, alloc: Global) {
-    for len in 0..HEAD.0.len() {
-        assert_cut(rt, alloc, Strings(&HEAD.0[..len]), Strings(&[]));
-    }
-}
-
 #[test]
 fn a_head_that_is_cut(rt: HostRuntime) {
-    assert_cut_heads(&rt, rt.alloc());
-}
-
-fn assert_cut_bodies<R: Abort>(rt: &R, alloc: Global, bodies: &[Strings]) {
-    for body in bodies {
-        assert_cuts(rt, alloc, *body);
-    }
-}
-
-fn assert_cuts<R: Abort>(rt: &R, alloc: Global, tail: Strings) {
-    for len in 0..tail.0.len() {
-        assert_cut(rt, alloc, HEAD, Strings(&tail.0[..len]));
+    for len in 0..HEAD.0.len() {
+        assert_cut(&rt, rt.alloc(), Strings(&HEAD.0[..len]), Strings(&[]));
     }
 }
 
 #[test]
 fn a_body_that_is_cut(rt: HostRuntime) {
-    assert_cut_bodies(&rt, rt.alloc(), &CUT);
+    for body in &CUT {
+        for len in 0..body.0.len() {
+            assert_cut(&rt, rt.alloc(), HEAD, Strings(&body.0[..len]));
+        }
+    }
 }

@@ -52,48 +52,27 @@ fn assert_named<R: Abort>(rt: &R, alloc: Global, name: &'static [u8], wanted: Op
     assert_fault(rt, alloc, message, wanted);
 }
 
-fn assert_names<R: Abort>(rt: &R, alloc: Global) {
-    assert_named(rt, alloc, &[b'a'; 255], None);
-    assert_named(rt, alloc, &[b'a'; 256], Some(Fault::NameTooLong));
-}
-
 #[test]
 fn a_long_name(rt: HostRuntime) {
-    assert_names(&rt, rt.alloc());
-}
-
-fn assert_no_member<R: Abort>(rt: &R, alloc: Global) {
-    let message = message(rt, b"photo", 4, None, Body::Request(Request::Next));
-    assert_fault(rt, alloc, message, Some(Fault::NoMember));
+    assert_named(&rt, rt.alloc(), &[b'a'; 255], None);
+    assert_named(&rt, rt.alloc(), &[b'a'; 256], Some(Fault::NameTooLong));
 }
 
 #[test]
 fn no_member(rt: HostRuntime) {
-    assert_no_member(&rt, rt.alloc());
+    let message = message(&rt, b"photo", 4, None, Body::Request(Request::Next));
+    assert_fault(&rt, rt.alloc(), message, Some(Fault::NoMember));
 }
 
-fn assert_body<R: Abort>(
-    rt: &R,
-    alloc: Global,
-    next: Option<Layout>,
-    body: Body,
-    wanted: Option<Fault>,
-) {
-    assert_fault(rt, alloc, message(rt, b"photo", 3, next, body), wanted);
-}
-
-fn assert_bad_answer<R: Abort>(rt: &R, alloc: Global) {
+#[test]
+fn an_answer_to_another_kind(rt: HostRuntime) {
     let answer = Answer::Piece(None);
     let body = Body::Reply {
         kind: Kind::Spread(Status::Final),
         reply: Reply { step: 99, answer },
     };
-    assert_body(rt, alloc, None, body, Some(Fault::BadAnswer));
-}
-
-#[test]
-fn an_answer_to_another_kind(rt: HostRuntime) {
-    assert_bad_answer(&rt, rt.alloc());
+    let message = message(&rt, b"photo", 3, None, body);
+    assert_fault(&rt, rt.alloc(), message, Some(Fault::BadAnswer));
 }
 
 fn assert_next<R: Abort>(
@@ -103,7 +82,8 @@ fn assert_next<R: Abort>(
     request: Request,
     wanted: Option<Fault>,
 ) {
-    assert_body(rt, alloc, next, Body::Request(request), wanted);
+    let message = message(rt, b"photo", 3, next, Body::Request(request));
+    assert_fault(rt, alloc, message, wanted);
 }
 
 fn next<R: Abort>(rt: &R) -> Option<Layout> {
@@ -112,15 +92,17 @@ fn next<R: Abort>(rt: &R) -> Option<Layout> {
 
 const PENDING: Request = Request::Spread(Status::Pending);
 
-fn assert_nexts<R: Abort>(rt: &R, alloc: Global) {
-    assert_next(rt, alloc, next(rt), Request::Next, Some(Fault::BadNext));
-    assert_next(rt, alloc, next(rt), PENDING, None);
-    assert_next(rt, alloc, None, PENDING, Some(Fault::BadNext));
-}
-
 #[test]
 fn a_next_layout_too_few_or_too_many(rt: HostRuntime) {
-    assert_nexts(&rt, rt.alloc());
+    assert_next(
+        &rt,
+        rt.alloc(),
+        next(&rt),
+        Request::Next,
+        Some(Fault::BadNext),
+    );
+    assert_next(&rt, rt.alloc(), next(&rt), PENDING, None);
+    assert_next(&rt, rt.alloc(), None, PENDING, Some(Fault::BadNext));
 }
 
 /// A request to pre-write a piece of so many zeros has this fault, or none.
@@ -135,12 +117,13 @@ fn assert_zeros<R: Abort>(rt: &R, alloc: Global, len: usize, wanted: Option<Faul
     assert_next(rt, alloc, None, request, wanted);
 }
 
-fn assert_pieces<R: Abort>(rt: &R, alloc: Global) {
-    assert_zeros(rt, alloc, LONGEST_STRING, None);
-    assert_zeros(rt, alloc, LONGEST_STRING + 1, Some(Fault::PieceTooLong));
-}
-
 #[test]
 fn a_long_piece(rt: HostRuntime) {
-    assert_pieces(&rt, rt.alloc());
+    assert_zeros(&rt, rt.alloc(), LONGEST_STRING, None);
+    assert_zeros(
+        &rt,
+        rt.alloc(),
+        LONGEST_STRING + 1,
+        Some(Fault::PieceTooLong),
+    );
 }

@@ -1,0 +1,47 @@
+//! Strings and frames that are made, and comparisons with what is written by hand.
+use bytes::Bytes;
+use frames::{Frame, read_frame};
+use std::alloc::Global;
+use std::fmt::Debug;
+use std::process::Abort;
+
+/// Returns copies of these strings.
+pub(crate) fn strings<R: Abort>(rt: &R, alloc: Global, texts: &[&[u8]]) -> Vec<Bytes> {
+    let mut strings = Vec::new(alloc);
+    for text in texts {
+        let copied = Bytes::copy_from_slice(alloc, text).expect(rt, "memory");
+        strings.push(copied).expect(rt, "memory");
+    }
+    strings
+}
+
+/// The frame that these bytes are.
+pub(crate) fn frame_in<R: Abort>(rt: &R, alloc: Global, sent: &[u8]) -> Frame {
+    let frame = read_frame(alloc, &mut &*sent).expect(rt, "no fault");
+    frame.expect(rt, "a frame")
+}
+
+fn are_equal(one: &[Bytes], other: &[Bytes]) -> bool {
+    one == other
+}
+
+/// These are the wanted strings.
+pub(crate) fn assert_strings<R: Abort>(rt: &R, found: &[Bytes], wanted: &[Bytes]) {
+    assert!(rt; are_equal(found, wanted), "{found:?}");
+}
+
+/// These are the wanted bytes.
+pub(crate) fn assert_bytes<R: Abort>(rt: &R, found: &[u8], wanted: &[u8]) {
+    assert_eq!(rt; found, wanted);
+}
+
+/// This is the wanted text.
+pub(crate) fn assert_text<R: Abort>(rt: &R, text: &str, wanted: &str) {
+    assert!(rt; text == wanted, "{text}");
+}
+
+/// The value is printed so for debugging.
+pub(crate) fn assert_prints<R: Abort, T: Debug>(rt: &R, alloc: Global, value: &T, wanted: &str) {
+    let text = format!(in alloc; "{value:?}").expect(rt, "memory");
+    assert_text(rt, text.as_str(), wanted);
+}
