@@ -1,0 +1,5 @@
+use Rattle.std.proofs.Common.{rules}
+use Rattle.node_effects.proofs.work.Work.answer.Goals as goal
+
+pub returns-clause-grown : goal.returns-clause-grown
+returns-clause-grown c = search rules
