@@ -1,4 +1,4 @@
-use Rattle.std.proofs.Common.{◌≡◌, ◌<◌, suc, false, List, ℕ, Option, Some, None, refl, ap, ◌∙◌, arith}
+use Rattle.std.proofs.Common.{rules, ◌≡◌, ◌<◌, suc, false, List, ℕ, Option, Some, None, refl, ap, ◌∙◌, arith}
 use Rattle.std.specs.Prelude.{is_some, vec_len, vec_capacity}
 use Rattle.std.specs.String.{string_bytes}
 use Rattle.std.proofs.lemmas.Grind.{common_steps}
@@ -39,3 +39,6 @@ invariant_of-booked g c = grind (arith, common_steps)
 
 pub invariant_of-booked-2 : goal.invariant_of-booked-2
 invariant_of-booked-2 g c = grind (arith, common_steps)
+
+pub returns-in_err-object-clause-state : goal.returns-in_err-object-clause-state
+returns-in_err-object-clause-state g c = search rules

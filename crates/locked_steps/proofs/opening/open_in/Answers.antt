@@ -1,4 +1,4 @@
-use Rattle.std.proofs.Common.{◌≡◌, ◌+◌, ◌++◌, ◌≤◌, ◌∷◌, [], length, ap, ◌∙◌, arith, add-one}
+use Rattle.std.proofs.Common.{rules, ◌≡◌, ◌+◌, ◌++◌, ◌≤◌, ◌∷◌, [], length, ap, ◌∙◌, arith, add-one}
 use Rattle.register.proofs.ListLemmas.{all_weaker}
 use Rattle.cluster.specs.Cluster.{Named}
 use Rattle.cluster.specs.Kept.{IsPlaced}
@@ -29,3 +29,6 @@ new-booked-requires-clause-sound g c =
 pub returns-clause-seats : goal.returns-clause-seats
 returns-clause-seats g c =
     let all : c.loop-number.number ≡ c.args.seats = omega arith in c.loop-number.invariant.items ∙ ap new_seats all
+
+pub open-book-requires-clause-name : goal.open-book-requires-clause-name
+open-book-requires-clause-name g c = search rules

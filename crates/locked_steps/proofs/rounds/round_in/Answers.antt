@@ -6,3 +6,6 @@ returns-in_err-round-clause-cause g c = search (rules, tests)
 
 pub returns-clause-cause : goal.returns-clause-cause
 returns-clause-cause g c = search (rules, tests)
+
+pub settle-requires-clause-value : goal.settle-requires-clause-value
+settle-requires-clause-value g c = search rules

@@ -1,4 +1,4 @@
-use Rattle.std.proofs.Common.{pred, refl}
+use Rattle.std.proofs.Common.{rules, pred, refl}
 use Rattle.record.specs.Steps.{Step}
 use Rattle.locked_steps.proofs.ReachableLemmas.{goes_on_round_both, goes_on_step}
 use Rattle.locked_steps.proofs.RoundLemmas.{counted_round_both, kept_step}
@@ -34,3 +34,6 @@ pub returns-in_ok-settle_at-in-Decoded-clause-course : goal.returns-in_ok-settle
 returns-in_ok-settle_at-in-Decoded-clause-course g c =
     goes_on_step c.args.cluster.now c.settle_at.new.self c.args.name.now (Step.Settle (pred c.args.call) c.in-Decoded.decoded.value)
     c.in_ok-settle_at-in-Decoded.ensures.may c.in_ok-settle_at-in-Decoded.ensures.step
+
+pub returns-in-Err-NotNow-clause-refused : goal.returns-in-Err-NotNow-clause-refused
+returns-in-Err-NotNow-clause-refused g c = search rules
