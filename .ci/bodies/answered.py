@@ -7,6 +7,7 @@ is tried again with all searches: a wrong line here costs time and changes no ve
 import os
 
 HEAD = "# Written by .ci/wrong-bodies: for each crate the wrong bodies that an answer by hand refuses, without any search.\n"
+HEAD_OF_GOALS = "# Written by .ci/wrong-bodies: the goals that a wrong body leaves open, where there are several.\n"
 
 
 class ByAnswer:
@@ -30,3 +31,35 @@ class ByAnswer:
         with open(self.path, "w", encoding="utf-8") as file:
             file.write(HEAD)
             file.writelines(f"{' '.join([it, *sorted(self.names[it])])}\n" for it in sorted(crates) if self.names.get(it))
+
+
+class OpenGoals:
+    """Which goals of its function an edit left open when it was last tried, if there were several: a line for each edit.
+
+    One goal for which no search finds a proof is enough to refuse the edit, so the next trial searches only for the first. If
+    this one is then proved, the edit is tried again with all searches: a wrong line here, too, changes no verdict.
+    """
+
+    def __init__(self, path):
+        self.path, self.goals = path, {}
+        if os.path.isfile(path):
+            with open(path, encoding="utf-8") as file:
+                rows = [line.split() for line in file if line.strip() and not line.startswith("#")]
+            for crate, edit, *goals in rows:
+                self.goals.setdefault(crate, {})[edit] = goals
+
+    def of(self, crate):
+        return self.goals.get(crate.name, {})
+
+    def enter(self, crate, results):
+        """Notes of each edit that was tried which goals it left open."""
+        tried = {it.edit.name for it in results}
+        kept = {edit: goals for edit, goals in self.of(crate).items() if edit not in tried}
+        self.goals[crate.name] = kept | {it.edit.name: it.goals for it in results if it.is_refused() and len(it.goals) > 1}
+
+    def write(self, crates):
+        """Writes the lines of the crates that have wrong bodies, in the order of their names."""
+        with open(self.path, "w", encoding="utf-8") as file:
+            file.write(HEAD_OF_GOALS)
+            rows = [(it, *edit) for it in sorted(crates) for edit in sorted(self.goals.get(it, {}).items())]
+            file.writelines(f"{crate} {edit} {' '.join(goals)}\n" for crate, edit, goals in rows)

@@ -5,7 +5,8 @@ import subprocess
 import tempfile
 from dataclasses import dataclass, replace
 
-from copies import Copy, can_go_without_search, copies_of, copy_proofs, is_bare, leave_open, without_bodies, without_search
+from copies import Copy, can_go_without_search, copies_of, copy_proofs, is_bare, leave_goals_open, leave_open
+from copies import without_bodies, without_search
 from edits import edited_texts, read
 from kit import ABOVE, rtlib, words_above
 from verdicts import NAMES, Report, Verdict
@@ -18,6 +19,7 @@ class Result:
     why: str
     is_weak: bool = False  # refused only because a proof names what the edit took away
     by_answer: bool = False  # refused since an answer by hand is wrong now
+    goals: tuple = ()  # the goals for which no search found a proof
 
     def is_refused(self):
         """Whether the edit is refused for its meaning."""
@@ -48,15 +50,16 @@ def words_for(crate, edits):
 class Trial:
     """The checks of one crate with edits in it. What is proved in one of them is kept for the next."""
 
-    def __init__(self, crate, functions, jobs, by_answer=()):
+    def __init__(self, crate, functions, jobs, by_answer=(), goals=()):
         self.crate, self.functions, self.jobs = crate, functions, jobs
         self.by_answer = set(by_answer)  # the names of the edits that were refused so when they were last tried
+        self.goals = dict(goals)  # by an edit's name the goals that were open then, if there were several
         self.seconds, self.checks = 0.0, 0
         self.kept = None
 
-    def prepare(self, room, texts, edits):
+    def prepare(self, room, texts, edits, unsearched):
         """Copies the crate to a folder, with these texts. Where these have edits, there is a hole for the proof of each
-        other function."""
+        other function, and for each goal that is left out."""
         for part in rtlib.PARTS:
             if os.path.isdir(f"{self.crate.folder}/{part}"):
                 shutil.copytree(f"{self.crate.folder}/{part}", f"{room}/{part}")
@@ -68,16 +71,22 @@ class Trial:
             copy_proofs(room, self.crate.name, copy)
         for function in self.without_edit(edits) if edits else []:
             leave_open(room, self.crate.name, function)
+        for edit in (it for it in edits if it not in unsearched and self.leaves_out(it)):
+            leave_goals_open(room, self.crate.name, edit.functions[0], self.goals[edit.name][1:])
 
     def without_edit(self, edits):
         edited = {function for edit in edits for function in edit.functions}
         return [it for it in self.functions if it not in edited]
 
-    def check(self, texts, edits):
+    def leaves_out(self, edit):
+        """Whether a proof is searched only for the first of the edit's goals that were open when it was last tried."""
+        return edit.name in self.goals and len(edit.functions) == 1 and not is_bare(edit)
+
+    def check(self, texts, edits, unsearched=()):
         """Checks a copy of the crate with these texts, which have the edits, and proves nothing else. Where no edits are
         given, it proves the whole crate."""
         with tempfile.TemporaryDirectory(prefix="wrong-bodies-") as room, tempfile.TemporaryFile() as said:
-            self.prepare(room, texts, edits)
+            self.prepare(room, texts, edits, unsearched)
             words = words_above(self.crate, self.jobs) + words_for(self.crate, edits)
             whole = [*rtlib.guarded(), rtlib.RATTLE, "check", *words, "--incremental", self.kept]
             run = subprocess.Popen(whole, cwd=room, stdin=subprocess.DEVNULL, stdout=said, stderr=subprocess.STDOUT)
@@ -94,7 +103,8 @@ class Trial:
     def refused(self, report, edit):
         rows, is_weak = report.reasons(edit)
         told = self.wrong_answers(report, edit)
-        return Result(edit, Verdict.REFUSED, (told or rows or [""])[0], is_weak, bool(told))
+        goals = () if told else tuple(self.goals.get(edit.name, report.open_goals(edit)))
+        return Result(edit, Verdict.REFUSED, (told or rows or [""])[0], is_weak, bool(told), goals)
 
     def wrong_answers(self, report, edit):
         return [row for row in report.errors_in_proofs(edit) if not NAMES.search(row)]
@@ -118,7 +128,7 @@ class Trial:
         unsearched = self.unsearched(edits)
         changed = [without_search(it) if it in unsearched else it for it in edits]
         texts = edited_texts(self.crate.folder, [*changed, without_bodies(self.crate.folder, self.without_edit(edits))])
-        report = self.check(texts, edits)
+        report = self.check(texts, edits, unsearched)
         if not report.reached_the_prover() or report.unread(texts):
             has_copies = any(isinstance(it, Copy) for it in edits)
             bad = [] if has_copies else report.refused_by_the_front_end(edits, self.line_of)
@@ -135,6 +145,9 @@ class Trial:
             if edit in unsearched:
                 verdict = self.verdict_of_unsearched(report, edit)
                 self.by_answer.discard(edit.name if verdict is None else "")
+            elif self.leaves_out(edit) and self.goals[edit.name][0] not in report.open_goals(edit):
+                verdict = None
+                del self.goals[edit.name]
             else:
                 verdict = report.verdict_of_bare(edit) if is_bare(edit) else report.verdict(edit)
             if verdict is Verdict.REFUSED:

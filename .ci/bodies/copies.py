@@ -102,6 +102,16 @@ def copy_proofs(room, crate, copy):
                 file.write(text)
 
 
+def leave_goals_open(room, crate, function, goals):
+    """Leaves a hole for the proof of each of these goals of a function."""
+    path = f"{room}/{function.proofs()}/Answers.antt"
+    os.makedirs(os.path.dirname(path), exist_ok=True)
+    with open(path, "a", encoding="utf-8") as file:
+        if not file.tell():
+            file.write(f"use Rattle.{crate}.proofs.{function.module_of_proofs()}.Goals as goal\n")
+        file.writelines(f"\npub {it} : goal.{it}\n{it} = ?\n" for it in goals)
+
+
 def leave_open(room, crate, function):
     """Leaves a hole for a function's proof."""
     folder = f"{room}/{function.proofs()}"

@@ -97,6 +97,12 @@ class Report:
                     told.append((is_proof and bool(NAMES.search(row)), row))
         return [row for _, row in sorted(told, key=lambda it: it[0])], bool(told) and all(weak for weak, _ in told)
 
+    def open_goals(self, edit):
+        """The goals of the edit's functions for which no search found a proof."""
+        rows = [row for it in edit.functions for name in self.names_of(it) for row in self.above[name]]
+        found = [re.match(r"note: src/.*?: it is not proved that .*?\(`([^`]+)`\)", row) for row in rows]
+        return list(dict.fromkeys(at[1] for at in found if at))
+
     def errors_in_proofs(self, edit):
         """The lines with an error in what was written by hand of the proofs of the edit's functions."""
         names = [name for it in edit.functions for name in self.names_of(it)]
