@@ -1,7 +1,7 @@
 """A command of the prover: what its result depends on, and where it writes it.
 
-`rt ci` runs the prover in a crate's folder, and names by their paths the libraries below the crate and what an earlier
-command made of it. The same files at other paths give the same result.
+`rt ci` runs the prover in a crate's folder, and names by their paths the libraries below the crate and what an
+earlier command made of it. The same files at other paths give the same result.
 """
 import hashlib
 import os
@@ -46,12 +46,12 @@ class Command:
         self.output = words[words.index("-o") + 1] if "-o" in words else None
 
     def can_be_kept(self):
-        """Whether the command takes apart a whole crate, and reads nothing of what an earlier check left unfinished."""
+        """Whether the command checks or builds a whole crate, without what an earlier check left for it."""
         verb = self.words[0] if self.words else ""
         return verb in ("build", "check") and "--crate-name" in self.words and "--incremental" not in self.words
 
     def key(self):
-        """The sum of all that the result depends on. How many jobs share the work is not part of it."""
+        """The sum of all that the result depends on. The number of jobs changes only how long the command takes."""
         total = hashlib.blake2b(digest_size=16)
         for name in ("KIT-ID", "WHAT"):
             with open(f"{self.kit}/{name}", "rb") as file:
@@ -72,11 +72,12 @@ class Command:
                 yield word
 
     def named_place(self, word):
-        """For `NAME=PATH` or a path the name and what lies there: a path of the kit, or the sum of what a command made. A
-        folder of libraries has each with its sum."""
+        """What stands for `NAME=PATH` or a path: the word itself if the path lies in the kit, and else the name with the
+        sum of what lies there. For a folder of libraries these are their names and sums."""
         name, _, path = word.rpartition("=")
         if path.startswith(f"{self.kit}/"):
             return word
         if name != "dependency":
             return name, noted_sum(path)
-        return name, [(it, noted_sum(f"{path}/{it}")) for it in sorted(os.listdir(path)) if it.endswith(".rlib")]
+        libraries = [it for it in sorted(os.listdir(path)) if it.endswith(".rlib")]
+        return name, [(it, noted_sum(f"{path}/{it}")) for it in libraries]

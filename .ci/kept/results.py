@@ -1,7 +1,8 @@
-"""The results of the prover's commands that are kept on this machine: what each printed, and the file or folder that it made.
+"""The results of the prover's commands that are kept on this machine: what each printed, and the file or folder that
+it made.
 
-Each result lies in a folder of its own, whose name is the command's key. It has the sums of both parts; one that does not
-have its sums any more is dropped, and the command runs again.
+Each result lies in a folder of its own, whose name is the command's key, with the sums of both parts. If a part no
+longer has its sum, the result is dropped, and the command runs again.
 """
 import os
 import shutil
@@ -25,7 +26,7 @@ def link_or_copy(old, new):
 
 
 def put(place, to):
-    """Has the file or folder stand at another place too. No copy is made where both lie in one file system."""
+    """Puts the file or folder at another place too. Within one file system, no data is copied."""
     if os.path.isdir(place):
         shutil.copytree(place, to, copy_function=link_or_copy)
     else:
