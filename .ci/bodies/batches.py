@@ -1,14 +1,14 @@
 """Tries a crate's edits, many at a time: an edit changes a body and no contract, so that functions fail independently."""
 import os
 import shutil
-import subprocess
 import tempfile
 from dataclasses import dataclass, replace
 
 from copies import Copy, can_go_without_search, copies_of, copy_proofs, is_bare, leave_goals_open, leave_open
 from copies import without_bodies, without_search
 from edits import edited_texts, read
-from kit import ABOVE, rtlib, words_above
+from joint import Joint
+from kit import rtlib, run_prover, start_above, words_above
 from verdicts import NAMES, Report, Verdict
 
 
@@ -48,10 +48,11 @@ def words_for(crate, edits):
 
 
 class Trial:
-    """The checks of one crate with edits in it. What is proved in one of them is kept for the next."""
+    """The checks of one crate with edits in it. The first may be made together with those of other crates."""
 
-    def __init__(self, crate, functions, jobs, by_answer=(), goals=()):
+    def __init__(self, crate, functions, jobs, by_answer=(), goals=(), joint=None):
         self.crate, self.functions, self.jobs = crate, functions, jobs
+        self.joint, self.is_first = joint or Joint([crate.name]), True
         self.by_answer = set(by_answer)  # the names of the edits that were refused so when they were last tried
         self.goals = dict(goals)  # by an edit's name the goals that were open then, if there were several
         self.seconds, self.checks = 0.0, 0
@@ -63,8 +64,8 @@ class Trial:
         for part in rtlib.PARTS:
             if os.path.isdir(f"{self.crate.folder}/{part}"):
                 shutil.copytree(f"{self.crate.folder}/{part}", f"{room}/{part}")
-        os.makedirs(f"{room}/{ABOVE}/src")
-        for path, text in {**texts, f"{ABOVE}/src/lib.rt": "//! Nothing.\n"}.items():
+        start_above(room)
+        for path, text in texts.items():
             with open(f"{room}/{path}", "w", encoding="utf-8") as file:
                 file.write(text)
         for copy in (it for it in edits if isinstance(it, Copy)):
@@ -84,18 +85,20 @@ class Trial:
 
     def check(self, texts, edits, unsearched=()):
         """Checks a copy of the crate with these texts, which have the edits, and proves nothing else. Where no edits are
-        given, it proves the whole crate."""
-        with tempfile.TemporaryDirectory(prefix="wrong-bodies-") as room, tempfile.TemporaryFile() as said:
+        given, it proves the whole crate. The first check of edits is made together with those of other crates."""
+        joint, only = self.joint, words_for(self.crate, edits)
+        with tempfile.TemporaryDirectory(prefix="wrong-bodies-") as room:
             self.prepare(room, texts, edits, unsearched)
-            words = words_above(self.crate, self.jobs) + words_for(self.crate, edits)
-            whole = [*rtlib.guarded(), rtlib.RATTLE, "check", *words, "--incremental", self.kept]
-            run = subprocess.Popen(whole, cwd=room, stdin=subprocess.DEVNULL, stdout=said, stderr=subprocess.STDOUT)
-            _, status, used = os.wait4(run.pid, 0)
-            run.returncode = os.waitstatus_to_exitcode(status)
-            self.seconds += used.ru_utime + used.ru_stime
-            self.checks += 1
-            said.seek(0)
-            return Report(self.crate, run.returncode, said.read().decode(errors="replace"))
+            told = joint.check(self.crate, self.jobs, room, only) if self.is_first and edits else None
+            self.is_first = self.is_first and not edits
+            if not told:
+                words = words_above(self.crate, self.jobs) + only
+                with joint.alone:
+                    told = run_prover([*words, "--incremental", self.kept], room)
+        status, text, seconds = told
+        self.seconds += seconds
+        self.checks += 1
+        return Report(self.crate, status, text)
 
     def line_of(self, path, place):
         return read(f"{self.crate.folder}/{path}").encode()[:place].count(b"\n") + 1

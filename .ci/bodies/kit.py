@@ -12,6 +12,7 @@ import re
 import shutil
 import subprocess
 import sys
+import tempfile
 from functools import cache
 
 sys.dont_write_bytecode = True
@@ -64,21 +65,53 @@ def build_below(crate):
 # The crate that is checked over a crate with edits. It is empty.
 ABOVE = "tried"
 
+# The root files of a library and of a program.
+ROOTS = ("src/lib.rt", "src/main.rt")
+
 
 def words_above(crate, jobs):
     """The words of a check of the empty crate over a copy of the crate, which lies where the check runs and is read from
     its source. Of a crate that is checked itself, and not read so, a check prints how to begin each proof that fails, for
-    which it searches a second time. A program cannot be read as a library, so it is checked itself."""
+    which it searches a second time. A program is read like a library, from its root file."""
     words = crate.words(["--jobs", str(jobs)], keeps=False)
-    if "src/lib.rt" not in words:
-        return words
     words[words.index("--crate-name") + 1] = ABOVE
     for option in ("--links", "--crate-type"):
         if option in words:
             del words[words.index(option) : words.index(option) + 2]
-    root = words.index("src/lib.rt")
-    words[root] = f"{ABOVE}/src/lib.rt"
-    return [*words, "--lib", f"{crate.name}=src/lib.rt"]
+    root = next(place for place, word in enumerate(words) if word in ROOTS)
+    file, words[root] = words[root], f"{ABOVE}/src/lib.rt"
+    return [*words, "--lib", f"{crate.name}={file}"]
+
+
+def words_above_all(crates, jobs):
+    """The words of a check of the empty crate over copies of several crates, none of which is below another. Each lies in a
+    folder of its name, and sees only the libraries that it lists."""
+    words = []
+    for crate in crates:
+        own = words_above(crate, jobs)
+        seen = ",".join(value.split("=")[0] for option, value in zip(own, own[1:]) if option == "--extern")
+        own[-1] = own[-1].replace(f"{crate.name}=", f"{crate.name}:{seen}={crate.name}/")
+        options = [it for it in zip(own, own[1:]) if it[0] in ("--extern", "-L", "--lib") and it[1] not in words]
+        words += [word for option in options for word in option] if words else own
+    return words
+
+
+def start_above(room):
+    """Writes the empty crate into the folder where a check of it runs."""
+    os.makedirs(f"{room}/{ABOVE}/src")
+    with open(f"{room}/{ABOVE}/src/lib.rt", "w", encoding="utf-8") as file:
+        file.write("//! Nothing.\n")
+
+
+def run_prover(words, room):
+    """Runs a check in a folder. Returns its status, what it printed, and the seconds of a processor that it took."""
+    with tempfile.TemporaryFile() as said:
+        whole = [*rtlib.guarded(), rtlib.RATTLE, "check", *words]
+        run = subprocess.Popen(whole, cwd=room, stdin=subprocess.DEVNULL, stdout=said, stderr=subprocess.STDOUT)
+        _, status, used = os.wait4(run.pid, 0)
+        run.returncode = os.waitstatus_to_exitcode(status)
+        said.seek(0)
+        return run.returncode, said.read().decode(errors="replace"), used.ru_utime + used.ru_stime
 
 
 def tokens_of(paths):
