@@ -81,13 +81,7 @@ pub fn make_round_at<C: Chooser>(
     ensures unchanged { OnErr result (cluster.new ≡ cluster.old) }
 {
     match want {
-        Want::Replies => {
-            if asks_again {
-                return ask_again(cluster, name, object, call, chooser);
-            }
-            handle_chosen(cluster, name, object, call, chooser)?;
-            Ok(Round::Stepped)
-        }
+        Want::Replies => await_replies(cluster, name, object, call, asks_again, chooser),
         Want::Advance => {
             cluster.advance_at(name, object, call)?;
             Ok(Round::Stepped)
@@ -100,13 +94,7 @@ pub fn make_round_at<C: Chooser>(
             let pieces = pieces_to_decode(cluster, name, object, call, k, len)?;
             Ok(Round::Decode { pieces, k, len })
         }
-        Want::Again => {
-            if !asks_again {
-                return Err(Refusal::Collected);
-            }
-            cluster.again_at(name, object, call)?;
-            Ok(Round::Stepped)
-        }
+        Want::Again => restart(cluster, name, object, call, asks_again, chooser),
         Want::Answer => Ok(Round::Answered(cluster.answer_at(name, object, call)?)),
         Want::Done => Err(Refusal::NotNow),
     }
@@ -141,6 +129,55 @@ pub fn make_step_at<C: Chooser>(
         _ => return Ok(false),
     }
     Ok(true)
+}
+
+// Handles a message of a call that wants replies, or, with `asks_again`, resends the requests of its current phase.
+fn await_replies<C: Chooser>(
+    cluster: &mut Cluster,
+    name: &str,
+    object: u32,
+    call: CallId,
+    asks_again: bool,
+    chooser: &mut C,
+) -> Result<Round, Refusal>
+    requires wanted { wanted cluster.old name.now call ≡ Some want.Replies }
+    requires placed { IsObjectAt cluster.old name.now object }
+    ensures round { IfOk result
+        (λ r. MakesRound C.chooses name.entry.now call asks_again cluster.old chooser.old cluster.new chooser.new r) }
+    ensures refused { IfErr result
+        (λ e. IsRefused C.chooses name.entry.now call cluster.old asks_again chooser.old chooser.new e) }
+    ensures unchanged { OnErr result (cluster.new ≡ cluster.old) }
+{
+    if asks_again {
+        return ask_again(cluster, name, object, call, chooser);
+    }
+    handle_chosen(cluster, name, object, call, chooser)?;
+    Ok(Round::Stepped)
+}
+
+// Restarts a call that wants to be restarted, if `asks_again` is set.
+fn restart<C: Chooser>(
+    cluster: &mut Cluster,
+    name: &str,
+    object: u32,
+    call: CallId,
+    asks_again: bool,
+    chooser: &C,
+) -> Result<Round, Refusal>
+    requires wanted { wanted cluster.old name.now call ≡ Some want.Again }
+    requires placed { IsObjectAt cluster.old name.now object }
+    ensures round { IfOk result
+        (λ r. MakesRound C.chooses name.entry.now call asks_again cluster.old chooser.entry.now cluster.new
+        chooser.entry.now r) }
+    ensures refused { IfErr result
+        (λ e. IsRefused C.chooses name.entry.now call cluster.old asks_again chooser.entry.now chooser.entry.now e) }
+    ensures unchanged { OnErr result (cluster.new ≡ cluster.old) }
+{
+    if !asks_again {
+        return Err(Refusal::Collected);
+    }
+    cluster.again_at(name, object, call)?;
+    Ok(Round::Stepped)
 }
 
 // The current phase of the call resends its requests. Where these have pieces, the value to encode is returned instead.
