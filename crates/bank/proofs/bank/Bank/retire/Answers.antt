@@ -1,4 +1,4 @@
-use Rattle.std.proofs.Common.{sym, ap, ◌∙◌, subst}
+use Rattle.std.proofs.Common.{sym, ap, ◌∙◌, subst, rules}
 use Rattle.bank.specs.Bank.{Bank}
 use Rattle.bank.specs.Bytes.{bank_bytes}
 use Rattle.bank.specs.Collect.{retired_bank}
@@ -55,3 +55,6 @@ returns-else-is_none-clause-none c =
     (sym (since-some o.retired c.args.now c.if-is_none.ensures))
     ∙ none_retired o.rows.entries c.empty_all.new.rows.entries o.pointer o.window o.retired o.greatest o.bytes c.self.invariant
     c.args.now c.empty_all.ensures
+
+pub returns-then-is_none-clause-freed : goal.returns-then-is_none-clause-freed
+returns-then-is_none-clause-freed c = search rules
