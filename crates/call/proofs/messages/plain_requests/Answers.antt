@@ -1,4 +1,4 @@
-use Rattle.std.proofs.Common.{◌≡◌, length, sym, ap, ◌∙◌, arith}
+use Rattle.std.proofs.Common.{◌≡◌, length, sym, ap, ◌∙◌, arith, rules}
 use Rattle.call.proofs.MemberListLemmas.{first_of, requests_for, requests_first}
 use Rattle.call.proofs.messages.plain_requests.Goals as goal
 
@@ -8,3 +8,6 @@ returns-clause-requests c servers piece count =
     let all : c.loop-member.member ≡ length servers = omega (arith, c.loop-member-test.false, c.loop-member.auto.member-end, count) in
     c.loop-member.invariant.made piece ∙ ap (first_of (requests_for ask.call ask.number ask.kind ask.position piece)) all
     ∙ sym (requests_first ask.call ask.number ask.kind ask.position servers piece)
+
+pub loop-member-preserved : goal.loop-member-preserved
+loop-member-preserved c = search rules

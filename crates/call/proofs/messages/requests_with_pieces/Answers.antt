@@ -1,4 +1,4 @@
-use Rattle.std.proofs.Common.{◌≡◌, ℕ, length, sym, ap, ◌∙◌, arith}
+use Rattle.std.proofs.Common.{◌≡◌, ℕ, length, sym, ap, ◌∙◌, arith, rules}
 use Rattle.std.specs.Option.{option_copied}
 use Rattle.piece.specs.declared.piece.Piece.{Piece}
 use Rattle.call.specs.Pieces.{piece_from}
@@ -12,3 +12,6 @@ returns-clause-requests c servers count =
     let all : c.loop-member.member ≡ length servers = omega (arith, c.loop-member-test.false, c.loop-member.auto.member-end, count) in
     c.loop-member.invariant ∙ ap (first_of (requests_for ask.call ask.number ask.kind ask.position piece)) all
     ∙ sym (requests_first ask.call ask.number ask.kind ask.position servers piece)
+
+pub loop-member-preserved : goal.loop-member-preserved
+loop-member-preserved c = search rules

@@ -1,0 +1,5 @@
+use Rattle.std.proofs.Common.{rules}
+use Rattle.call.proofs.call.Call.begin.Goals as goal
+
+pub returns-clause-call : goal.returns-clause-call
+returns-clause-call c = search rules
