@@ -1,4 +1,4 @@
-use Rattle.std.proofs.Common.{nat_lt, inl, sym, ap, ◌∙◌, arith}
+use Rattle.std.proofs.Common.{nat_lt, inl, sym, ap, ◌∙◌, arith, rules}
 use Rattle.std.specs.List.{list_all}
 use Rattle.cluster.proofs.CreationLemmas.{no_servers, no_step_for_layout, many_layouts, added_counted}
 use Rattle.cluster.proofs.cluster.Cluster.add_layout.Goals as goal
@@ -29,3 +29,6 @@ invariant_of-self-2 c =
     (ap (λ n. list_all (λ m. nat_lt m n) c.args.layout.members) (sym c.count.ensures) ∙ sym c.has_servers.ensures
     ∙ c.if-not-has_servers.false)
     c.if-self-ge-MOST_STEPS.false c.self.invariant
+
+pub returns-clause-id : goal.returns-clause-id
+returns-clause-id c = search rules

@@ -1,4 +1,4 @@
-use Rattle.std.proofs.Common.{◌≡◌, subst}
+use Rattle.std.proofs.Common.{◌≡◌, subst, rules}
 use Rattle.std.specs.List.{AllByRecursion}
 use Rattle.std.specs.Map.{values_of}
 use Rattle.layout.specs.Layout.{IsLawful}
@@ -34,3 +34,6 @@ returns-clause-serves c name place none = allowed_serve c.args.self.now name pla
 
 pub returns-clause-retires : goal.returns-clause-retires
 returns-clause-retires c name position none = allowed_retire c.args.self.now name (every c) position none
+
+pub loop-register-preserved : goal.loop-register-preserved
+loop-register-preserved c = search rules

@@ -1,4 +1,4 @@
-use Rattle.std.proofs.Common.{◌≡◌, subst}
+use Rattle.std.proofs.Common.{◌≡◌, subst, rules}
 use Rattle.std.specs.List.{AllByRecursion}
 use Rattle.std.specs.Map.{values_of}
 use Rattle.encoder.specs.Fragment.{fragment}
@@ -39,3 +39,6 @@ returns-clause-kept c =
     subst (λ (k : Cluster). IsKeptCluster k (banks_all k.objects) (calls k.objects)) c.self.view_is
     (subst (λ n. IsKeptCluster now (banks_all now.objects) n) kept.called
     (subst (λ n. IsKeptCluster now n c.self.inside.called) kept.stored kept))
+
+pub loop-register-preserved : goal.loop-register-preserved
+loop-register-preserved c = search rules
