@@ -1,4 +1,4 @@
-use Rattle.std.proofs.Common.{sym, subst, ◌∙◌, true≢false}
+use Rattle.std.proofs.Common.{sym, subst, ◌∙◌, true≢false, rules}
 use Rattle.decoder.specs.Pieces.{AreLawful}
 use Rattle.decoder.proofs.ValuePrefixLemmas.{AreLawful-pieces_of}
 use Rattle.decoder.proofs.decoded.decode.Goals as goal
@@ -9,3 +9,6 @@ returns-then-not-are_lawful-clause-round_trip c v len known =
     subst (AreLawful c.args.k c.args.len) (sym c.deref.ensures.value)
     (AreLawful-pieces_of v c.args.k c.args.len c.args.pieces.items len known) in
     absurd (true≢false (sym (c.are_lawful.ensures.lawful.1 lawful) ∙ c.if-not-are_lawful.true))
+
+pub returns-then-not-are_lawful-clause-bad_pieces : goal.returns-then-not-are_lawful-clause-bad_pieces
+returns-then-not-are_lawful-clause-bad_pieces c = search rules

@@ -1,4 +1,4 @@
-use Rattle.std.proofs.Common.{sym, ◌∙◌, true≢false}
+use Rattle.std.proofs.Common.{sym, ◌∙◌, true≢false, rules}
 use Rattle.dot_kernel.specs.Dot.{bytes_of}
 use Rattle.dot_kernel.proofs.LaneSumLemmas.{length-bytes_of}
 use Rattle.decoder.specs.Parts.{AreLawfulParts, pieces_at}
@@ -15,3 +15,6 @@ returns-then-not-are_lawful_parts-clause-from_any c v len as_many known =
       lawful = AreLawful-pieces_of v c.args.k c.args.len pieces len known;
     } in
     absurd (true≢false (sym (c.are_lawful_parts.ensures.lawful.1 parts) ∙ c.if-not-are_lawful_parts.true))
+
+pub returns-clause-repaired : goal.returns-clause-repaired
+returns-clause-repaired c = search rules

@@ -1,4 +1,4 @@
-use Rattle.std.proofs.Common.{◌≡◌, ℕ, ◌*◌, length, length-take, sym, ap, ◌∙◌, arith}
+use Rattle.std.proofs.Common.{◌≡◌, ℕ, ◌*◌, length, length-take, sym, ap, ◌∙◌, arith, rules}
 use Rattle.std.proofs.lemmas.List.{length-replicate}
 use Rattle.dot_kernel.specs.Dot.{bytes_of}
 use Rattle.dot_kernel.proofs.LaneSumLemmas.{length-bytes_of}
@@ -40,3 +40,6 @@ returns-clause-repaired g c =
     fragment-sums c.args.k c.args.len c.args.points.now (bytes_of c.args.fragments.now) c.requires.lawful c.requires.bytes
     c.have_value.new.table c.write_sum.new.out c.args.point c.ranges.point.fits c.have_value.ensures.rows size
     (out_len ∙ c.requires.room) c.write_sum.ensures
+
+pub returns-clause-value : goal.returns-clause-value
+returns-clause-value g c = search rules

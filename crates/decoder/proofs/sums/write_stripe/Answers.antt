@@ -1,4 +1,4 @@
-use Rattle.std.proofs.Common.{◌+◌, ◌≤◌, length, arith}
+use Rattle.std.proofs.Common.{◌+◌, ◌≤◌, length, arith, rules}
 use Rattle.dot_kernel.specs.Dot.{bytes_of}
 use Rattle.decoder.proofs.RowTableLemmas.{AreBlocksUntil-more, AreBlocksLeft-less, rows_left}
 use Rattle.decoder.proofs.sums.write_stripe.Goals as goal
@@ -25,3 +25,6 @@ loop-done-preserved c =
           AreBlocksLeft-less c.loop-done.out c.write_rows.new.out done rows k size c.args.from table fragments (omega arith)
           made.after (known.left all);
     }
+
+pub overflow_add-done : goal.overflow_add-done
+overflow_add-done c = search rules
