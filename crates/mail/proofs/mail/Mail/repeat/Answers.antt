@@ -1,4 +1,4 @@
-use Rattle.std.proofs.Common.{arith}
+use Rattle.std.proofs.Common.{arith, rules}
 use Rattle.std.proofs.lemmas.Grind.{common_steps}
 use Rattle.mail.proofs.CallBoundLemmas.{bounds_append}
 use Rattle.mail.proofs.mail.Mail.repeat.Goals as goal
@@ -11,3 +11,6 @@ invariant_of-self-2 c = record {
       (bounds_append 0 c.self.inside.messages.items c.self.inside.bounds.items _ c.self.invariant.bounded);
   sum = grind (arith, common_steps);
 }
+
+pub returns-clause-posted : goal.returns-clause-posted
+returns-clause-posted c = search rules
