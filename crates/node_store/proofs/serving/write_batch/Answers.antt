@@ -1,4 +1,4 @@
-use Rattle.std.proofs.Common.{subst}
+use Rattle.std.proofs.Common.{subst, rules}
 use Rattle.std.specs.Io.KnownBytes.{Appends}
 use Rattle.frames.specs.Writing.{Writes}
 use Rattle.node_store.proofs.OutputLemmas.{failed, late_unsent}
@@ -18,3 +18,6 @@ returns-in-Err-write_out-clause-writes g c =
           (subst (Writes middle holds (failed c.in-Err-write_out.error)) c.deref-3.ensures.value c.in-Err-write_out.ensures),
       λ bytes. tt,
     )
+
+pub returns-in-Err-append_bytes-clause-writes : goal.returns-in-Err-append_bytes-clause-writes
+returns-in-Err-append_bytes-clause-writes g c = search rules
