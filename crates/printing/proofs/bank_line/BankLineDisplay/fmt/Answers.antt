@@ -24,3 +24,6 @@ returns-clause-writes g c = λ plain _.
     has_written_of_eq _ _ _ _ _
     (flat_map-all status kept_text (map.entries bank.rows) c.loop-i.i (omega (arith, map.len-entries bank.rows)))
     (has_written_append _ _ _ _ _ _ head (c.loop-i.invariant head.plain))
+
+pub loop-i-init : goal.loop-i-init
+loop-i-init g c = search rules
