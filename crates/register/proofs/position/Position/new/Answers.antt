@@ -1,4 +1,4 @@
-use Rattle.std.proofs.Common.{◌≡◌, List, length, sym, ap, ◌∙◌, arith}
+use Rattle.std.proofs.Common.{◌≡◌, List, length, sym, ap, ◌∙◌, arith, rules}
 use Rattle.layout.specs.Layout.{Layout}
 use Rattle.bank.specs.Bank.{Bank}
 use Rattle.register.specs.Position.{Position}
@@ -16,3 +16,6 @@ returns-clause-opened c =
     omega (arith, c.loop-member-test.false, c.loop-member.auto.member-end, c.n-member-end.ensures.value) in
     ap (with_banks c.args.layout) (c.loop-member.invariant ∙ ap (first_of (bank_for c.args.delta c.args.now)) all
     ∙ sym (opened_first members c.args.delta c.args.now))
+
+pub loop-member-preserved : goal.loop-member-preserved
+loop-member-preserved c = search rules

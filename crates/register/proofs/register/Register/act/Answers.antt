@@ -1,4 +1,4 @@
-use Rattle.std.proofs.Common.{◌≡◌, ℕ, true, false, Some, Result, Ok, Err, IsErrAnd, Option, refl, sym, ap, subst, ◌∙◌}
+use Rattle.std.proofs.Common.{◌≡◌, ℕ, true, false, Some, Result, Ok, Err, IsErrAnd, Option, refl, sym, ap, subst, ◌∙◌, rules}
 use Rattle.tag.specs.Cause.{IsRefusalBy}
 use Rattle.tag.specs.Refusal.{IsExactlyByCause}
 use Rattle.tag.specs.declared.refusal.Refusal.{Refusal}
@@ -41,3 +41,6 @@ returns-in_err-take-in-Take-clause-cause c =
     refused_exactly c.args.now c.args.self.now.object c.from_residual-in_err-take-in-Take.result
     c.in_err-take-in-Take.field-0.0
     c.in-Take.is refl c.from_residual-in_err-take-in-Take.ensures.1 c.in_err-take-in-Take.ensures.cause
+
+pub returns-in-Advance-clause-step : goal.returns-in-Advance-clause-step
+returns-in-Advance-clause-step c = search rules

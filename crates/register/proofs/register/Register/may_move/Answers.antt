@@ -1,4 +1,4 @@
-use Rattle.std.proofs.Common.{◌-◌, ◌<◌, ℕ, length, ◌∙◌, arith}
+use Rattle.std.proofs.Common.{◌-◌, ◌<◌, ℕ, length, ◌∙◌, arith, rules}
 use Rattle.tag.specs.declared.limits.TheConstants.{MOST_CALLS, MOST_POSITIONS}
 use Rattle.register.specs.State.{Contents}
 use Rattle.register.proofs.BeginRefusalLemmas.{many_messages, no_cause}
@@ -44,3 +44,6 @@ returns c =
           (c.from-posted.ensures ∙ c.n.ensures.value) c.has_room.ensures c.if-not-has_room.false
           (later (held n) c.self.view_is c.requires.after));
     }
+
+pub returns-then-self : goal.returns-then-self
+returns-then-self c = search rules

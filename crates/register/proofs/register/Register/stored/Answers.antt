@@ -1,5 +1,6 @@
 use Rattle.std.proofs.Common.{◌≤◌, drop, sym, subst, arith}
 use Rattle.std.specs.List.{AllByRecursion}
+use Rattle.std.proofs.lemmas.Grind.{common_steps}
 use Rattle.layout.specs.Layout.{IsLawful}
 use Rattle.tag.specs.declared.limits.TheConstants.{MOST_BYTES}
 use Rattle.record.specs.Accounts.{stored_bytes}
@@ -42,3 +43,6 @@ returns-clause-within c =
     subst (λ ps. all_bytes (banks_of ps) ≤ MOST_BYTES) (sym c.deref-position-items.ensures.value) c.self.invariant.limits.stored in
     stored_most c.args.server ps c.loop-position.total
     (stored_bytes c.args.server (layouts_of (drop i ps)) (banks_of (drop i ps))) c.loop-position.invariant most
+
+pub loop-position-preserved : goal.loop-position-preserved
+loop-position-preserved c = grind (arith, common_steps)
