@@ -34,3 +34,6 @@ returns-clause-writes g c = λ plain _.
     let none = nil_from_length _ c.in-None.ensures.steps.1.0 in
     has_written_of_eq _ _ _ _ _
     (rw (none, encode_lower-nil, append-nil) at so_far.2 ∙ hexadecimal_text-some c.args.self.now.0.now (search rules)) so_far.1
+
+pub returns-then-is_empty-clause-writes : goal.returns-then-is_empty-clause-writes
+returns-then-is_empty-clause-writes g c = search rules
