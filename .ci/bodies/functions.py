@@ -151,11 +151,15 @@ def owner_of(words):
     return owner + trait + "".join(arguments)
 
 
+# What may stand between a function's attributes and its `fn`.
+BEFORE_FN = ("pub", "(", "crate", "super", ")", "const", "unsafe", "extern", '"C"')
+
+
 def start_of(tokens, at):
     """Where the item begins whose `fn` is the token at this place in the list: at its visibility, or its attributes."""
     while at > 0:
         before = tokens[at - 1].text
-        if before in ("pub", "(", "crate", "super", ")"):
+        if before in BEFORE_FN:
             at -= 1
         elif before == "]":
             depth, place = 0, at - 1
