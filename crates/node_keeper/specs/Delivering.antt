@@ -39,6 +39,11 @@ taken_records keeper it =
     if has_move_open (objects_of keeper.objects it.name) it.letter.message.call
     then LogRecord.Takes it.name it.letter ∷ [] else []
 
+-- what the log gets of a letter that has come: that it is served, if it is a request, or else that it is taken
+abbrev pub arrival_record : NamedLetter → LogRecord
+arrival_record it =
+    if is_request it.letter.message.body then LogRecord.Serves it.name it.letter else LogRecord.Takes it.name it.letter
+
 -- what clients see of a reply that was taken: the answer of its call, if it answered one
 abbrev pub notices_of : (name : List ℕ) → Option Ended → List Notice
 notices_of name None = []

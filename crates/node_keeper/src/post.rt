@@ -30,27 +30,41 @@ pub fn letter_of(message: NodeMessage) -> NamedLetter
     }
 }
 
-/// Returns the frame of a letter, as a message from a node whose cluster file has this digest, and the letter itself.
-pub(crate) fn framed(
-    alloc: Global,
-    digest: [u8; DIGEST_LENGTH],
-    it: NamedLetter,
-) -> Result<(Frame, NamedLetter), NodeError>
-    ensures made { IfOk result (λ r. (r.0 ≡ strings_of (message_of digest it)) × (r.1 ≡ it)) }
-    ensures fits { OnOk result (IsMessage (message_of digest it)) }
-    ensures refused { IfErr result
-        (IsUnwritten (IsMessage (message_of digest it) × IsFrame (strings_of (message_of digest it)))) }
+/// Returns the message that has a letter, from a node whose cluster file has this digest.
+pub(crate) fn message_of(digest: [u8; DIGEST_LENGTH], it: NamedLetter) -> NodeMessage
+    ensures { result ≡ message_of digest it }
 {
     let NamedLetter { name, letter } = it;
-    let message = NodeMessage {
+    NodeMessage {
         digest,
         name,
         layout: letter.layout,
         next: letter.next,
         message: letter.message,
-    };
-    let frame = frame_of(alloc, &message)?;
-    Ok((frame, letter_of(message)))
+    }
+}
+
+/// Returns the frame of a message between nodes.
+pub(crate) fn framed(alloc: Global, message: &NodeMessage) -> Result<Frame, NodeError>
+    ensures made { IfOk result (λ frame. frame ≡ strings_of message.now) }
+    ensures fits { OnOk result (IsMessage message.now) }
+    ensures refused { IfErr result (IsUnwritten (IsMessage message.now × IsFrame (strings_of message.now))) }
+{
+    Ok(frame_of(alloc, message)?)
+}
+
+/// Returns the frame of a letter, as a message from a node whose cluster file has this digest.
+pub(crate) fn framed_letter(
+    alloc: Global,
+    digest: [u8; DIGEST_LENGTH],
+    it: NamedLetter,
+) -> Result<Frame, NodeError>
+    ensures made { IfOk result (λ frame. frame ≡ strings_of (message_of digest it)) }
+    ensures fits { OnOk result (IsMessage (message_of digest it)) }
+    ensures refused { IfErr result
+        (IsUnwritten (IsMessage (message_of digest it) × IsFrame (strings_of (message_of digest it)))) }
+{
+    framed(alloc, &message_of(digest, it))
 }
 
 /// Returns whether a letter is a request, and not a reply.

@@ -24,6 +24,7 @@ ghost use Rattle.node_keeper.specs.Logging.{IsReadBack, start_entry};
 
 use super::Keeper;
 use crate::delivered::Begun;
+use crate::entries::log_record;
 use crate::ids::OwnIds;
 use bytes::Bytes;
 use layout::Layout;
@@ -144,16 +145,9 @@ impl Keeper {
 
         ensures writes { WritesOrFails (IsLoggable self.now.digest (LogRecord.Moves name.now id layout)) result }
     {
-        work.log(&Record::Move {
-            id,
-            name: name.clone()?,
-            layout: layout.clone()?,
-        })?;
-        work.note(Notice::Moves {
-            name: name.clone()?,
-            id,
-            layout,
-        })
+        log_record(work, move_record(name, id, &layout)?)?;
+        let name = name.clone()?;
+        work.note(Notice::Moves { name, id, layout })
     }
 
     /// Sends the requests of a call's current phase again to the members that have not replied, if the call with this
@@ -182,6 +176,16 @@ impl Keeper {
     {
         self.objects.give_up(name, id)
     }
+}
+
+// Makes the record of a move that began.
+fn move_record(name: &Bytes, id: CallId, layout: &Layout) -> Result<Record, NodeError>
+    ensures made { IfOk result (λ it. it ≡ Record.Move id name.now layout.now) }
+    ensures refused { IfErr result (λ e. e ≡ NoMoreMemory) }
+{
+    let name = name.clone()?;
+    let layout = layout.clone()?;
+    Ok(Record::Move { id, name, layout })
 }
 
 // An object refused a call.

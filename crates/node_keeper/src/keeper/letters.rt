@@ -5,24 +5,32 @@ ghost use Rattle.layout.specs.Layout.{IsLawful};
 ghost use Rattle.local_object.specs.Changing.{IsUnchangedBy, is_changed_by};
 ghost use Rattle.node_objects.specs.Objects.{objects_of};
 ghost use Rattle.recoveries.specs.Copies.{IsHeeded};
+ghost use Rattle.mail.specs.Message.{is_request};
 ghost use Rattle.local_object.specs.declared.progress.Ended.{Ended as ToldCall};
 ghost use Rattle.node_effects.specs.Errors.{IsUnwritten, WritesOrFails};
 ghost use Rattle.node_effects.specs.declared.error.NodeError.TheVariants.{NoMemory};
 ghost use Rattle.node_keeper.specs.Delivering.{CanDeliver, CanServe, CanTake, DeliversLetter, ServesRequest};
-ghost use Rattle.node_keeper.specs.Delivering.{TakesReply, delivered_of, served_records, taken_records, tell_growth};
+ghost use Rattle.node_keeper.specs.Delivering.{TakesReply, arrival_record, delivered_of, served_records, taken_records};
+ghost use Rattle.node_keeper.specs.Delivering.{tell_growth};
 ghost use Rattle.node_keeper.specs.Fitting.{IsLoggable};
 ghost use Rattle.node_effects.specs.Seen.{named_of};
-ghost use Rattle.node_effects.specs.Work.{IsGrown};
+ghost use Rattle.node_effects.specs.Work.{IsGrown, one_entry};
 ghost use Rattle.node_keeper.specs.Acts.{Acts, logged_growth};
 ghost use Rattle.node_keeper.specs.Keeping.{heeds, if_heeded, kept_of};
+ghost use Rattle.node_keeper.specs.Logging.{log_entry_of};
+ghost use Rattle.node_keeper.specs.Sendings.{letter_of_message};
 
 use super::Keeper;
 use crate::delivered::Delivered;
-use crate::post::{framed, is_request};
+use crate::entries::log_record;
+use crate::post::{framed, is_request, letter_of, message_of};
 use bytes::Bytes;
 use local_object::Ended;
+use mail::Body;
 use node_effects::{NamedLetter, NodeError, Notice, Work};
+use node_messages::NodeMessage;
 use node_strings::Record;
+use std::alloc::Global;
 
 impl Keeper {
     /// Serves the request or takes the reply in a letter from the node with this number, which may be this node itself.
@@ -78,7 +86,8 @@ impl Keeper {
         it: NamedLetter,
         work: &mut Work,
     ) -> Result<Delivered, NodeError>
-        requires { IsHeeded (kept_of self.old) it.name it.letter }
+        requires heeded { IsHeeded (kept_of self.old) it.name it.letter }
+        requires asks { is_request it.letter.message.body ≡ true }
         ensures acts { OnOk result
             (Acts sender (named_of it ∷ []) self.old work.old self.new work.new) }
 
@@ -100,7 +109,8 @@ impl Keeper {
 
     // Takes a reply, and goes on with its call. A reply to an open move goes to the log first.
     fn take(&mut self, it: NamedLetter, work: &mut Work) -> Result<Delivered, NodeError>
-        requires { IsHeeded (kept_of self.old) it.name it.letter }
+        requires heeded { IsHeeded (kept_of self.old) it.name it.letter }
+        requires answers { is_request it.letter.message.body ≡ false }
         ensures acts { OnOk result
             ((asker : ℕ) → Acts asker (named_of it ∷ []) self.old work.old self.new work.new) }
 
@@ -118,6 +128,7 @@ impl Keeper {
 
     // A request goes to the log, if it may change a bank. Returns the same letter.
     fn log_serve(&self, it: NamedLetter, work: &mut Work) -> Result<NamedLetter, NodeError>
+        requires { is_request it.letter.message.body ≡ true }
         ensures same { IfOk result (λ same. same ≡ it) }
         ensures logged { OnOk result
             (IsGrown work.old work.new (logged_growth self.now.digest (served_records self.now it))) }
@@ -130,13 +141,12 @@ impl Keeper {
         if !self.objects.is_changed_by(&it.name, &it.letter)? {
             return Ok(it);
         }
-        let (frame, it) = framed(self.alloc, self.digest, it)?;
-        work.log(&Record::Serve(frame))?;
-        Ok(it)
+        self.log_arrival(it, work)
     }
 
     // A reply goes to the log, if its call is an open move. Returns the same letter.
     fn log_take(&self, it: NamedLetter, work: &mut Work) -> Result<NamedLetter, NodeError>
+        requires { is_request it.letter.message.body ≡ false }
         ensures same { IfOk result (λ same. same ≡ it) }
         ensures logged { OnOk result
             (IsGrown work.old work.new (logged_growth self.now.digest (taken_records self.now it))) }
@@ -146,9 +156,33 @@ impl Keeper {
         if !self.objects.is_open_move(&it.name, it.letter.message.call) {
             return Ok(it);
         }
-        let (frame, it) = framed(self.alloc, self.digest, it)?;
-        work.log(&Record::Take(frame))?;
-        Ok(it)
+        self.log_arrival(it, work)
+    }
+
+    // A letter goes to the log, as a request that is served, or as a reply that is taken. Returns the same letter.
+    fn log_arrival(&self, it: NamedLetter, work: &mut Work) -> Result<NamedLetter, NodeError>
+        ensures same { IfOk result (λ same. same ≡ it) }
+        ensures logged { OnOk result
+            (IsGrown work.old work.new (one_entry (log_entry_of self.now.digest (arrival_record it)))) }
+        ensures writes { WritesOrFails (IsLoggable self.now.digest (arrival_record it)) result }
+    {
+        let message = message_of(self.digest, it);
+        log_message(self.alloc, &message, work)?;
+        Ok(letter_of(message))
+    }
+}
+
+// A message goes to the log, as a request that is served, or as a reply that is taken.
+fn log_message(alloc: Global, message: &NodeMessage, work: &mut Work) -> Result<(), NodeError>
+    ensures logged { OnOk result (IsGrown work.old work.new
+        (one_entry (log_entry_of message.now.digest (arrival_record (letter_of_message message.now))))) }
+    ensures writes { WritesOrFails
+        (IsLoggable message.now.digest (arrival_record (letter_of_message message.now))) result }
+{
+    let frame = framed(alloc, message)?;
+    match &message.message.body {
+        Body::Request(_) => log_record(work, Record::Serve(frame)),
+        Body::Reply { kind: _, reply: _ } => log_record(work, Record::Take(frame)),
     }
 }
 

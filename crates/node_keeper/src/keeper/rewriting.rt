@@ -15,7 +15,7 @@ ghost use Rattle.node_keeper.specs.Logging.{IsReadBack, log_entry_of};
 
 use super::Keeper;
 use crate::entries::push_entry;
-use crate::post::framed;
+use crate::post::framed_letter;
 use bytes::Bytes;
 use local_object::Letter;
 use node_effects::{NamedLetter, NodeError};
@@ -135,7 +135,7 @@ impl Keeper {
             ≡ entries.old.items ++ log_entry_of self.now.digest (LogRecord.Serves it.name it.letter) ∷ []) }
         ensures writes { WritesOrFails (IsLoggable self.now.digest (LogRecord.Serves it.name it.letter)) result }
     {
-        let (frame, _same) = framed(self.alloc, self.digest, it)?;
+        let frame = framed_letter(self.alloc, self.digest, it)?;
         push_entry(self.alloc, entries, &Record::Serve(frame))
     }
 }

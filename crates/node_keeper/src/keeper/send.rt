@@ -7,7 +7,7 @@ ghost use Rattle.node_keeper.specs.Fitting.{IsSendable};
 ghost use Rattle.node_keeper.specs.Sendings.{asked, sending, sent_growth, to_one};
 
 use super::Keeper;
-use crate::post::{framed, member_or};
+use crate::post::{framed_letter, member_or};
 use bytes::Bytes;
 use local_object::Letter;
 use node_effects::{NamedLetter, NodeError, Work};
@@ -43,7 +43,7 @@ impl Keeper {
         if to == self.ids.number() {
             return work.keep(it);
         }
-        let (frame, _) = framed(self.alloc, self.digest, it)?;
+        let frame = framed_letter(self.alloc, self.digest, it)?;
         work.send(to, frame)
     }
 }

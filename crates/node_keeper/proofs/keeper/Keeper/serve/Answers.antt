@@ -57,12 +57,12 @@ returns-in-None-clause-serves c =
 pub returns-in_ok-send-in-Some-clause-acts : goal.returns-in_ok-send-in-Some-clause-acts
 returns-in_ok-send-in-Some-clause-acts c =
     served_acts c.args.sender c.args.it c.args.self.now _ c.args.work.now c.send.new.work
-    (returns-in_ok-send-in-Some-clause-serves c) c.requires c.in_ok-it.ensures.unchanged
+    (returns-in_ok-send-in-Some-clause-serves c) c.requires.heeded c.in_ok-it.ensures.unchanged
 
 pub returns-in-None-clause-acts : goal.returns-in-None-clause-acts
 returns-in-None-clause-acts c =
     served_acts c.args.sender c.args.it c.args.self.now _ c.args.work.now c.log_serve.new.work
-    (returns-in-None-clause-serves c) c.requires c.in_ok-it.ensures.unchanged
+    (returns-in-None-clause-serves c) c.requires.heeded c.in_ok-it.ensures.unchanged
 
 pub returns-in_err-send-in-Some-clause-refused : goal.returns-in_err-send-in-Some-clause-refused
 returns-in_err-send-in-Some-clause-refused c =

@@ -44,7 +44,8 @@ returns-clause-takes c =
 pub returns-clause-acts : goal.returns-clause-acts
 returns-clause-acts c =
     if_on c.tell.result (returns-clause-takes c)
-    (λ delivered takes asker. taken_acts c.args.it c.args.self.now _ c.args.work.now c.tell.new.work takes.0 takes.2 c.requires asker)
+    (λ delivered takes asker. taken_acts c.args.it c.args.self.now _ c.args.work.now c.tell.new.work takes.0 takes.2
+    c.requires.heeded asker)
 
 pub returns-in_err-it-clause-refused : goal.returns-in_err-it-clause-refused
 returns-in_err-it-clause-refused c =
