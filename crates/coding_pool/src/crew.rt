@@ -1,6 +1,7 @@
 //! The threads of the workers.
-ghost use Rattle.std.specs.Prelude.{◌≡◌, ◌+◌, ◌<◌, ◌≤◌, [], All, IfOk, IfErr, vec_len};
+ghost use Rattle.std.specs.Prelude.{◌≡◌, ◌+◌, ◌<◌, ◌≤◌, [], All, IfOk, IfErr, vec_capacity, vec_len};
 ghost use Rattle.tag.specs.declared.refusal.Refusal.TheVariants.{NoMemory};
+ghost use Rattle.coding_pool.specs.declared.worker.CodingJob.{CodingJob};
 ghost use Rattle.coding_pool.specs.Worker.{IsHand, IsErrand, IsHandedBack};
 
 use crate::gate::Gate;
@@ -75,14 +76,28 @@ fn work_in<'s, E, G: Gate, R: Threads + Wait + Sync>(
     let mut started = Vec::with_capacity(errand.alloc, crew.len())?;
     while let Some(worker) = crew.pop() {
         match start(scope, errand, gate, rt, unstarted, crew.len(), worker) {
-            Ok(handle) => started.push(handle)?,
-            Err(answer) => answers.push(answer)?,
+            Ok(handle) => started.push_reserved(handle),
+            Err(answer) => answers.push_reserved(answer),
         }
     }
+    Ok(join_all(rt, started, answers))
+}
+
+/// Waits for the started threads, and adds what they hand back to the answers, which have room for it.
+fn join_all<R: Threads + Wait>(
+    rt: &R,
+    mut started: Vec<PromisedHandle<Answer, CodingJob>>,
+    mut answers: Vec<Answer>,
+) -> Vec<Answer>
+    requires room { vec_len started + vec_len answers ≤ vec_capacity answers }
+    ensures count { vec_len result ≡ vec_len started.entry + vec_len answers }
+    ensures answers { (errand : CodingJob) → All (λ h. h.promise ≡ errand) started.entry.items
+        → All (λ a. IsHandedBack errand a) answers.items → All (λ a. IsHandedBack errand a) result.items }
+{
     while let Some(handle) = started.pop() {
-        answers.push(handle.join(rt))?;
+        answers.push_reserved(handle.join(rt));
     }
-    Ok(answers)
+    answers
 }
 
 /// Starts a thread for the worker at this place of the crew. If no thread can be started, returns as `Err` the answer
