@@ -12,6 +12,7 @@ pub mod OpenCallLemmas
 pub mod LimitRefusalLemmas
 pub mod StepRefusalLemmas
 pub mod HandlingRefusalLemmas
+pub mod HandedValueLemmas
 pub mod AskAgainRefusalLemmas
 pub mod TurnLemmas
 pub mod WholeCallLemmas

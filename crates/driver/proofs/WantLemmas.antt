@@ -34,3 +34,12 @@ other_want o w is other e = other (same w want.Answer (sym is ∙ e))
   where
     same : (a b : Want) → Some a ≡ Some b → a ≡ b
     same a b e = cc
+
+pub replies_no_answer : (o : Option Want) → o ≡ Some want.Replies → o ≢ Some want.Answer
+replies_no_answer o is = other_want o want.Replies is (λ e. cc)
+
+pub advance_no_answer : (o : Option Want) → o ≡ Some want.Advance → o ≢ Some want.Answer
+advance_no_answer o is = other_want o want.Advance is (λ e. cc)
+
+pub again_no_answer : (o : Option Want) → o ≡ Some want.Again → o ≢ Some want.Answer
+again_no_answer o is = other_want o want.Again is (λ e. cc)

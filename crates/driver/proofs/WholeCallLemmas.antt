@@ -1,8 +1,8 @@
 -- The turns of a whole call.
 use Rattle.std.proofs.Common.{◌≡◌, ◌⊎◌, ℕ, ◌+◌, ◌<◌, Bool, false, List, Option, Some, None, Result, Ok, Err, MatchResult, inl, inr}
-use Rattle.std.proofs.Common.{sym, ap, ◌∙◌, subst, add-one}
+use Rattle.std.proofs.Common.{refl, sym, ap, ◌∙◌, subst, add-one}
 use Rattle.tag.specs.declared.refusal.Refusal.{Refusal}
-use Rattle.tag.specs.declared.refusal.Refusal.TheVariants.{NoMemory, NoObject, NoCall, NotNow, Full, Stuck, Collected}
+use Rattle.tag.specs.declared.refusal.Refusal.TheVariants.{NoMemory, NoObject, NoCall, NotNow, Full, Stuck, Collected, GaveUp}
 use Rattle.record.specs.declared.stage.Want.TheVariants as want
 use Rattle.register.specs.Causes.{number_cause}
 use Rattle.cluster.specs.Causes.{object_cause}
@@ -63,6 +63,21 @@ module _ {C : Type 0} (chooses : C → ℕ → ℕ → C → Type 0) (name : Lis
   answered count new held after drives (inr open_call) same e = absurd (open_call.2 (same_want _ _ (sym open_call.1 ∙ e)))
   answered count new held after drives (inl zero) same e =
       untouched count new held after (λ m. wanted m name call ≡ Some want.Done) zero drives same e
+
+  -- the turns are over, and the call has no receipt
+  pub unfinished : (count : ℕ) (new : Cluster) (held : C) (r : Refusal) → count ≡ turns → Driven count new held → IsOpen count new
+      → (r ≡ NotNow) × (wanted new name call ≡ Some want.Done)
+      ⊎ (r ≡ GaveUp) × IsNotAnswered new name call
+      ⊎ (object_cause new name (λ object. number_cause object call) ≡ Some r)
+      → IsUnfinished chooses name call resumed turns old before new held r
+  unfinished count new held r last drives open_call (inl done) =
+      subst (λ r. IsUnfinished chooses name call resumed turns old before new held r) (sym done.0)
+      (answered count new held held drives open_call refl done.1)
+  unfinished count new held r last drives open_call (inr (inl left)) =
+      subst (λ r. IsUnfinished chooses name call resumed turns old before new held r) (sym left.0)
+      (subst (λ n. Driven n new held) last drives, left.1)
+  unfinished count new held r last drives open_call (inr (inr missing)) =
+      unfound count new held held r drives open_call refl missing
 
   refused_here : (count : ℕ) (new : Cluster) (held after : C) (r : Refusal) → count < turns → Driven count new held → IsOpen count new
       → IsRefused chooses name call new (asks_again resumed count) held after r

@@ -23,6 +23,11 @@ pub record IsToEncode (cluster : Cluster) (name : List ℕ) (call k n : ℕ) (va
   pub lawful : IsCodable k n value
   pub room : object_cause cluster name (λ object. supplying_cause (next cluster) object call) ≡ None
 
+-- the round hands out the value that the call is to send
+abbrev pub HandsOutValue : Cluster → (name : List ℕ) → (call : ℕ) → Round → Type 0
+HandsOutValue cluster name call (round.Encode value k n) = IsToEncode cluster name call k n value
+HandsOutValue cluster name call _ = ⊥
+
 -- these are the pieces that the call is to decode; some value has them, and nothing refuses the settle
 pub record IsToDecode (cluster : Cluster) (name : List ℕ) (call k len : ℕ) (pieces : List Piece) : Type 0 where
   pub wants : wanted cluster name call ≡ Some (want.Settle k len)

@@ -1,5 +1,9 @@
 //! The driver of one call, for one thread.
-ghost use Rattle.std.specs.Prelude.{◌≡◌, Some, IfOk, IfErr, OnErr, MatchOption, false, true};
+ghost use Rattle.std.specs.Prelude.{◌≡◌, ◌⊎◌, Some, IfOk, IfErr, OnErr, MatchOption, false, true};
+ghost use Rattle.tag.specs.declared.refusal.Refusal.TheVariants.{NotNow, GaveUp};
+ghost use Rattle.record.specs.declared.stage.Want.TheVariants as want;
+ghost use Rattle.register.specs.Causes.{number_cause};
+ghost use Rattle.cluster.specs.Causes.{object_cause};
 ghost use Rattle.cluster.specs.Places.{IsObjectAt};
 ghost use Rattle.driver.specs.Driver.{asks_again, IsAnswerTurn, FinishesCall, IsNotAnswered, IsRefused, IsTurn};
 ghost use Rattle.driver.specs.Driver.{IsUnfinished, wanted};
@@ -54,9 +58,22 @@ pub fn finish<C: Chooser>(
             return Ok(receipt);
         }
     }
-    match cluster.want_at(name, object, call)? {
-        Want::Done => Err(Refusal::NotNow),
-        _ => Err(Refusal::GaveUp),
+    Err(why_unfinished(cluster, name, object, call))
+}
+
+// Why a call has no receipt after the last turn: it was answered before, it is still open, or there is no such call.
+fn why_unfinished(cluster: &Cluster, name: &str, object: u32, call: CallId) -> Refusal
+    requires { IsObjectAt cluster.now name.now object }
+    ensures { (result ≡ NotNow) × (wanted cluster.now name.now call ≡ Some want.Done)
+        ⊎ (result ≡ GaveUp) × IsNotAnswered cluster.now name.now call
+        ⊎ (object_cause cluster.now name.now (λ object. number_cause object call) ≡ Some result) }
+{
+    match cluster.want_at(name, object, call) {
+        Ok(want) => match want {
+            Want::Done => Refusal::NotNow,
+            _ => Refusal::GaveUp,
+        },
+        Err(refusal) => refusal,
     }
 }
 

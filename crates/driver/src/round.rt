@@ -1,9 +1,12 @@
 //! One round of the driver, without the coding.
 ghost use Rattle.std.specs.Prelude.{◌≡◌, true, false, Some, IfOk, IfErr, OnErr};
+ghost use Rattle.tag.specs.Refusal.{IsByCause};
 ghost use Rattle.record.specs.declared.stage.Want.TheVariants as want;
+ghost use Rattle.register.specs.Causes.{supplying_cause};
+ghost use Rattle.cluster.specs.Causes.{next, object_cause};
 ghost use Rattle.cluster.specs.Places.{IsObjectAt};
 ghost use Rattle.driver.specs.Driver.{wanted, IsRefused};
-ghost use Rattle.driver.specs.Rounds.{MakesRound, MakesStep};
+ghost use Rattle.driver.specs.Rounds.{HandsOutValue, MakesRound, MakesStep};
 
 use crate::Chooser;
 use crate::coding::{pieces_to_decode, value_to_encode};
@@ -86,10 +89,7 @@ pub fn make_round_at<C: Chooser>(
             cluster.advance_at(name, object, call)?;
             Ok(Round::Stepped)
         }
-        Want::Supply { k: _, n: _ } => {
-            let (value, k, n) = value_to_encode(cluster, name, object, call)?;
-            Ok(Round::Encode { value, k, n })
-        }
+        Want::Supply { k: _, n: _ } => hand_out_value(cluster, name, object, call),
         Want::Settle { k, len } => {
             let pieces = pieces_to_decode(cluster, name, object, call, k, len)?;
             Ok(Round::Decode { pieces, k, len })
@@ -201,11 +201,24 @@ fn ask_again<C: Chooser>(
     match cluster.post_at(name, object, call) {
         Ok(()) => Ok(Round::Stepped),
         Err(refusal) => match refusal {
-            Refusal::NotNow => {
-                let (value, k, n) = value_to_encode(cluster, name, object, call)?;
-                Ok(Round::Encode { value, k, n })
-            }
+            Refusal::NotNow => hand_out_value(cluster, name, object, call),
             _ => Err(refusal),
         },
     }
+}
+
+// Hands out the value that the call is to send, with its k and n, and makes no step.
+fn hand_out_value(
+    cluster: &Cluster,
+    name: &str,
+    object: u32,
+    call: CallId,
+) -> Result<Round, Refusal>
+    requires { IsObjectAt cluster.now name.now object }
+    ensures value { IfOk result (λ r. HandsOutValue cluster.now name.now call r) }
+    ensures cause { IsByCause
+        (object_cause cluster.now name.now (λ object. supplying_cause (next cluster.now) object call)) result }
+{
+    let (value, k, n) = value_to_encode(cluster, name, object, call)?;
+    Ok(Round::Encode { value, k, n })
 }

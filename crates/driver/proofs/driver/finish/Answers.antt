@@ -1,9 +1,9 @@
-use Rattle.std.proofs.Common.{◌≡◌, Some, refl, sym, ap, ◌∙◌, subst, inr, arith}
+use Rattle.std.proofs.Common.{refl, sym, subst, inr, arith}
 use Rattle.cluster.specs.Places.{IsObjectAt}
-use Rattle.driver.specs.Driver.{Drives}
+use Rattle.driver.specs.Driver.{Drives, IsUnfinished}
 use Rattle.driver.proofs.LimitRefusalLemmas.{err_of}
 use Rattle.driver.proofs.ObjectIndexLemmas.{index_stays, missing_call}
-use Rattle.driver.proofs.WholeCallLemmas.{turned, unfound, answered, stopped, finished}
+use Rattle.driver.proofs.WholeCallLemmas.{turned, stopped, finished, unfinished}
 use Rattle.driver.proofs.driver.finish.Goals as goal
 
 pub loop-turn-preserved-then-branch : goal.loop-turn-preserved-then-branch
@@ -56,7 +56,9 @@ returns-in_err-make_step-clause-refused g c =
 pub returns-in_err-receipt-clause-refused : goal.returns-in_err-receipt-clause-refused
 returns-in_err-receipt-clause-refused g c =
     let same = c.in_ok-make_step.ensures.same c.if-branch.false in
-    err_of _ _ _ c.from_residual-in_err-receipt.ensures.1
+    err_of _ _
+    (IsUnfinished g.C.Chooser.chooses c.args.name.now c.args.call c.args.resumed c.args.turns c.args.cluster.now c.args.chooser.now
+    c.make_turn.new.cluster c.make_turn.new.chooser) c.from_residual-in_err-receipt.ensures.1
     (stopped g.C.Chooser.chooses c.args.name.now c.args.call c.args.resumed c.args.turns c.args.cluster.now c.args.chooser.now
     c.loop-turn.turn c.loop-turn.cluster c.make_step.new.cluster c.make_turn.new.cluster c.loop-turn.chooser c.make_step.new.chooser
     c.make_turn.new.chooser c.asks_again-again.result same.0 same.1 c.asks_again-again.ensures (omega arith)
@@ -74,27 +76,8 @@ returns-in-Some-clause-finished g c =
 pub returns-in-Some-clause-refused : goal.returns-in-Some-clause-refused
 returns-in-Some-clause-refused g c = tt
 
-pub returns-in_err-want_at-clause-refused : goal.returns-in_err-want_at-clause-refused
-returns-in_err-want_at-clause-refused g c =
-    err_of _ _ _ c.from_residual-in_err-want_at.ensures.1
-    (unfound g.C.Chooser.chooses c.args.name.now c.args.call c.args.resumed c.args.turns c.args.cluster.now c.args.chooser.now
-    c.loop-turn.turn c.loop-turn.cluster c.loop-turn.chooser c.loop-turn.chooser c.in_err-want_at.field-0.0
-    c.loop-turn.invariant.drives c.loop-turn.invariant.open_call refl c.in_err-want_at.ensures.cause)
-
-pub returns-in-Done-clause-refused : goal.returns-in-Done-clause-refused
-returns-in-Done-clause-refused g c =
-    answered g.C.Chooser.chooses c.args.name.now c.args.call c.args.resumed c.args.turns c.args.cluster.now c.args.chooser.now
-    c.loop-turn.turn c.loop-turn.cluster c.loop-turn.chooser c.loop-turn.chooser
-    c.loop-turn.invariant.drives c.loop-turn.invariant.open_call refl (c.in_ok-want_at.ensures.want ∙ ap Some c.in-Done.is)
-
-pub returns-in_default-2 : goal.returns-in_default-2
-returns-in_default-2 g c =
-    let last : c.loop-turn.turn ≡ c.args.turns = omega arith in
-    record {
-      finished = tt;
-      refused = (
-        subst (λ n. Drives g.C.Chooser.chooses c.args.name.now c.args.call c.args.resumed n c.args.cluster.now c.args.chooser.now
-            c.loop-turn.cluster c.loop-turn.chooser) last c.loop-turn.invariant.drives,
-        (c.in_ok-want_at.field-0, c.in_ok-want_at.ensures.want, c.in_default-2.not-Done),
-      );
-    }
+pub returns-clause-refused : goal.returns-clause-refused
+returns-clause-refused g c =
+    unfinished g.C.Chooser.chooses c.args.name.now c.args.call c.args.resumed c.args.turns c.args.cluster.now c.args.chooser.now
+    c.loop-turn.turn c.loop-turn.cluster c.loop-turn.chooser c.why_unfinished.result (omega arith)
+    c.loop-turn.invariant.drives c.loop-turn.invariant.open_call c.why_unfinished.ensures

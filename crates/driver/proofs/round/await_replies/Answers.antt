@@ -1,6 +1,6 @@
 use Rattle.std.proofs.Common.{IfOk, IfErr, sym, subst}
 use Rattle.driver.proofs.LimitRefusalLemmas.{err_of}
-use Rattle.driver.proofs.WantLemmas.{other_want}
+use Rattle.driver.proofs.WantLemmas.{replies_no_answer}
 use Rattle.driver.specs.Driver.{IsTurn, IsRefused}
 use Rattle.driver.specs.Rounds.{MakesRound}
 use Rattle.driver.proofs.round.await_replies.Goals as goal
@@ -25,7 +25,7 @@ pub returns-clause-round : goal.returns-clause-round
 returns-clause-round g c = (
   subst (λ again. IsTurn g.C.Chooser.chooses c.args.name.now c.args.call again c.args.cluster.now c.args.chooser.now
       c.handle_chosen.new.cluster c.handle_chosen.new.chooser) (sym c.if-asks_again.false) c.in_ok-handle_chosen.ensures.turn,
-  other_want _ _ c.requires.wanted (λ e. cc),
+  replies_no_answer _ c.requires.wanted,
 )
 
 pub returns-in_err-handle_chosen-clause-refused : goal.returns-in_err-handle_chosen-clause-refused

@@ -1,8 +1,9 @@
 use Rattle.std.proofs.Common.{Some, pred, refl, ap, ◌∙◌}
+use Rattle.driver.proofs.HandedValueLemmas.{value_round, refused_round}
 use Rattle.driver.proofs.LimitRefusalLemmas.{err_of}
 use Rattle.driver.proofs.StepRefusalLemmas.{advance_refused, answer_refused, value_refused, settle_refused}
 use Rattle.driver.proofs.StepRefusalLemmas.{due_of, turn_of}
-use Rattle.driver.proofs.WantLemmas.{other_want}
+use Rattle.driver.proofs.WantLemmas.{advance_no_answer}
 use Rattle.record.specs.Steps.{Step}
 use Rattle.record.specs.declared.stage.Want.TheVariants as want
 use Rattle.driver.proofs.round.make_round_at.Goals as goal
@@ -13,12 +14,12 @@ returns-in_err-advance_at-in-Advance-clause-refused g c =
     (advance_refused g.C.Chooser.chooses c.args.name.now c.args.call c.args.cluster.now c.args.asks_again c.args.chooser.now _
     (c.requires.wanted ∙ ap Some c.in-Advance.is) c.in_err-advance_at-in-Advance.ensures.cause)
 
-pub returns-in_err-value-in-Supply-clause-refused : goal.returns-in_err-value-in-Supply-clause-refused
-returns-in_err-value-in-Supply-clause-refused g c =
-    err_of _ _ _ c.from_residual-in_err-value-in-Supply.ensures.1
-    (value_refused g.C.Chooser.chooses c.args.name.now c.args.call c.args.cluster.now c.args.asks_again c.args.chooser.now c.in-Supply.k
-    c.in-Supply.n _
-    (c.requires.wanted ∙ ap Some c.in-Supply.is) c.in_err-value-in-Supply.ensures.cause)
+pub returns-in-Supply-clause-refused : goal.returns-in-Supply-clause-refused
+returns-in-Supply-clause-refused g c =
+    refused_round g.C.Chooser.chooses c.args.name.now c.args.call c.args.asks_again c.args.cluster.now c.args.chooser.now _
+    c.hand_out_value.result
+    (λ e by. value_refused g.C.Chooser.chooses c.args.name.now c.args.call c.args.cluster.now c.args.asks_again c.args.chooser.now
+    c.in-Supply.k c.in-Supply.n e (c.requires.wanted ∙ ap Some c.in-Supply.is) by) c.hand_out_value.ensures.cause
 
 pub returns-in_err-pieces-in-Settle-clause-refused : goal.returns-in_err-pieces-in-Settle-clause-refused
 returns-in_err-pieces-in-Settle-clause-refused g c =
@@ -39,18 +40,16 @@ returns-in_ok-advance_at-in-Advance-clause-round g c = (
       want.Advance (Step.Advance (pred c.args.call)) c.advance_at.new.self
       (c.requires.wanted ∙ ap Some c.in-Advance.is) (λ object w. (refl, refl))
       c.in_ok-advance_at-in-Advance.ensures.cause c.in_ok-advance_at-in-Advance.ensures.may c.in_ok-advance_at-in-Advance.ensures.step,
-  other_want _ _ (c.requires.wanted ∙ ap Some c.in-Advance.is) (λ e. cc),
+  advance_no_answer _ (c.requires.wanted ∙ ap Some c.in-Advance.is),
 )
 
-pub returns-in_ok-value-in-Supply-clause-round : goal.returns-in_ok-value-in-Supply-clause-round
-returns-in_ok-value-in-Supply-clause-round g c = (
-  refl,
-  refl,
-  due_of g.C.Chooser.chooses c.args.name.now c.args.call c.args.cluster.now c.args.asks_again c.args.chooser.now
-      (want.Supply c.in-Supply.k c.in-Supply.n) (Step.Supply (pred c.args.call))
-      (c.requires.wanted ∙ ap Some c.in-Supply.is) (λ object w. (refl, refl)),
-  c.in_ok-value-in-Supply.ensures.value,
-)
+pub returns-in-Supply-clause-round : goal.returns-in-Supply-clause-round
+returns-in-Supply-clause-round g c =
+    value_round g.C.Chooser.chooses c.args.name.now c.args.call c.args.asks_again c.args.cluster.now c.args.chooser.now
+    c.args.cluster.now refl
+    (due_of g.C.Chooser.chooses c.args.name.now c.args.call c.args.cluster.now c.args.asks_again c.args.chooser.now
+    (want.Supply c.in-Supply.k c.in-Supply.n) (Step.Supply (pred c.args.call))
+    (c.requires.wanted ∙ ap Some c.in-Supply.is) (λ object w. (refl, refl))) c.hand_out_value.result c.hand_out_value.ensures.value
 
 pub pieces_to_decode-requires-clause-wanted : goal.pieces_to_decode-requires-clause-wanted
 pieces_to_decode-requires-clause-wanted g c = c.requires.wanted ∙ ap Some c.in-Settle.is

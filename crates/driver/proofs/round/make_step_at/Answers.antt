@@ -2,7 +2,7 @@ use Rattle.std.proofs.Common.{false, Some, pred, refl, sym, ap, ◌∙◌}
 use Rattle.driver.proofs.LimitRefusalLemmas.{err_of}
 use Rattle.driver.proofs.StepRefusalLemmas.{advance_refused, turn_of}
 use Rattle.driver.proofs.TurnLemmas.{same_want}
-use Rattle.driver.proofs.WantLemmas.{other_want}
+use Rattle.driver.proofs.WantLemmas.{advance_no_answer, replies_no_answer}
 use Rattle.record.specs.Steps.{Step}
 use Rattle.record.specs.declared.stage.Want.TheVariants as want
 use Rattle.driver.proofs.round.make_step_at.Goals as goal
@@ -22,7 +22,7 @@ returns-in_err-handle_chosen-in-Replies-clause-refused g c =
 
 pub returns-in_ok-handle_chosen-in-Replies-clause-step : goal.returns-in_ok-handle_chosen-in-Replies-clause-step
 returns-in_ok-handle_chosen-in-Replies-clause-step g c =
-    (c.in_ok-handle_chosen-in-Replies.ensures.turn, other_want _ _ (c.requires.wanted ∙ ap Some c.in-Replies.is) (λ e. cc))
+    (c.in_ok-handle_chosen-in-Replies.ensures.turn, replies_no_answer _ (c.requires.wanted ∙ ap Some c.in-Replies.is))
 
 pub returns-in_ok-advance_at-in-Advance-clause-step : goal.returns-in_ok-advance_at-in-Advance-clause-step
 returns-in_ok-advance_at-in-Advance-clause-step g c = (
@@ -30,7 +30,7 @@ returns-in_ok-advance_at-in-Advance-clause-step g c = (
       (Step.Advance (pred c.args.call)) c.advance_at.new.self
       (c.requires.wanted ∙ ap Some c.in-Advance.is) (λ object w. (refl, refl)) c.in_ok-advance_at-in-Advance.ensures.cause
       c.in_ok-advance_at-in-Advance.ensures.may c.in_ok-advance_at-in-Advance.ensures.step,
-  other_want _ _ (c.requires.wanted ∙ ap Some c.in-Advance.is) (λ e. cc),
+  advance_no_answer _ (c.requires.wanted ∙ ap Some c.in-Advance.is),
 )
 
 pub returns-in_default : goal.returns-in_default

@@ -2,7 +2,7 @@ use Rattle.std.proofs.Common.{pred, refl}
 use Rattle.driver.proofs.LimitRefusalLemmas.{err_of}
 use Rattle.driver.proofs.StepRefusalLemmas.{again_refused}
 use Rattle.driver.proofs.StepRefusalLemmas.{turn_of}
-use Rattle.driver.proofs.WantLemmas.{other_want}
+use Rattle.driver.proofs.WantLemmas.{again_no_answer}
 use Rattle.record.specs.Steps.{Step}
 use Rattle.record.specs.declared.stage.Want.TheVariants as want
 use Rattle.driver.proofs.round.restart.Goals as goal
@@ -17,7 +17,7 @@ returns-clause-round g c = (
       want.Again (Step.Again (pred c.args.call)) c.again_at.new.self
       c.requires.wanted (λ object w. (c.if-not-asks_again.false, refl, refl))
       c.in_ok-again_at.ensures.cause c.in_ok-again_at.ensures.may c.in_ok-again_at.ensures.step,
-  other_want _ _ c.requires.wanted (λ e. cc),
+  again_no_answer _ c.requires.wanted,
 )
 
 pub returns-in_err-again_at-clause-refused : goal.returns-in_err-again_at-clause-refused
