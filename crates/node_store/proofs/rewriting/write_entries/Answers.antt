@@ -1,3 +1,4 @@
+use Rattle.std.proofs.lemmas.Grind.{common_steps}
 use Rattle.std.proofs.Common.{rules, ap, ℕ, Vec, Global, arith}
 use Rattle.node_store.proofs.RewritingLemmas.{one_waits, part_written, same_written}
 use Rattle.node_store.proofs.rewriting.write_entries.Goals.{then-len-ge-PART_BYTES+in_ok-length, else-len-ge-PART_BYTES}
@@ -19,3 +20,9 @@ loop-entry-preserved g c =
 
 pub returns-clause-synced : goal.returns-clause-synced
 returns-clause-synced g c = search rules
+
+pub returns-clause-written : goal.returns-clause-written
+returns-clause-written g c = grind (arith, common_steps)
+
+pub returns-clause-length : goal.returns-clause-length
+returns-clause-length g c = grind (arith, common_steps)
