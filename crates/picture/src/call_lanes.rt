@@ -1,10 +1,11 @@
 //! The names and bars of the calls.
 ghost use Rattle.std.specs.Prelude.{◌≡◌, Some};
-ghost use Rattle.picture.specs.CallLanes.{bar_text, call_lanes_text, class_of, course_text};
+ghost use Rattle.picture.specs.CallLanes.{bar_text, call_lanes_text, class_of};
 ghost use Rattle.picture.specs.CallLanes.{name_text, path_text, title_text};
 
 use crate::lane::Lane;
 use crate::plan::Plan;
+use crate::text::Course;
 use printing::operation_word;
 use record::Entry;
 use std::fmt;
@@ -94,7 +95,11 @@ impl fmt::Display for BarTitle<'_> {
 
     fn fmt<W: fmt::Write>(&self, f: &mut fmt::Formatter<W>) -> fmt::Result {
         let word = operation_word(self.0.kind);
-        write!(f, "call {} {word}, {}", self.0.call, Course(self.0))
+        let course = Course {
+            from: self.0.called,
+            to: self.0.answered,
+        };
+        write!(f, "call {} {word}, {course}", self.0.call)
     }
 }
 
@@ -104,20 +109,5 @@ fn bar_class(answered: Option<Stamp>) -> &'static str
     match answered {
         Some(_) => "bar",
         None => "bar open",
-    }
-}
-
-// The text that gives the steps of a call.
-#[derive(Clone, Copy)]
-struct Course<'a>(&'a Entry);
-
-impl fmt::Display for Course<'_> {
-    ghost output = { λ course. Some (course_text course.0.now.called course.0.now.answered) };
-
-    fn fmt<W: fmt::Write>(&self, f: &mut fmt::Formatter<W>) -> fmt::Result {
-        match self.0.answered {
-            Some(step) => write!(f, "steps {} to {step}", self.0.called),
-            None => write!(f, "from step {}, open", self.0.called),
-        }
     }
 }

@@ -21,23 +21,29 @@ pub(crate) fn draw_omitted<W: fmt::Write, O: ObjectView>(
     if letters == 0 && calls == 0 && tags == 0 && ordered == 0 {
         return Ok(());
     }
-    write!(
+    writeln!(
         f,
-        "<text x='8' y='{y}'><tspan class='head'>left out</tspan>"
-    )?;
-    draw_count(f, "letters of narrow phases", letters)?;
-    draw_count(f, "messages of the last calls", calls)?;
-    draw_count(f, "the last tags of servers", tags)?;
-    draw_count(f, "the last calls of the order", ordered)?;
-    writeln!(f, " what is drawn has its text on hovering</text>")
+        "<text x='8' y='{y}'><tspan class='head'>left out</tspan>{}{}{}{} \
+        what is drawn has its text on hovering</text>",
+        LeftOut("letters of narrow phases", letters),
+        LeftOut("messages of the last calls", calls),
+        LeftOut("the last tags of servers", tags),
+        LeftOut("the last calls of the order", ordered)
+    )
 }
 
 // How many of these are left out; nothing where none is.
-fn draw_count<W: fmt::Write>(f: &mut fmt::Formatter<W>, these: &str, count: usize) -> fmt::Result {
-    if count == 0 {
-        return Ok(());
+#[derive(Clone, Copy)]
+struct LeftOut(&'static str, usize);
+
+impl fmt::Display for LeftOut {
+    fn fmt<W: fmt::Write>(&self, f: &mut fmt::Formatter<W>) -> fmt::Result {
+        let (these, count) = (self.0, self.1);
+        if count == 0 {
+            return Ok(());
+        }
+        write!(f, " {these} ({count});")
     }
-    write!(f, " {these} ({count});")
 }
 
 // How many phases have no room for their letter.

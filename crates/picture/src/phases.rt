@@ -3,7 +3,7 @@ use crate::lane::Lane;
 use crate::object_view::ObjectView;
 use crate::plan::{LETTER, Plan, WORD};
 use crate::px::Px;
-use crate::text::{KindText, Short, kind_letter};
+use crate::text::{Course, KindText, Short, kind_letter};
 use phase::Phase;
 use printing::kind_word;
 use record::Entry;
@@ -133,12 +133,13 @@ struct Replies<'a>(&'a Phase);
 
 impl fmt::Display for Replies<'_> {
     fn fmt<W: fmt::Write>(&self, f: &mut fmt::Formatter<W>) -> fmt::Result {
-        let (replied, quorum) = (self.0.replies().len(), self.0.quorum());
-        match self.0.steps() {
-            (start, Some(end)) => {
-                write!(f, "steps {start} to {end}, {replied} replies of {quorum}")
-            }
-            (start, None) => write!(f, "from step {start}, open, {replied} replies of {quorum}"),
-        }
+        let (from, to) = self.0.steps();
+        write!(
+            f,
+            "{}, {} replies of {}",
+            Course { from, to },
+            self.0.replies().len(),
+            self.0.quorum()
+        )
     }
 }

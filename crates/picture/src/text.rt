@@ -1,7 +1,10 @@
 //! Texts in a picture.
+ghost use Rattle.std.specs.Prelude.{Some};
+ghost use Rattle.picture.specs.CallLanes.{course_text};
 
 use bank::{Kind, Status};
 use std::fmt;
+use tag::Stamp;
 use words::Hexadecimal;
 
 /// A text in which `<` and `&` are escaped, and anything but printable ASCII prints as `?`.
@@ -61,6 +64,25 @@ impl fmt::Display for Short<'_> {
             return write!(f, "{}", Hexadecimal(bytes));
         }
         write!(f, "{} {} B", Front { bytes, most: FRONT }, bytes.len())
+    }
+}
+
+/// The text that gives the steps of a call or of a phase: the first one, and the last one if it has ended.
+#[derive(Clone, Copy)]
+pub(crate) struct Course {
+    pub(crate) from: Stamp,
+    pub(crate) to: Option<Stamp>,
+}
+
+impl fmt::Display for Course {
+    ghost output = { λ course. Some (course_text course.from course.to) };
+
+    fn fmt<W: fmt::Write>(&self, f: &mut fmt::Formatter<W>) -> fmt::Result {
+        let from = self.from;
+        match self.to {
+            Some(to) => write!(f, "steps {from} to {to}"),
+            None => write!(f, "from step {from}, open"),
+        }
     }
 }
 
