@@ -1,4 +1,5 @@
-use Rattle.std.proofs.Common.{subst, sym}
+use Rattle.std.proofs.lemmas.Grind.{common_steps}
+use Rattle.std.proofs.Common.{arith, subst, sym}
 use Rattle.local_object.specs.Distinct.{IsBankInOrder, IsBankInOrderIfOpen}
 use Rattle.local_object.proofs.UnchangedBankLemmas.{kept_in_order, opened_in_order}
 use Rattle.local_object.proofs.place.Place.serve.Goals as goal
@@ -13,3 +14,6 @@ invariant_of-self-in-None c =
     kept_in_order c.serve-in-None.result c.in_ok-bank-in-None.bank c.serve-in-None.new.self c.args.request.now
     (subst IsBankInOrder (sym c.in_ok-bank-in-None.ensures.bank) (opened_in_order c.args.member c.args.delta))
     c.serve-in-None.ensures.bank c.serve-in-None.ensures.unchanged
+
+pub invariant_of-self-in_err-bank-in-None : goal.invariant_of-self-in_err-bank-in-None
+invariant_of-self-in_err-bank-in-None c = grind (arith, common_steps)
