@@ -1,3 +1,4 @@
+use Rattle.std.proofs.lemmas.Grind.{common_steps}
 use Rattle.std.proofs.Common.{◌∙◌, arith}
 use Rattle.register.proofs.AdvanceLemmas.{as_told, due_there, needs_none, beginning}
 use Rattle.register.proofs.BeginPhaseLemmas.{begin_room, begin_cause, begin_step, begin_kept}
@@ -47,3 +48,9 @@ returns-in_err-begin_next-clause-cause c =
     let b = beginning c.args.anew (wants_now f) d.0 d.1 c.index.ensures c.layout.ensures c.index_mut.ensures.value in
     same_cause _ c.from_residual-in_err-begin_next.result _ c.from_residual-in_err-begin_next.ensures.1
     (rw (← c.self.view_is) (by_cause (begin_cause b c.args.now c.in_ok-index.ensures.within) c.in_err-begin_next.ensures.cause))
+
+pub invariant_of-self : goal.invariant_of-self
+invariant_of-self c = grind (arith, common_steps)
+
+pub returns-in_err-begin_next-clause-unchanged : goal.returns-in_err-begin_next-clause-unchanged
+returns-in_err-begin_next-clause-unchanged c = grind (arith, common_steps)

@@ -1,3 +1,4 @@
+use Rattle.std.proofs.lemmas.Grind.{common_steps}
 use Rattle.std.proofs.Common.{◌≡◌, length, arith, refl}
 use Rattle.register.proofs.BeginReadOrWriteLemmas.{begun, begun_may, begun_room, begun_cause, begun_kept, begun_step}
 use Rattle.register.proofs.RefusedStepLemmas.{as_it_was, on_error}
@@ -50,3 +51,6 @@ pub returns-in_err-call-clause-unchanged : goal.returns-in_err-call-clause-uncha
 returns-in_err-call-clause-unchanged c =
     on_error c.from_residual-in_err-call.result
     (as_it_was c.self.invariant c.self.view_is refl c.in_err-call.ensures.kept c.reserve.ensures.items)
+
+pub returns-clause-number : goal.returns-clause-number
+returns-clause-number c = grind (arith, common_steps)

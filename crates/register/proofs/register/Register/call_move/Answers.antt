@@ -1,3 +1,4 @@
+use Rattle.std.proofs.lemmas.Grind.{common_steps}
 use Rattle.std.proofs.Common.{◌≡◌, length, arith, refl}
 use Rattle.register.proofs.BeginMoveLemmas.{moved, moved_may, moved_room, moved_cause, move_kept, move_step}
 use Rattle.register.proofs.RefusedStepLemmas.{as_it_was, on_error}
@@ -59,3 +60,12 @@ pub returns-in_err-call-clause-unchanged : goal.returns-in_err-call-clause-uncha
 returns-in_err-call-clause-unchanged c =
     on_error c.from_residual-in_err-call.result
     (as_it_was c.self.invariant c.self.view_is c.reserve_both.ensures.positions c.in_err-call.ensures.kept c.reserve_both.ensures.calls)
+
+pub overflow_sub-last : goal.overflow_sub-last
+overflow_sub-last c = grind (arith, common_steps)
+
+pub overflow_cast-position : goal.overflow_cast-position
+overflow_cast-position c = grind (arith, common_steps)
+
+pub returns-clause-number : goal.returns-clause-number
+returns-clause-number c = grind (arith, common_steps)

@@ -1,4 +1,5 @@
-use Rattle.std.proofs.Common.{refl, sym, ◌∙◌}
+use Rattle.std.proofs.lemmas.Grind.{elements}
+use Rattle.std.proofs.Common.{refl, sym, ◌∙◌, arith}
 use Rattle.register.proofs.AdvanceLemmas.{stage_below, due_read, due_refused, due_past, some_due, tell_wants, tell_due}
 use Rattle.register.proofs.FoundCallLemmas.{is_found, again, wanting, below_those, few_those, seen_at}
 use Rattle.register.proofs.register.Register.due_phase.Goals as goal
@@ -47,3 +48,6 @@ returns-clause-due c =
     let f = is_found c.self.invariant c.in_ok-index.ensures.place c.deref.ensures.value c.index-tracked.ensures in
     rw (← c.self.view_is)
     (tell_due f (due_read f c.index-tracked.ensures c.stage.ensures c.begun_at.ensures c.due.ensures c.in-Some.is))
+
+pub returns-in_err-index-clause-cause : goal.returns-in_err-index-clause-cause
+returns-in_err-index-clause-cause c = grind (arith, elements)

@@ -1,3 +1,4 @@
+use Rattle.std.proofs.lemmas.Grind.{elements}
 use Rattle.std.proofs.Common.{length, Option, sym, ap, subst, arith}
 use Rattle.tag.specs.declared.refusal.Refusal.{Refusal}
 use Rattle.tag.specs.Refusal.{IsExactlyByCause}
@@ -60,3 +61,9 @@ returns-else-is_replied c =
           c.full_unless-else-is_replied.ensures);
       coded = or_wrong c.args.now c.args.self.now.object c.args.call;
     }
+
+pub returns-in_err-index-clause-cause : goal.returns-in_err-index-clause-cause
+returns-in_err-index-clause-cause c = grind (arith, elements)
+
+pub returns-in_err-index-clause-coded : goal.returns-in_err-index-clause-coded
+returns-in_err-index-clause-coded c = grind (arith, elements)

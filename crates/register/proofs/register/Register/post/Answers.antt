@@ -1,4 +1,5 @@
-use Rattle.std.proofs.Common.{inl, refl, ◌≡◌, Option, None}
+use Rattle.std.proofs.lemmas.Grind.{common_steps, elements}
+use Rattle.std.proofs.Common.{inl, refl, ◌≡◌, Option, None, arith}
 use Rattle.tag.specs.Cause.{IsRefusalBy}
 use Rattle.tag.specs.declared.refusal.Refusal.{Refusal}
 use Rattle.register.proofs.AskAgainLemmas.{again_room, again_by, again_step, again_kept}
@@ -76,3 +77,9 @@ returns-in_err-ask_again-clause-cause c =
     same_cause _ c.from_residual-in_err-ask_again.result _ c.from_residual-in_err-ask_again.ensures.1
     (rw (← c.self.view_is) (again_by a c.args.now c.if-now-gt-MOST_STEPS.false
     (λ (cause : Option Refusal). IsRefusalBy cause r) c.in_err-ask_again.ensures.cause))
+
+pub returns-in_err-index-clause-cause : goal.returns-in_err-index-clause-cause
+returns-in_err-index-clause-cause c = grind (arith, elements)
+
+pub ask_again-requires-clause-pieces : goal.ask_again-requires-clause-pieces
+ask_again-requires-clause-pieces c κs = grind (arith, common_steps)

@@ -1,3 +1,4 @@
+use Rattle.std.proofs.lemmas.Grind.{elements}
 use Rattle.std.proofs.Common.{ℕ, ◌<◌, ◌≤◌, length, slice_get, Option, sym, ap, subst, ◌∙◌, arith}
 use Rattle.tag.specs.Cause.{IsRefusalBy}
 use Rattle.tag.specs.declared.limits.TheConstants.{MOST_STEPS}
@@ -43,3 +44,12 @@ returns-in_err-repeat-clause-cause c =
     ∙ repeat_cause_is mail place (omega (arith, c.len.ensures.value, c.if-len-place.false)) in
     same_cause _ c.from_residual.result _ c.from_residual.ensures.1
     (subst (λ (cause : Option Refusal). IsRefusalBy cause c.in_err-repeat.field-0.0) (sym same) c.in_err-repeat.ensures.cause)
+
+pub returns-then-len-place-clause-cause : goal.returns-then-len-place-clause-cause
+returns-then-len-place-clause-cause c = grind (arith, elements)
+
+pub returns-then-now-gt-MOST_STEPS-clause-cause : goal.returns-then-now-gt-MOST_STEPS-clause-cause
+returns-then-now-gt-MOST_STEPS-clause-cause c = grind (arith, elements)
+
+pub returns-clause-cause : goal.returns-clause-cause
+returns-clause-cause c = grind (arith, elements)

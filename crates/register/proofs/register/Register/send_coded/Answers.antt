@@ -1,3 +1,4 @@
+use Rattle.std.proofs.lemmas.Grind.{common_steps}
 use Rattle.std.proofs.Common.{None, ap, sym, ◌∙◌, ◌≡◌, Option, refl, arith}
 use Rattle.tag.specs.Cause.{IsRefusalBy}
 use Rattle.tag.specs.declared.refusal.Refusal.{Refusal}
@@ -140,3 +141,6 @@ pub returns-in_err-ask_again-clause-unchanged : goal.returns-in_err-ask_again-cl
 returns-in_err-ask_again-clause-unchanged c =
     on_error c.from_residual-in_err-ask_again.result
     (as_it_was c.self.invariant c.self.view_is refl c.in_err-ask_again.ensures.kept refl)
+
+pub invariant_of-self : goal.invariant_of-self
+invariant_of-self c = grind (arith, common_steps)

@@ -1,3 +1,4 @@
+use Rattle.std.proofs.lemmas.Grind.{common_steps, elements}
 use Rattle.std.proofs.Common.{arith}
 use Rattle.bank.specs.Serve.{served_bank}
 use Rattle.register.proofs.ServeRequestLemmas.{position_there, serving, member_there, part_stored, bytes_few}
@@ -55,3 +56,12 @@ returns-clause-step c =
     let s = serving c.args.place c.self.invariant c.at-message.ensures c.in-Request.is c.index_mut-position.ensures.value in
     let d = served s c.in_ok-reply.ensures.layout c.in_ok-reply.ensures.bank c.bytes.ensures.value c.if-bytes-self.false in
     rw (← c.self.view_is) (serve_step d c.in_ok-reply.ensures.reply c.reply_in_place.ensures 0)
+
+pub returns-then-len-place-clause-cause : goal.returns-then-len-place-clause-cause
+returns-then-len-place-clause-cause c = grind (arith, elements)
+
+pub invariant_of-self : goal.invariant_of-self
+invariant_of-self c = grind (arith, common_steps)
+
+pub returns-in_err-reply-clause-unchanged : goal.returns-in_err-reply-clause-unchanged
+returns-in_err-reply-clause-unchanged c = grind (arith, common_steps)

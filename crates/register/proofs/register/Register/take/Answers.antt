@@ -1,3 +1,4 @@
+use Rattle.std.proofs.lemmas.Grind.{elements}
 use Rattle.std.proofs.Common.{arith}
 use Rattle.register.proofs.TakeReplyLemmas.{call_there, taking, below_limit, next_tag, same_body, take_kept, take_step, took_is}
 use Rattle.register.proofs.register.Register.take.Goals as goal
@@ -29,3 +30,9 @@ pub returns-clause-took : goal.returns-clause-took
 returns-clause-took c =
     let t = taking c.args.place c.self.invariant c.take_out-message.ensures.message c.index_mut.ensures.value in
     rw (← c.self.view_is) (took_is t c.args.now c.take-took.ensures.took)
+
+pub returns-then-len-place-clause-cause : goal.returns-then-len-place-clause-cause
+returns-then-len-place-clause-cause c = grind (arith, elements)
+
+pub overflow_sub-index : goal.overflow_sub-index
+overflow_sub-index c = grind (arith, elements)
