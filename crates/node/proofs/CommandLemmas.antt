@@ -2,10 +2,10 @@
 use Rattle.std.proofs.Common.{◌≡◌, ℕ, true, false, List, [], ◌∷◌, Option, None, Some, Ok, is_some}
 use Rattle.std.proofs.Common.{Result, Err, IsSome, OnOk, refl, sym, subst, ap, ◌∙◌}
 use Rattle.cluster_file.specs.File.{FileContents}
-use Rattle.connections.specs.Connections.{TakesNextAt, doing, gives_next_of, has_next, waiting_on}
-use Rattle.connections.specs.declared.connection.Connection.{Connection}
-use Rattle.connections.specs.declared.connection.State.{State}
-use Rattle.connections.specs.declared.connection.State.TheVariants.{Busy, Idle, Quit}
+use Rattle.node_clients.specs.Connections.{TakesNextAt, doing, gives_next_of, has_next, waiting_on}
+use Rattle.node_clients.specs.declared.connection.Connection.{Connection}
+use Rattle.node_clients.specs.declared.connection.State.{State}
+use Rattle.node_clients.specs.declared.connection.State.TheVariants.{Busy, Idle, Quit}
 use Rattle.client_commands.specs.Reading.{command_at}
 use Rattle.client_commands.specs.declared.answer.Answer.{Answer}
 use Rattle.client_commands.specs.declared.command.Command.{Command}

@@ -3,8 +3,8 @@ use Rattle.std.proofs.Common.{◌≡◌, ◌≢◌, inl, inr, ℕ, true, false, 
 use Rattle.std.proofs.lemmas.Bool.{false≢true}
 use Rattle.std.specs.List.{AllByRecursion}
 use Rattle.indexmap.specs.IndexMap.{get}
-use Rattle.connections.specs.Connections.{has_next}
-use Rattle.connections.specs.declared.connections.Connections.{Connections}
+use Rattle.node_clients.specs.Connections.{has_next}
+use Rattle.node_clients.specs.declared.connections.Connections.{Connections}
 use Rattle.deeds.proofs.ListLemmas.{all_weaker}
 use Rattle.string_parts.specs.Strings.{Strings}
 use Rattle.node_effects.specs.declared.work.Work.{Work}

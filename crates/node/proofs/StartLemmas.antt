@@ -3,8 +3,8 @@ use Rattle.std.proofs.Common.{◌≡◌, ◌<◌, ◌^◌, ℕ, suc, Bool, true,
 use Rattle.std.proofs.lemmas.Bool.{false≢true}
 use Rattle.std.proofs.lemmas.List.{map-append}
 use Rattle.indexmap.specs.IndexMap.{get}
-use Rattle.connections.specs.Connections.{has_next}
-use Rattle.connections.specs.declared.connections.Connections.{Connections}
+use Rattle.node_clients.specs.Connections.{has_next}
+use Rattle.node_clients.specs.declared.connections.Connections.{Connections}
 use Rattle.call_ids.specs.CallId.{with_next_epoch}
 use Rattle.recoveries.specs.Records.{IsStarted}
 use Rattle.node_effects.specs.Work.{Growth, IsEmpty, IsGrown, OnlyLogs, entries_in, log_all, no_growth, one_entry}

@@ -8,9 +8,9 @@ use Rattle.words.specs.Hexadecimal.{hexadecimal_text}
 use Rattle.indexmap.specs.IndexMap.{index_map_len}
 use Rattle.tag.specs.declared.refusal.Refusal.{Refusal}
 use Rattle.call_ids.specs.CallId.{CallIds, next_given_id, with_next_epoch}
-use Rattle.connections.specs.Connections.{doing, waiting_on}
-use Rattle.connections.specs.declared.connection.Connection.{Connection}
-use Rattle.connections.specs.declared.connection.State.TheVariants.{Idle}
+use Rattle.node_clients.specs.Connections.{doing, waiting_on}
+use Rattle.node_clients.specs.declared.connection.Connection.{Connection}
+use Rattle.node_clients.specs.declared.connection.State.TheVariants.{Idle}
 use Rattle.local_object.specs.Doing.{move_refusal, read_refusal, write_refusal}
 use Rattle.local_object.specs.Local.{LocalObject}
 use Rattle.client_commands.specs.Reading.{Found, command_at}

@@ -13,8 +13,8 @@ use Rattle.string_parts.specs.Strings.{Strings}
 use Rattle.node_effects.specs.Work.{IsGrown}
 use Rattle.node_effects.specs.declared.notice.Notice.{Notice}
 use Rattle.node_effects.specs.declared.work.Work.{Work}
-use Rattle.connections.specs.Connections.{doing, waiting_on}
-use Rattle.connections.specs.declared.connection.State.TheVariants.{Idle}
+use Rattle.node_clients.specs.Connections.{doing, waiting_on}
+use Rattle.node_clients.specs.declared.connection.State.TheVariants.{Idle}
 use Rattle.node_clients.specs.Answers.{answer_sent}
 use Rattle.node_clients.specs.Calls.{waiting_for}
 use Rattle.node_clients.specs.Desk.{connection_of, has_listener, with_give_up, with_told}

@@ -2,9 +2,9 @@
 use Rattle.std.proofs.Common.{◌≡◌, ℕ, Bool, true, false, cond, List, [], ◌∷◌, ◌++◌, Option, None, Some, is_some}
 use Rattle.std.proofs.Common.{refl, sym, subst, ap, ◌∙◌}
 use Rattle.std.proofs.lemmas.List.{append-nil, append_assoc}
-use Rattle.connections.specs.Connections.{doing}
-use Rattle.connections.specs.declared.connection.Connection.{Connection}
-use Rattle.connections.specs.declared.connection.State.TheVariants.{Busy}
+use Rattle.node_clients.specs.Connections.{doing}
+use Rattle.node_clients.specs.declared.connection.Connection.{Connection}
+use Rattle.node_clients.specs.declared.connection.State.TheVariants.{Busy}
 use Rattle.client_commands.specs.declared.answer.Answer.{Answer}
 use Rattle.node_effects.specs.declared.work.Work.{Work}
 use Rattle.node_clients.specs.Desk.{growth_for, is_connected, listener}

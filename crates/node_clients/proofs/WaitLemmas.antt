@@ -6,11 +6,11 @@ use Rattle.std.proofs.lemmas.Bool.Decides.{Decides-eqb}
 use Rattle.std.proofs.lemmas.List.{append-nil, append_assoc}
 use Rattle.std.specs.List.{AllByRecursion}
 use Rattle.indexmap.specs.IndexMap.{get}
-use Rattle.connections.specs.Connections.{doing, gives_next_of, has_next}
-use Rattle.connections.specs.declared.connection.Connection.{Connection}
-use Rattle.connections.specs.declared.connection.State.{State}
-use Rattle.connections.specs.declared.connection.State.TheVariants.{Busy, Idle, Quit}
-use Rattle.connections.specs.declared.connections.Connections.{Connections}
+use Rattle.node_clients.specs.Connections.{doing, gives_next_of, has_next}
+use Rattle.node_clients.specs.declared.connection.Connection.{Connection}
+use Rattle.node_clients.specs.declared.connection.State.{State}
+use Rattle.node_clients.specs.declared.connection.State.TheVariants.{Busy, Idle, Quit}
+use Rattle.node_clients.specs.declared.connections.Connections.{Connections}
 use Rattle.node_clients.specs.Calls.{waiting_for}
 use Rattle.node_clients.specs.Desk.{IsDue, IsIdleFor, NoneWaits, is_connected, listener}
 use Rattle.node_clients.specs.Served.{AreServicesDone, IsArrived, IsServiceDone}

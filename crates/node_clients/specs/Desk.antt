@@ -3,10 +3,10 @@
 use Rattle.std.specs.Prelude.{◌≡◌, ◌≢◌, ◌⊎◌, ℕ, ◌+◌, ◌-◌, ◌^◌, min, nat_eq, Bool, true, false, if◌then◌else◌}
 use Rattle.std.specs.Prelude.{List, [], ◌∷◌, Option, None, Some, is_some}
 use Rattle.indexmap.specs.IndexMap.{get}
-use Rattle.connections.specs.Connections.{doing, has_next, waiting_on}
-use Rattle.connections.specs.declared.connection.Connection.{Connection}
-use Rattle.connections.specs.declared.connection.State.TheVariants.{Idle}
-use Rattle.connections.specs.declared.connections.Connections.{Connections}
+use Rattle.node_clients.specs.Connections.{doing, has_next, waiting_on}
+use Rattle.node_clients.specs.declared.connection.Connection.{Connection}
+use Rattle.node_clients.specs.declared.connection.State.TheVariants.{Idle}
+use Rattle.node_clients.specs.declared.connections.Connections.{Connections}
 use Rattle.client_commands.specs.declared.answer.Answer.{Answer}
 use Rattle.node_effects.specs.Work.{Growth, no_growth}
 use Rattle.node_clients.specs.Answers.{answer_growth}

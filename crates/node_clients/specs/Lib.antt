@@ -1,5 +1,6 @@
 pub mod Answers
 pub mod Calls
+pub mod Connections
 pub mod Desk
 pub mod Services
 pub mod Served

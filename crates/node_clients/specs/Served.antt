@@ -1,8 +1,8 @@
 -- The contracts that docs/trusted.md lists do not depend on this file; other contracts and proofs do.
 -- How the desk of a node changes with each thing that it does for its clients.
 use Rattle.std.specs.Prelude.{◌≡◌, ◌≢◌, ℕ, true, false, List, [], ◌∷◌, ◌++◌, Option, None, Some, is_some, IsSome, Ok}
-use Rattle.connections.specs.Connections.{TakesNextAt, doing, waiting_on}
-use Rattle.connections.specs.declared.connection.State.TheVariants.{Quit}
+use Rattle.node_clients.specs.Connections.{TakesNextAt, doing, waiting_on}
+use Rattle.node_clients.specs.declared.connection.State.TheVariants.{Quit}
 use Rattle.client_commands.specs.Reading.{command_at}
 use Rattle.client_commands.specs.declared.command.Command.{Command}
 use Rattle.client_commands.specs.declared.command.Command.TheVariants as ask

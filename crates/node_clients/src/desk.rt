@@ -1,16 +1,16 @@
 //! The clients of a node, and the calls that it carries out.
 ghost use Rattle.std.specs.Prelude.{◌≡◌, ◌≢◌, [], ℕ, nat_eq, is_some, IsSome, OnOk};
 ghost use Rattle.indexmap.specs.IndexMap.{get};
-ghost use Rattle.connections.specs.Connections.{doing, waiting_on};
-ghost use Rattle.connections.specs.declared.connection.State.TheVariants.{Quit};
+ghost use Rattle.node_clients.specs.Connections.{doing, waiting_on};
+ghost use Rattle.node_clients.specs.declared.connection.State.TheVariants.{Quit};
 ghost use Rattle.node_effects.specs.Work.{IsGrown};
 ghost use Rattle.node_clients.specs.Answers.{TellsClients, quit_growth};
 ghost use Rattle.node_clients.specs.Desk.{none_counted, with_drop};
 
+use crate::connections::Connections;
 use crate::counts::Counts;
 use crate::open_call::OpenCall;
 use client_commands::Answer;
-use connections::Connections;
 use indexmap::IndexMap;
 use node_effects::{NodeError, Work};
 use node_strings::ConnectionId;

@@ -1,8 +1,8 @@
 //! What a node does with the commands of its clients.
 ghost use Rattle.std.specs.Prelude.{◌≡◌, ◌∷◌, [], ℕ, List, false, nat_eq, true, IfOk, OnOk, Ok, Some};
 ghost use Rattle.indexmap.specs.IndexMap.{get, index_map_len};
-ghost use Rattle.connections.specs.Connections.{doing};
-ghost use Rattle.connections.specs.declared.connection.State.TheVariants.{Busy};
+ghost use Rattle.node_clients.specs.Connections.{doing};
+ghost use Rattle.node_clients.specs.declared.connection.State.TheVariants.{Busy};
 ghost use Rattle.client_commands.specs.Reading.{command_at};
 ghost use Rattle.client_commands.specs.declared.command.Command.TheVariants as ask;
 ghost use Rattle.node_clients.specs.Answers.{TellsClients};

@@ -30,8 +30,8 @@ impl Drop for Connection {
 
 impl Connection {
     ghost use Rattle.std.specs.Prelude.{◌≡◌, ◌≢◌, ◌++◌, ◌∷◌, [], OnOk, IfSome, IfNone, IsNone};
-    ghost use Rattle.connections.specs.declared.connection.State.TheVariants.{Idle, Busy};
-    ghost use Rattle.connections.specs.Connections.{TakesNext, gives_next};
+    ghost use Rattle.node_clients.specs.declared.connection.State.TheVariants.{Idle, Busy};
+    ghost use Rattle.node_clients.specs.Connections.{TakesNext, gives_next};
 
     /// Keeps a command that has come, after those that wait. It fails only if there is no memory.
     pub(crate) fn push(&mut self, command: Frame) -> Result<(), std::alloc::AllocError>

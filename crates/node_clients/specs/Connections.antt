@@ -1,9 +1,9 @@
 -- The contracts that docs/trusted.md lists do not depend on this file; other contracts and proofs do.
 -- What waits on the connections of clients, and what the connections are doing.
 use Rattle.std.specs.Prelude.{◌≡◌, ℕ, Bool, true, false, List, [], ◌∷◌, Option, Some, None}
-use Rattle.connections.specs.declared.connection.Connection.{Connection}
-use Rattle.connections.specs.declared.connection.State.{State}
-use Rattle.connections.specs.declared.connection.State.TheVariants.{Idle, Busy, Quit}
+use Rattle.node_clients.specs.declared.connection.Connection.{Connection}
+use Rattle.node_clients.specs.declared.connection.State.{State}
+use Rattle.node_clients.specs.declared.connection.State.TheVariants.{Idle, Busy, Quit}
 
 -- the commands that wait on a connection, if there is one; each command is a list of strings
 abbrev pub waiting_on : Option Connection → List (List (List ℕ))

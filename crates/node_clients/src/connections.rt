@@ -1,8 +1,8 @@
 //! All connections, by their numbers.
 ghost use Rattle.std.specs.Prelude.{◌≡◌, ◌≢◌, ◌++◌, ◌∷◌, ℕ, [], nat_eq, None, OnOk, IsSome, is_some};
 ghost use Rattle.indexmap.specs.IndexMap.{get, index_map_len};
-ghost use Rattle.connections.specs.declared.connection.State.TheVariants.{Idle, Quit};
-ghost use Rattle.connections.specs.Connections.{waiting_on, doing, has_next, TakesNextAt};
+ghost use Rattle.node_clients.specs.declared.connection.State.TheVariants.{Idle, Quit};
+ghost use Rattle.node_clients.specs.Connections.{waiting_on, doing, has_next, TakesNextAt};
 
 use crate::connection::{Connection, State};
 use frames::Frame;
