@@ -60,8 +60,8 @@ fn open_and_close<L: StoreName, R: Threads + Wait + Sync>(
     }
 }
 
-/// Writes `hello` to an object of four servers, any two of which give the value back. Moves the object to three
-/// servers, each of which keeps the whole value, and reads it. With several seats, each thread would borrow one.
+/// Writes `hello` to an object of four servers, any two of which give the value back, moves the object, and reads it.
+/// With several seats, each thread would borrow one.
 fn write_move_and_read<L: StoreName, R: Threads + Wait + Sync>(
     rt: &R,
     store: &Store<L>,
@@ -71,10 +71,20 @@ fn write_move_and_read<L: StoreName, R: Threads + Wait + Sync>(
     let seat = seats.first_mut().ok_or(Refusal::Stranger)?;
     let hello = Bytes::from_static(b"hello");
     store.write(rt, seat, NAME, hello, &mut First, MOST_TURNS)?;
-    let layout = store.add_layout(rt, admin, Layout::new(1, &[1, 2, 3])?)?;
-    store.move_object(rt, admin, NAME, layout, &mut First, MOST_TURNS)?;
+    move_to_three(rt, store, admin)?;
     let receipt = store.read(rt, seat, NAME, &mut First, MOST_TURNS)?;
     receipt.value.ok_or(Refusal::NotNow)
+}
+
+/// Moves the object to three servers, each of which keeps the whole value.
+fn move_to_three<L: StoreName, R: Threads + Wait + Sync>(
+    rt: &R,
+    store: &Store<L>,
+    admin: &mut Admin<L>,
+) -> Result<(), Refusal> {
+    let layout = store.add_layout(rt, admin, Layout::new(1, &[1, 2, 3])?)?;
+    store.move_object(rt, admin, NAME, layout, &mut First, MOST_TURNS)?;
+    Ok(())
 }
 
 /// Returns a cluster of four servers, with the object.

@@ -6,6 +6,7 @@ use bytes::Bytes;
 use client::{First, Seat, Store, StoreName};
 use cluster::Cluster;
 use layout::Layout;
+use register::Receipt;
 use std::alloc::Global;
 use std::marker::Brand;
 use std::sync::Wait;
@@ -128,6 +129,9 @@ fn five_servers(alloc: Global) -> Result<Cluster, Refusal> {
     Ok(cluster)
 }
 
+// A thread that makes the calls of a seat, which it returns.
+type Started<L> = JoinHandle<Result<Seat<L>, Refusal>>;
+
 // Lets each seat make its calls in a thread of its own, and returns the seats.
 fn call_all<L: StoreName + Send + Sync, R: Threads + Wait + Sync>(
     rt: &R,
@@ -159,6 +163,15 @@ fn call_in<'s, E, L: StoreName + Send + Sync, R: Threads + Wait + Sync>(
     for seat in seats {
         started.push(start(scope, rt, store, seat, value, load))?;
     }
+    join_all(rt, alloc, started)
+}
+
+// Waits for each thread, and returns the seats.
+fn join_all<L: StoreName, R: Threads>(
+    rt: &R,
+    alloc: Global,
+    started: Vec<Result<Started<L>, Refusal>>,
+) -> Result<Vec<Seat<L>>, Refusal> {
     let mut ended = Vec::with_capacity(alloc, started.len())?;
     for thread in started {
         ended.push(thread?.join(rt)?)?;
@@ -173,7 +186,7 @@ fn start<'s, E, L: StoreName + Send + Sync, R: Threads + Wait + Sync>(
     seat: Seat<L>,
     value: &'s Bytes,
     load: Load,
-) -> Result<JoinHandle<Result<Seat<L>, Refusal>>, Refusal> {
+) -> Result<Started<L>, Refusal> {
     match scope.spawn(move || make_calls(rt, store, seat, value, load)) {
         Ok(handle) => Ok(handle),
         Err(_) => Err(Refusal::NoMemory),
@@ -188,14 +201,24 @@ fn make_calls<L: StoreName, R: Threads + Wait + Sync>(
     load: Load,
 ) -> Result<Seat<L>, Refusal> {
     for call in 0..load.calls {
-        if call % 2 == 0 {
-            store.write(rt, &mut seat, NAME, value.clone()?, &mut First, MOST_TURNS)?;
-        } else {
-            store.read(rt, &mut seat, NAME, &mut First, MOST_TURNS)?;
-        }
+        make_call(rt, store, &mut seat, value, call % 2 == 0)?;
         for _ in 0..load.late {
             store.stir(rt, NAME, &mut First)?;
         }
     }
     Ok(seat)
+}
+
+fn make_call<L: StoreName, R: Threads + Wait + Sync>(
+    rt: &R,
+    store: &Store<L>,
+    seat: &mut Seat<L>,
+    value: &Bytes,
+    writes: bool,
+) -> Result<Receipt, Refusal> {
+    if writes {
+        store.write(rt, seat, NAME, value.clone()?, &mut First, MOST_TURNS)
+    } else {
+        store.read(rt, seat, NAME, &mut First, MOST_TURNS)
+    }
 }
