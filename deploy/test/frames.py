@@ -1,6 +1,10 @@
 """Frames, in Python: arrays of bulk strings, for the stand-in and for the tests."""
+import re
+
 MOST_STRINGS = 1024
 LONGEST_STRING = (16 << 20) + (64 << 10)
+# A line with a number of at most eight digits, as most are.
+LINES = {kind: re.compile(re.escape(kind) + rb"(0|[1-9][0-9]{0,7})\r\n") for kind in (b"*", b"$")}
 
 
 class BadFrame(Exception):
@@ -17,6 +21,8 @@ def encode(strings):
 
 def number_at(data, at, kind, most):
     """The number in a line such as "$5\r\n", and the place behind the line; None where bytes are missing."""
+    if (line := LINES[kind].match(data, at)) and (number := int(line[1])) <= most:
+        return number, line.end()
     end = data.find(b"\r\n", at, at + 12)
     if end < 0:
         if len(data) - at >= 12:
