@@ -1,1 +1,3 @@
 pub mod MemberListLemmas
+mod MoveStageLemmas
+mod ReadingPathLemmas

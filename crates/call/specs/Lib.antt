@@ -1,5 +1,9 @@
 pub mod Call
+pub mod Laws
 pub mod Limits
+pub mod Moves
 pub mod Next
 pub mod Pieces
+pub mod Reading
+pub mod StageLimits
 pub mod Steps

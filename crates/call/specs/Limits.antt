@@ -10,7 +10,7 @@ use Rattle.record.specs.declared.call.CallKind.TheVariants.{Read, Write, Move}
 use Rattle.record.specs.declared.stage.Stage.{Stage}
 use Rattle.record.specs.declared.stage.Stage.TheVariants.{QueryFrom}
 use Rattle.record.specs.PhaseOrder.{due, greatest_tag}
-use Rattle.transfer.specs.Limits.{IsBelowLimit, HasNextTag}
+use Rattle.call.specs.StageLimits.{IsBelowLimit, HasNextTag}
 use Rattle.call.specs.Call.{OpenCall, reached}
 
 -- whether the position of the phase that is due has a successor that fits 32 bits

@@ -6,6 +6,7 @@ ghost use Rattle.call.specs.Call.{reached};
 ghost use Rattle.call.specs.Limits.{CanReach};
 ghost use Rattle.call.specs.Steps.{begun_call, entered, phase_next, taken_call};
 
+use crate::begun_at;
 use bank::Kind;
 use bytes::Bytes;
 use layout::Layout;
@@ -16,7 +17,6 @@ use std::alloc::Global;
 use std::marker::Model;
 use std::mem;
 use tag::{CallId, Refusal, Stamp};
-use transfer::begun_at;
 
 mod stages;
 mod views;

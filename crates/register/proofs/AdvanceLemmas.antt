@@ -22,7 +22,7 @@ use Rattle.record.specs.Steps.{stepped, on_call, advanced_object}
 use Rattle.record.specs.Sending.{sent_pieces}
 use Rattle.soundness.proofs.Sound.WantPreconditionLemmas.{Plain, advance_ready, lacking_of}
 use Rattle.soundness.proofs.Sound.RestartLemmas.{anew_due}
-use Rattle.transfer.specs.Limits.{IsBelowLimit}
+use Rattle.call.specs.StageLimits.{IsBelowLimit}
 use Rattle.register.specs.Causes.{unless, call_at, wants_due, due_step, due_cause, new_phase_cause}
 use Rattle.call.specs.Pieces.{piece_from, HavePieces}
 use Rattle.register.specs.Position.{Position}

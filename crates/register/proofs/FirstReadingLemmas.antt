@@ -16,7 +16,7 @@ use Rattle.record.specs.declared.stage.Want.TheVariants as want
 use Rattle.record.specs.PhaseOrder.{begun_at, due}
 use Rattle.record.specs.Records.{Object, layout_at, no_bank, retired_first}
 use Rattle.record.specs.Wants.{is_fetch, value_len, want_after}
-use Rattle.transfer.specs.Limits.{IsBelowLimit}
+use Rattle.call.specs.StageLimits.{IsBelowLimit}
 use Rattle.register.specs.Coding.{pieces_position}
 use Rattle.register.proofs.ListLemmas.{same_some}
 

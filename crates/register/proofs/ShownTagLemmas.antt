@@ -23,7 +23,7 @@ use Rattle.record.specs.Fragments.{Code, IfCoded, answer_tag, answer_piece}
 use Rattle.record.specs.Journals.{IsJournaled}
 use Rattle.record.specs.Legal.{first_stage, source_of, stage_of}
 use Rattle.soundness.specs.Sound.{IsSound}
-use Rattle.transfer.specs.Limits.{IsTaggable, HasNextTag}
+use Rattle.call.specs.StageLimits.{IsTaggable, HasNextTag}
 use Rattle.register.proofs.GreatestTagLemmas.{FoundUpTo, ShownUpTo, later_up_to, greatest_up_to, stage_up_to, first_up_to}
 use Rattle.soundness.proofs.ListLemmas.{all_get, all_push}
 use Rattle.register.proofs.ListLemmas.{all_weaker}

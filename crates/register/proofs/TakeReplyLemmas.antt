@@ -20,7 +20,7 @@ use Rattle.soundness.specs.Sound.{IsSound, IsPosted}
 use Rattle.record.specs.Records.{index_by_id}
 use Rattle.record.specs.Steps.{Step, taken_calls, taking_call, taking_phases}
 use Rattle.record.specs.Wants.{current_phase}
-use Rattle.transfer.specs.Limits.{IsBelowLimit, HasNextTag}
+use Rattle.call.specs.StageLimits.{IsBelowLimit, HasNextTag}
 use Rattle.register.specs.Tracked.{Tracked, calls_of, taken_tracked, stage_taken, took_call, took_current}
 use Rattle.register.specs.State.{Contents, State, object_of, state_of, made}
 use Rattle.register.specs.Kept.{IsKept}

@@ -16,7 +16,7 @@ use Rattle.record.specs.declared.stage.Stage.{Stage}
 use Rattle.record.specs.PhaseOrder.{begun_at, passed, stage_past, stage_after}
 use Rattle.record.specs.Steps.{taking_phases}
 use Rattle.record.specs.Wants.{current_phase}
-use Rattle.transfer.specs.Limits.{IsBelowLimit, HasNextTag}
+use Rattle.call.specs.StageLimits.{IsBelowLimit, HasNextTag}
 use Rattle.call.specs.Call.{OpenCall, IsCall, reached}
 use Rattle.call.specs.Limits.{CanReach}
 use Rattle.call.specs.Steps.{taken_call}

@@ -14,7 +14,7 @@ ghost use Rattle.record.specs.Steps.{new_call};
 ghost use Rattle.record.specs.Sending.{requests};
 ghost use Rattle.record.specs.Wants.{current_phase};
 ghost use Rattle.call.specs.Pieces.{HavePieces, piece_from};
-ghost use Rattle.transfer.specs.Limits.{IsBelowLimit, HasNextTag};
+ghost use Rattle.call.specs.StageLimits.{IsBelowLimit, HasNextTag};
 ghost use Rattle.register.specs.Causes.{unless};
 ghost use Rattle.register.specs.Kept.{HasRoomIfFew};
 ghost use Rattle.register.specs.Tracked.{with_begun, asked_again, taken_tracked, took_current};

@@ -2,14 +2,13 @@
 use crate::same::assert_row;
 use bank::{Answer, Kind, Reply, Status};
 use bytes::Bytes;
+use call::{begun_at, due, first_stage, greatest_tag, next_phase, passed, stage_tag};
 use mail::{Body, Message};
 use phase::{Ask, Phase};
 use record::{CallKind, Stage};
 use std::alloc::Global;
 use std::process::Abort;
-use successor::greatest_tag;
 use tag::Tag;
-use transfer::{begun_at, due, first_stage, next_phase, passed, stage_tag};
 
 const FIRST: Tag = Tag { number: 1, call: 1 };
 

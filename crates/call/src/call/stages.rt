@@ -10,12 +10,11 @@ ghost use Rattle.call.specs.Next.{leads_back, leads_to, next_of};
 
 use crate::call::Call;
 use crate::next::Next;
+use crate::{due, greatest_tag, passed};
 use bank::Kind;
 use phase::Taken;
 use record::{CallKind, Stage};
-use successor::greatest_tag;
 use tag::Tag;
-use transfer::{due, passed};
 
 impl Call {
     /// Returns the stage to which the current phase leads: while it lacks a quorum, the stage at which it began.

@@ -21,12 +21,11 @@ use crate::register::phases::{index_of, want_of};
 use crate::tracked_call::TrackedCall;
 use bank::{Kind, Status};
 use bytes::Bytes;
-use call::Receipt;
+use call::{Receipt, first_stage};
 use layout::Layout;
 use phase::Ask;
 use record::{CallKind, Operation, Want};
 use tag::{CallId, LONGEST_VALUE, MOST_STEPS, Refusal, Stamp};
-use transfer::first_stage;
 
 impl Register {
     /// Begins a read: its first phase sends a request Next to each of the n members of the base. Returns the call's

@@ -16,11 +16,11 @@ use crate::register::Register;
 use crate::register::coding::pieces_position;
 use crate::register::phases::{index_of, want_of, wants_due};
 use bank::Kind;
+use call::{begun_at, due};
 use decoder::Decoded;
 use encoder::Coded;
 use record::Want;
 use tag::{CallId, MOST_STEPS, Refusal, Stamp};
-use transfer::{begun_at, due};
 
 impl Register {
     // The index of the call of this number, with the kind and the position of the phase that is due, if the call wants

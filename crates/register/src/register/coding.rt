@@ -22,13 +22,13 @@ use crate::register::Register;
 use crate::register::phases::{index_of, is_pre_write, is_replied, want_of};
 use crate::tracked_call::TrackedCall;
 use bytes::Bytes;
+use call::due;
 use decoder::Decoded;
 use encoder::Coded;
 use phase::Phase;
 use piece::Piece;
 use record::Want;
 use tag::{CallId, MOST_STEPS, Refusal, Stamp};
-use transfer::due;
 
 impl Register {
     /// Returns the value whose pieces the call of this number is to send, with the k and the n of the layout that gets

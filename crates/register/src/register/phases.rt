@@ -18,10 +18,10 @@ use crate::position::Position;
 use crate::register::Register;
 use crate::tracked_call::TrackedCall;
 use bank::{Answer, Kind};
+use call::due;
 use phase::{Phase, Taken};
 use record::Want;
 use tag::{CallId, MOST_STEPS, Refusal, Stamp};
-use transfer::due;
 
 impl Register {
     /// Returns what the call of this number wants next: `Done` if it is answered. It allocates no memory.

@@ -17,13 +17,12 @@ use crate::register::Register;
 use crate::register::phases::{index_of, want_of};
 use bank::{Bank, Kind};
 use bytes::Bytes;
-use call::CallView;
+use call::{CallView, stage_tag};
 use layout::Layout;
 use mail::Mail;
 use phase::Phase;
 use record::{Entry, Stage};
 use tag::{CallId, Refusal, Tag};
-use transfer::stage_tag;
 
 impl Register {
     /// Returns whether the object has a move that is not answered.

@@ -2,7 +2,7 @@ use Rattle.std.proofs.Common.{◌≡◌, is_some, true, false, Some, sym, ap, su
 use Rattle.phase.specs.Phase.{Phase, after_take}
 use Rattle.record.specs.PhaseOrder.{begun_at}
 use Rattle.record.specs.Wants.{current_phase}
-use Rattle.transfer.specs.Limits.{IsBelowLimit, HasNextTag}
+use Rattle.call.specs.StageLimits.{IsBelowLimit, HasNextTag}
 use Rattle.call.specs.Call.{OpenCall}
 use Rattle.call.specs.Limits.{CanReach}
 use Rattle.register.specs.Tracked.{Tracked, taken_tracked, took_current}

@@ -1,5 +1,0 @@
-use Rattle.successor.proofs.ReadingPathLemmas
-use Rattle.successor.proofs.readings_lead_to_the_end.Goals as goal
-
-pub returns : goal.returns
-returns c = ReadingPathLemmas.readings_lead_to_the_end

@@ -1,6 +1,0 @@
-use Rattle.record.proofs.Phases.WholeCallLemmas
-use Rattle.transfer.proofs.MoveStageLemmas
-use Rattle.transfer.proofs.moves_are_in_order.Goals as goal
-
-pub returns : goal.returns
-returns c = MoveStageLemmas.moves_are_in_order WholeCallLemmas.finished_are_whole
