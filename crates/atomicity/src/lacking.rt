@@ -3,7 +3,7 @@ ghost use Rattle.std.specs.Prelude.{◌≡◌, ◌<◌, ◌≤◌, ◌+◌, ◌�
 ghost use Rattle.std.specs.Prelude.{ℕ, false, length, Option, Some, slice_get};
 ghost use Rattle.tag.specs.declared.tag.Tag.{Tag};
 ghost use Rattle.bank.specs.Collect.{final_pieces};
-ghost use Rattle.phase.specs.Phase.{lacks_pieces, Phase};
+ghost use Rattle.mail.specs.Phase.{lacks_pieces, Phase};
 ghost use Rattle.record.specs.Fragments.{Code, HasDropped, HasEnough, IsFetch};
 ghost use Rattle.atomicity.specs.Lacking.{IsLackingFetch, IsOverlapped};
 ghost use Rattle.record.specs.Records.{bank_at, Call, IsRetiredBy, layout_at, Object};

@@ -7,8 +7,8 @@ use Rattle.bank.specs.declared.kind.Kind.{Kind}
 use Rattle.bank.specs.declared.kind.Kind.TheVariants as kind
 use Rattle.bank.specs.declared.status.Status.{Status}
 use Rattle.bank.specs.declared.status.Status.TheVariants.{Unset, Pending, Final}
-use Rattle.phase.specs.Phase.{Phase, lacks_pieces}
-use Rattle.phase.specs.declared.phase.Taken.{Taken}
+use Rattle.mail.specs.Phase.{Phase, lacks_pieces}
+use Rattle.mail.specs.declared.phase.Taken.{Taken}
 use Rattle.record.specs.declared.call.CallKind.{CallKind}
 use Rattle.record.specs.declared.stage.Stage.{Stage}
 use Rattle.record.specs.PhaseOrder.{begun_at, greatest_status, after_next, after_again, after, passed, stage_after}

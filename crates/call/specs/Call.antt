@@ -1,6 +1,6 @@
 -- A call that is not answered, and the stage that it has reached.
 use Rattle.std.specs.Prelude.{◌≡◌, ℕ, List, Option}
-use Rattle.phase.specs.Phase.{Phase, lacks_pieces}
+use Rattle.mail.specs.Phase.{Phase, lacks_pieces}
 use Rattle.record.specs.declared.call.CallKind.{CallKind}
 use Rattle.record.specs.declared.stage.Stage.{Stage}
 use Rattle.record.specs.PhaseOrder.{begun_at, passed}

@@ -2,7 +2,7 @@
 -- What a call does next.
 use Rattle.std.specs.Prelude.{ℕ, Bool, ◌&&◌, not, is_some, if◌then◌else◌, Option, Some, None}
 use Rattle.bank.specs.declared.kind.Kind.{Kind}
-use Rattle.phase.specs.Phase.{lacks_pieces}
+use Rattle.mail.specs.Phase.{lacks_pieces}
 use Rattle.record.specs.PhaseOrder.{due}
 use Rattle.record.specs.Wants.{is_fetch}
 use Rattle.call.specs.declared.next.Next.{Next}

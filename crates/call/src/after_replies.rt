@@ -12,7 +12,7 @@ ghost use Rattle.call.specs.Moves.{after_move};
 
 use crate::{Reading, greatest_status, greatest_tag};
 use bank::Status;
-use phase::Taken;
+use mail::Taken;
 use record::{CallKind, Stage};
 use tag::{CallId, Tag};
 

@@ -1,6 +1,6 @@
 ghost use Rattle.std.specs.Prelude.{◌≡◌, suc, ◌<◌, ◌^◌, Some, IfOk, IfErr, OnOk, OnErr};
 ghost use Rattle.tag.specs.declared.refusal.Refusal.TheVariants.{NoMemory};
-ghost use Rattle.phase.specs.Phase.{took_by};
+ghost use Rattle.mail.specs.Phase.{took_by};
 ghost use Rattle.record.specs.Steps.{new_phase};
 ghost use Rattle.call.specs.Call.{reached};
 ghost use Rattle.call.specs.Limits.{CanReach};
@@ -10,8 +10,7 @@ use crate::begun_at;
 use bank::Kind;
 use bytes::Bytes;
 use layout::Layout;
-use mail::Message;
-use phase::{Ask, Phase, Took};
+use mail::{Ask, Message, Phase, Took};
 use record::{CallKind, Stage};
 use std::alloc::Global;
 use std::marker::Model;

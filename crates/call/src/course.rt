@@ -9,7 +9,7 @@ ghost use Rattle.call.specs.StageLimits.{IsBelowLimit, HasNextTag};
 use crate::Reading;
 use crate::after_replies::{after, first};
 use bank::{Kind, Status};
-use phase::Phase;
+use mail::Phase;
 use record::{CallKind, Stage};
 use tag::{CallId, Tag};
 

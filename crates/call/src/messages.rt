@@ -9,8 +9,7 @@ ghost use Rattle.call.specs.Pieces.{piece_from, HavePieces, HavePieceOf};
 
 use bank::{Kind, Request};
 use encoder::Coded;
-use mail::{Body, Message};
-use phase::Ask;
+use mail::{Ask, Body, Message};
 use std::alloc::Global;
 use tag::Refusal;
 

@@ -7,7 +7,7 @@ ghost use Rattle.call.specs.Moves.{last_phases, move_phases, queried_tag};
 
 use crate::course::{due, passed};
 use bank::Kind;
-use phase::Phase;
+use mail::Phase;
 use record::{CallKind, Stage};
 
 /// Returns the phase that is next, with its position, in a move from the position `from` to the one after it. `done`

@@ -2,7 +2,7 @@ ghost use Rattle.std.specs.Prelude.{◌≡◌};
 ghost use Rattle.record.specs.PhaseOrder.{later_status, shown_status, shown_tag, greatest_status, greatest_tag};
 
 use bank::{Answer, Status};
-use phase::Taken;
+use mail::Taken;
 use tag::Tag;
 
 /// Returns the greatest status of a pointer that the replies show, or unset if they show none.

@@ -9,7 +9,7 @@ use Rattle.bank.specs.declared.kind.Kind.{Kind}
 use Rattle.mail.specs.declared.message.Message.{Message}
 use Rattle.mail.specs.declared.message.Body.{Body}
 use Rattle.mail.specs.declared.message.Body.TheVariants as body
-use Rattle.phase.specs.Phase.{Phase}
+use Rattle.mail.specs.Phase.{Phase}
 use Rattle.record.specs.Legal.{due_of}
 use Rattle.record.specs.Records.{Call, Object, base_of, index_by_id}
 use Rattle.record.specs.Wants.{current_phase}

@@ -4,7 +4,7 @@ use Rattle.std.specs.List.{AllByRecursion, range_with_len}
 use Rattle.tag.specs.declared.tag.Tag.{Tag}
 use Rattle.encoder.specs.Fragment.{fragment}
 use Rattle.bank.specs.Collect.{final_pieces}
-use Rattle.phase.specs.Phase.{Phase}
+use Rattle.mail.specs.Phase.{Phase}
 use Rattle.atomicity.specs.Atomic.{IsAtomic}
 use Rattle.record.specs.Fragments.{AreCoded, HasDropped, HasEnough, IsFetch, kind_tag}
 use Rattle.atomicity.specs.Lacking.{IsLackingFetch, IsOverlapped}

@@ -3,7 +3,7 @@
 #![tactic(auto)]
 
 pub use cluster::{Accounts, Cluster, LayoutId};
-pub use phase::Took;
+pub use mail::Took;
 pub use record::{Entry, Want};
 pub use register::Receipt;
 pub use tag::CallId;

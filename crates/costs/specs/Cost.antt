@@ -13,8 +13,8 @@ use Rattle.bank.specs.Bank.{Bank}
 use Rattle.bank.specs.declared.kind.Kind.{Kind}
 use Rattle.bank.specs.declared.kind.Kind.TheVariants.{Next, Spread, Query, PreWrite, Finalize, Fetch}
 use Rattle.bank.specs.declared.row.Row.{Row}
-use Rattle.phase.specs.declared.phase.Taken.{Taken}
-use Rattle.phase.specs.Phase.{Phase}
+use Rattle.mail.specs.declared.phase.Taken.{Taken}
+use Rattle.mail.specs.Phase.{Phase}
 use Rattle.record.specs.Accounts.{member_sum}
 use Rattle.record.specs.Records.{Object}
 use Rattle.register.specs.View.{bank_there, phases_at, value_at}

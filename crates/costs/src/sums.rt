@@ -7,7 +7,7 @@ ghost use Rattle.std.specs.FinMap as map;
 ghost use Rattle.std.specs.Io.Iter.{u64_saturate};
 
 use bank::{Bank, Kind, Row};
-use phase::{Phase, Taken};
+use mail::{Phase, Taken};
 use register::Register;
 use tag::{CallId, Tag};
 

@@ -9,7 +9,7 @@ use Rattle.tag.specs.declared.refusal.Refusal.{Refusal}
 use Rattle.tag.specs.declared.refusal.Refusal.TheVariants.{NoMemory, NotNow}
 use Rattle.encoder.specs.Fragment.{fragment}
 use Rattle.mail.specs.Mail.{mail_cause}
-use Rattle.phase.specs.Phase.{Phase}
+use Rattle.mail.specs.Phase.{Phase}
 use Rattle.record.specs.Records.{Call, Object}
 use Rattle.record.specs.Legal.{BeginsAt}
 use Rattle.soundness.specs.Sound.{IsSound}

@@ -6,7 +6,7 @@ use Rattle.std.specs.List.{AllByRecursion, IsDistinct}
 use Rattle.std.proofs.lemmas.Bool.{eqb-true}
 use Rattle.piece.specs.declared.piece.Piece.{Piece}
 use Rattle.decoder.specs.Pieces.{points_of}
-use Rattle.phase.specs.declared.phase.Taken.{Taken}
+use Rattle.mail.specs.declared.phase.Taken.{Taken}
 use Rattle.register.specs.Coding.{piece_by, piece_list, pieces_below}
 use Rattle.driver.proofs.ReplyPieceLemmas.{Brought, IsOf, by_member, all_both, all_take, all_below}
 

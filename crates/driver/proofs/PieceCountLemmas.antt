@@ -4,7 +4,7 @@ use Rattle.std.proofs.Common.{None, sym, subst, refl, arith}
 use Rattle.std.specs.List.{AllByRecursion, IsDistinct}
 use Rattle.std.proofs.lemmas.Bool.{eqb-true, eq-eqb}
 use Rattle.piece.specs.declared.piece.Piece.{Piece}
-use Rattle.phase.specs.declared.phase.Taken.{Taken}
+use Rattle.mail.specs.declared.phase.Taken.{Taken}
 use Rattle.register.specs.Coding.{piece_by, piece_list, pieces_below}
 use Rattle.register.proofs.RoomLemmas.{length_append}
 

@@ -10,8 +10,8 @@ use Rattle.piece.specs.declared.piece.Piece.{Piece}
 use Rattle.bank.specs.declared.kind.Kind.TheVariants.{Fetch}
 use Rattle.bank.specs.declared.reply.Answer.{Answer}
 use Rattle.bank.specs.declared.reply.Answer.TheVariants as answer
-use Rattle.phase.specs.declared.phase.Taken.{Taken}
-use Rattle.phase.specs.Phase.{members_of}
+use Rattle.mail.specs.declared.phase.Taken.{Taken}
+use Rattle.mail.specs.Phase.{members_of}
 use Rattle.record.specs.Records.{Object, layout_at}
 use Rattle.record.specs.Fragments.{IsValue, IfCoded, answer_piece, answer_tag}
 use Rattle.record.specs.Journals.{IsJournaled}

@@ -8,7 +8,7 @@ use Rattle.tag.specs.declared.refusal.Refusal.TheVariants.{WrongCode}
 use Rattle.layout.specs.Layout.{Layout}
 use Rattle.piece.specs.declared.piece.Piece.{Piece}
 use Rattle.decoder.specs.Decoded.{Decoding}
-use Rattle.phase.specs.declared.phase.Taken.{Taken}
+use Rattle.mail.specs.declared.phase.Taken.{Taken}
 use Rattle.record.specs.Records.{Object, layout_at}
 use Rattle.record.specs.Fragments.{answer_piece}
 use Rattle.record.specs.Wants.{current_phase, value_len, want_of}

@@ -14,8 +14,7 @@ ghost use Rattle.driver.specs.Driver.{wanted, IsTurn, IsRefused};
 use crate::Chooser;
 use crate::choices::{Filter, choose};
 use cluster::Cluster;
-use mail::Body;
-use phase::Took;
+use mail::{Body, Took};
 use register::Register;
 use tag::{CallId, Refusal};
 

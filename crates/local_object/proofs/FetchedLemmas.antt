@@ -14,7 +14,7 @@ use Rattle.decoder.specs.Decoded.{IsDecoded}
 use Rattle.std.proofs.Common.{◌⊎◌, inl, inr, subst}
 use Rattle.std.proofs.lemmas.Option.{none-some, same_Some}
 use Rattle.layout.specs.Layout.{Layout}
-use Rattle.phase.specs.declared.phase.Taken.{Taken}
+use Rattle.mail.specs.declared.phase.Taken.{Taken}
 use Rattle.record.specs.Fragments.{answer_piece, HasPiece, HasPieces}
 use Rattle.record.specs.Records.{Object, layout_at}
 use Rattle.call.specs.Call.{OpenCall as Machine}

@@ -2,7 +2,7 @@
 use Rattle.std.proofs.Common.{◌≡◌, ℕ, ◌&&◌, not, Bool, true, false, cond, is_some, IsSome, Option, Some, None, refl, ap, ◌∙◌}
 use Rattle.bank.specs.declared.kind.Kind.{Kind}
 use Rattle.bank.specs.declared.kind.Kind.TheVariants.{Next, Spread, Query, PreWrite, Finalize, Fetch}
-use Rattle.phase.specs.Phase.{lacks_pieces}
+use Rattle.mail.specs.Phase.{lacks_pieces}
 use Rattle.record.specs.Fragments.{IsFetch}
 use Rattle.record.specs.PhaseOrder.{begun_at, due}
 use Rattle.record.specs.Wants.{is_fetch}

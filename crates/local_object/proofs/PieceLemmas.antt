@@ -4,7 +4,7 @@ use Rattle.std.proofs.Common.{ap, ◌∙◌}
 use Rattle.std.proofs.Common.{append_assoc, arith}
 use Rattle.std.specs.Option.{option_to_list}
 use Rattle.piece.specs.declared.piece.Piece.{Piece}
-use Rattle.phase.specs.declared.phase.Taken.{Taken}
+use Rattle.mail.specs.declared.phase.Taken.{Taken}
 use Rattle.local_object.specs.Pieces.{own_piece, own_pieces}
 
 pub nil_right : {X : Type 0} (xs : List X) → xs ++ [] ≡ xs

@@ -3,7 +3,7 @@ use Rattle.std.proofs.Common.{◌≡◌, ℕ, suc, ◌+◌, Bool, true, false, c
 use Rattle.std.proofs.Common.{Option, Some, None, refl, sym, ap, ◌∙◌, arith}
 use Rattle.std.specs.List.{AllByRecursion}
 use Rattle.layout.specs.Layout.{Layout}
-use Rattle.phase.specs.Phase.{has_taken}
+use Rattle.mail.specs.Phase.{has_taken}
 use Rattle.record.specs.Fragments.{Code}
 use Rattle.network.specs.Worlds.{NodeCall, open_call}
 use Rattle.local_object.specs.declared.letter.Letter.{Letter}

@@ -7,7 +7,7 @@ use Rattle.bank.specs.declared.kind.Kind.{Kind}
 use Rattle.bank.specs.declared.reply.Reply.{Reply}
 use Rattle.bank.specs.declared.request.Request.{Request}
 use Rattle.mail.specs.declared.message.Body.TheVariants as body
-use Rattle.phase.specs.Phase.{lacks_pieces}
+use Rattle.mail.specs.Phase.{lacks_pieces}
 use Rattle.record.specs.declared.call.CallKind.TheVariants.{Move}
 use Rattle.record.specs.Fragments.{Code, IsValue, IsFetch, HasPieces}
 use Rattle.record.specs.Records.{Object, layout_at}

@@ -2,7 +2,7 @@
 -- The pieces from which a call decodes the value that it fetched.
 use Rattle.std.specs.Prelude.{ℕ, ◌==◌, if◌then◌else◌, List, [], ◌∷◌, ◌++◌, take, Option, None, Some, option_to_list}
 use Rattle.piece.specs.declared.piece.Piece.{Piece}
-use Rattle.phase.specs.declared.phase.Taken.{Taken}
+use Rattle.mail.specs.declared.phase.Taken.{Taken}
 use Rattle.record.specs.Fragments.{answer_piece}
 
 -- the piece, if there is one and its point is that of this member

@@ -3,8 +3,8 @@
 use Rattle.std.specs.Prelude.{not, List, map, filter}
 use Rattle.encoder.specs.Fragment.{fragment}
 use Rattle.layout.specs.Layout.{Layout}
-use Rattle.phase.specs.Phase.{has_taken}
-use Rattle.phase.specs.declared.phase.Taken.{Taken}
+use Rattle.mail.specs.Phase.{has_taken}
+use Rattle.mail.specs.declared.phase.Taken.{Taken}
 use Rattle.record.specs.Sending.{fragment_piece, requests}
 use Rattle.call.specs.Call.{OpenCall as Machine}
 use Rattle.local_object.specs.declared.letter.Letter.{Letter}

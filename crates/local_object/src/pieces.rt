@@ -6,7 +6,7 @@ ghost use Rattle.piece.specs.declared.piece.Piece.{Piece as Fragment};
 ghost use Rattle.local_object.specs.Pieces.{first_pieces, own_piece};
 
 use bank::Answer;
-use phase::Taken;
+use mail::Taken;
 use piece::Piece;
 use std::alloc::Global;
 use tag::Refusal;

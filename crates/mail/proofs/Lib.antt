@@ -1,2 +1,4 @@
 pub mod CallBoundLemmas
+pub mod CompletePhaseLemmas
 pub mod MailBytesLemmas
+pub mod TakenReplyLemmas

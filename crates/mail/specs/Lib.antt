@@ -1,3 +1,5 @@
 pub mod Bounds
+pub mod Complete
 pub mod Mail
 pub mod Message
+pub mod Phase

@@ -1,5 +1,8 @@
-//! The mail of an object: its messages that wait to be handled. A message is a request to a member, or the reply of
-//! that member's bank.
+//! The mail of an object, which is its messages that wait to be handled, and the phases of its calls.
+//!
+//! A message is a request to a member, or the reply of that member's bank. A phase sends a request of the same kind to
+//! every member of one position, and is complete when the replies of a quorum have been taken. A `Phase` records what
+//! was asked, and which replies were taken.
 #![tactic(auto)]
 
 ghost use Rattle.std.specs.Prelude.{◌+◌, ◌≤◌, List, length};
@@ -11,10 +14,12 @@ ghost use Rattle.mail.specs.Message.{message_bytes};
 
 pub use mail::Mail;
 pub use message::{Body, Message};
+pub use phase::{Ask, Phase, Taken, Took, complete_means_quorum};
 
 mod bounds;
 mod mail;
 mod message;
+mod phase;
 
 /// A law: if at most `MOST_MESSAGES` messages wait, and none has a piece of more than `LONGEST_VALUE` bytes, then there
 /// is room for `LONGEST_VALUE` bytes more.

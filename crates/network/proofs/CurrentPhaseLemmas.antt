@@ -5,8 +5,8 @@ use Rattle.std.proofs.lemmas.List.Sums.{sum_by-cons}
 use Rattle.tag.specs.Tag.{later_tag}
 use Rattle.bank.specs.declared.kind.Kind.{Kind}
 use Rattle.bank.specs.Bank.{Bank}
-use Rattle.phase.specs.declared.phase.Taken.{Taken}
-use Rattle.phase.specs.Phase.{Phase, has_piece, lacks_pieces, pieces_in}
+use Rattle.mail.specs.declared.phase.Taken.{Taken}
+use Rattle.mail.specs.Phase.{Phase, has_piece, lacks_pieces, pieces_in}
 use Rattle.record.specs.declared.call.CallKind.{CallKind}
 use Rattle.record.specs.declared.stage.Stage.{Stage}
 use Rattle.record.specs.Fragments.{IsFetch}

@@ -3,8 +3,8 @@ use Rattle.std.proofs.Common.{◌≡◌, ℕ, suc, true, false, List, map, Optio
 use Rattle.std.proofs.Common.{refl, sym, subst, ap, ◌∙◌, slice_get}
 use Rattle.std.proofs.lemmas.Option.{same_Some, slice_get-map}
 use Rattle.bank.specs.declared.kind.Kind.{Kind}
-use Rattle.phase.specs.declared.phase.Taken.{Taken}
-use Rattle.phase.specs.Phase.{Phase, lacks_pieces}
+use Rattle.mail.specs.declared.phase.Taken.{Taken}
+use Rattle.mail.specs.Phase.{Phase, lacks_pieces}
 use Rattle.record.specs.declared.stage.Want.TheVariants as want
 use Rattle.record.specs.Fragments.{Code, HasPieces}
 use Rattle.record.specs.Legal.{first_stage, due_of}

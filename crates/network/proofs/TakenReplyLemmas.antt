@@ -7,7 +7,7 @@ use Rattle.bank.specs.declared.reply.Reply.{Reply}
 use Rattle.mail.specs.declared.message.Body.{Body}
 use Rattle.mail.specs.declared.message.Body.TheVariants as body
 use Rattle.mail.specs.declared.message.Message.{Message}
-use Rattle.phase.specs.Phase.{after_take}
+use Rattle.mail.specs.Phase.{after_take}
 use Rattle.record.specs.Legal.{first_stage, source_of}
 use Rattle.record.specs.PhaseOrder.{begun_at, stage_after}
 use Rattle.record.specs.Records.{Object, index_by_id}

@@ -7,8 +7,8 @@ use Rattle.mail.specs.declared.message.Body.{Body}
 use Rattle.mail.specs.declared.message.Body.TheVariants as body
 use Rattle.mail.specs.declared.message.Message.{Message}
 use Rattle.mail.specs.Message.{body_kind}
-use Rattle.phase.specs.declared.phase.Taken.{Taken}
-use Rattle.phase.specs.Phase.{Phase, after_body, after_reply, after_take, has_taken, makes_quorum, with_reply}
+use Rattle.mail.specs.declared.phase.Taken.{Taken}
+use Rattle.mail.specs.Phase.{Phase, after_body, after_reply, after_take, has_taken, makes_quorum, with_reply}
 use Rattle.record.specs.Steps.{taking_phases}
 use Rattle.network.specs.Unstamped.{unstamped, unstamped_body, unstamped_message, unstamped_phase, unstamped_reply, unstamped_taken}
 

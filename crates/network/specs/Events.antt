@@ -16,7 +16,7 @@ use Rattle.mail.specs.Message.{answered}
 use Rattle.mail.specs.declared.message.Body.{Body}
 use Rattle.mail.specs.declared.message.Body.TheVariants as body
 use Rattle.mail.specs.declared.message.Message.{Message}
-use Rattle.phase.specs.Phase.{after_take, lacks_pieces}
+use Rattle.mail.specs.Phase.{after_take, lacks_pieces}
 use Rattle.record.specs.declared.call.CallKind.{CallKind}
 use Rattle.record.specs.declared.call.CallKind.TheVariants.{Read, Write, Move}
 use Rattle.record.specs.declared.call.Entry.{Entry}

@@ -14,8 +14,8 @@ use Rattle.bank.specs.declared.status.Pointer.TheVariants as pointer
 use Rattle.mail.specs.declared.message.Body.{Body}
 use Rattle.mail.specs.declared.message.Body.TheVariants as body
 use Rattle.mail.specs.declared.message.Message.{Message}
-use Rattle.phase.specs.declared.phase.Taken.{Taken}
-use Rattle.phase.specs.Phase.{Phase}
+use Rattle.mail.specs.declared.phase.Taken.{Taken}
+use Rattle.mail.specs.Phase.{Phase}
 
 -- the stamp of an event without its number, if the event happened
 abbrev pub unstamped : Option ℕ → Option ℕ

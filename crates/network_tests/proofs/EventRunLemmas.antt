@@ -4,8 +4,8 @@ use Rattle.std.proofs.Common.{refl, sym, ap, ◌∙◌, arith, slice_get}
 use Rattle.std.specs.List.{IsDistinct}
 use Rattle.tag.specs.declared.limits.TheConstants.{LONGEST_VALUE}
 use Rattle.bank.specs.declared.reply.Answer.TheVariants as answer
-use Rattle.phase.specs.declared.phase.Taken.{Taken}
-use Rattle.phase.specs.Phase.{lacks_pieces}
+use Rattle.mail.specs.declared.phase.Taken.{Taken}
+use Rattle.mail.specs.Phase.{lacks_pieces}
 use Rattle.record.specs.Fragments.{IsFetch, IsValue}
 use Rattle.record.specs.Wants.{is_fetch}
 use Rattle.network.specs.Worlds.{NodeCall, World, known_layout}

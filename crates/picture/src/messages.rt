@@ -2,7 +2,7 @@
 use crate::loss::Loss;
 use crate::object_view::ObjectView;
 use crate::plan::Plan;
-use phase::{Phase, Taken};
+use mail::{Phase, Taken};
 use std::fmt;
 use tag::{CallId, Stamp};
 

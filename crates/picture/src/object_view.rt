@@ -1,7 +1,7 @@
 //! What a picture reads of an object.
 use bank::Bank;
 use layout::Layout;
-use phase::Phase;
+use mail::Phase;
 use tag::{CallId, Stamp};
 
 /// An object, as a picture reads it. Positions and members count from 0, and calls from 1.

@@ -4,7 +4,7 @@ use crate::object_view::ObjectView;
 use crate::plan::{LETTER, Plan, WORD};
 use crate::px::Px;
 use crate::text::{Course, KindText, Short, kind_letter};
-use phase::Phase;
+use mail::Phase;
 use printing::kind_word;
 use record::Entry;
 use std::fmt;

@@ -6,7 +6,7 @@ use crate::lane::Lane;
 use crate::object_view::ObjectView;
 use crate::place::Place;
 use crate::px::Px;
-use phase::Phase;
+use mail::Phase;
 use record::Entry;
 use std::alloc::{AllocError, Global};
 use tag::{CallId, MOST_POSITIONS, Stamp};

@@ -2,7 +2,7 @@
 -- What is reported about a command that may change the cluster.
 use Rattle.std.specs.Prelude.{ℕ, List, Result, Ok, Err}
 use Rattle.tag.specs.declared.refusal.Refusal.{Refusal}
-use Rattle.phase.specs.declared.phase.Took.{Took}
+use Rattle.mail.specs.declared.phase.Took.{Took}
 use Rattle.printing.specs.declared.outcome.Outcome.TheVariants as outcome
 use Rattle.printing.specs.Outcome.{outcome_text}
 use Rattle.printing.specs.AnswerLine.{answer_text}

@@ -3,7 +3,7 @@ ghost use Rattle.std.specs.Prelude.{◌≡◌, Some};
 ghost use Rattle.player.specs.Report.{report_text};
 
 use driver::NotAnswered;
-use phase::Took;
+use mail::Took;
 use printing::{AnswerLine, Outcome};
 use register::Receipt;
 use std::fmt;

@@ -7,8 +7,8 @@ use Rattle.bank.specs.declared.row.Label.{Label}
 use Rattle.bank.specs.declared.row.Label.TheVariants as label
 use Rattle.bank.specs.declared.status.Status.{Status}
 use Rattle.bank.specs.declared.status.Status.TheVariants as status
-use Rattle.phase.specs.declared.phase.Took.{Took}
-use Rattle.phase.specs.declared.phase.Took.TheVariants as took
+use Rattle.mail.specs.declared.phase.Took.{Took}
+use Rattle.mail.specs.declared.phase.Took.TheVariants as took
 use Rattle.record.specs.declared.call.Operation.{Operation}
 use Rattle.record.specs.declared.call.Operation.TheVariants as operation
 use Rattle.record.specs.declared.stage.Want.{Want}

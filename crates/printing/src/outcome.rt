@@ -3,7 +3,7 @@ ghost use Rattle.std.specs.Prelude.{Some};
 ghost use Rattle.printing.specs.Outcome.{outcome_text};
 
 use crate::vocabulary::took_word;
-use phase::Took;
+use mail::Took;
 use std::fmt;
 use tag::{CallId, Refusal};
 

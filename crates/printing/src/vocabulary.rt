@@ -4,7 +4,7 @@ ghost use Rattle.printing.specs.Vocabulary.{word_of_kind, word_of_label, word_of
 ghost use Rattle.printing.specs.Vocabulary.{word_of_status, word_of_took, word_of_want};
 
 use bank::{Kind, Label, Status};
-use phase::Took;
+use mail::Took;
 use record::{Operation, Want};
 
 /// Returns the word for what a phase asks.

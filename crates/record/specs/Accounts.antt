@@ -12,7 +12,7 @@ use Rattle.mail.specs.Message.{request_bytes, message_bytes}
 use Rattle.mail.specs.declared.message.Message.{Message}
 use Rattle.mail.specs.declared.message.Body.{Body}
 use Rattle.mail.specs.declared.message.Body.TheVariants as body
-use Rattle.phase.specs.Phase.{Phase}
+use Rattle.mail.specs.Phase.{Phase}
 use Rattle.record.specs.Fragments.{Code}
 use Rattle.record.specs.Legal.{due_of}
 use Rattle.record.specs.Records.{Call, Object, layout_at, bank_at, base_of}

@@ -16,8 +16,8 @@ use Rattle.bank.specs.Bank.{knows, piece_of}
 use Rattle.bank.specs.Knowledge.{is_dropped_at}
 use Rattle.mail.specs.declared.message.Body.{Body}
 use Rattle.mail.specs.declared.message.Body.TheVariants as body
-use Rattle.phase.specs.declared.phase.Taken.{Taken}
-use Rattle.phase.specs.Phase.{Phase, lacks_pieces}
+use Rattle.mail.specs.declared.phase.Taken.{Taken}
+use Rattle.mail.specs.Phase.{Phase, lacks_pieces}
 use Rattle.record.specs.declared.call.CallKind.TheVariants.{Read, Write}
 use Rattle.record.specs.Records.{Call, Object, layout_at, bank_at}
 use Rattle.record.specs.Journals.{IsJournaled}

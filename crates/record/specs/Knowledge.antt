@@ -3,8 +3,8 @@ use Rattle.std.specs.Prelude.{◌≡◌, ℕ, ◌<◌, ◌≤◌, nat_eq, length
 use Rattle.std.specs.List.{AllByRecursion, IsDistinct}
 use Rattle.layout.specs.Layout.{Layout, quorum_of}
 use Rattle.bank.specs.Knowledge.{IsTrueAnswer}
-use Rattle.phase.specs.declared.phase.Taken.{Taken}
-use Rattle.phase.specs.Phase.{Phase, members_of}
+use Rattle.mail.specs.declared.phase.Taken.{Taken}
+use Rattle.mail.specs.Phase.{Phase, members_of}
 use Rattle.record.specs.Records.{Object, layout_at, bank_at}
 
 -- a member of the phase's position made the reply after the phase began and before it was taken, and the reply is true

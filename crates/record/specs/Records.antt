@@ -7,7 +7,7 @@ use Rattle.bank.specs.Bank.{Bank}
 use Rattle.bank.specs.Knowledge.{came_by}
 use Rattle.bank.specs.declared.status.Pointer.TheVariants as pointer
 use Rattle.mail.specs.declared.message.Message.{Message}
-use Rattle.phase.specs.Phase.{Phase}
+use Rattle.mail.specs.Phase.{Phase}
 use Rattle.record.specs.declared.call.CallKind.{CallKind}
 
 -- a call: the id by which messages, phases and tags name it, its kind, the steps of its call and answer, its settled

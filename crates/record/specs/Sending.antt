@@ -10,7 +10,7 @@ use Rattle.bank.specs.declared.request.Request.{Request}
 use Rattle.bank.specs.declared.request.Request.TheVariants as request
 use Rattle.mail.specs.declared.message.Message.{Message}
 use Rattle.mail.specs.declared.message.Body.TheVariants as body
-use Rattle.phase.specs.Phase.{Phase, members_of}
+use Rattle.mail.specs.Phase.{Phase, members_of}
 use Rattle.record.specs.declared.call.CallKind.{CallKind}
 use Rattle.record.specs.declared.call.CallKind.TheVariants.{Read, Write, Move}
 use Rattle.record.specs.Records.{Call, Object, layout_at}

@@ -2,7 +2,7 @@
 -- The table of stages and the shape of whole calls agree.
 use Rattle.std.specs.Prelude.{◌≡◌, ◌↔◌, ℕ, List, [], ◌∷◌, Some, None, IsSome, slice_get}
 use Rattle.tag.specs.declared.tag.Tag.{Tag}
-use Rattle.phase.specs.Phase.{Phase}
+use Rattle.mail.specs.Phase.{Phase}
 use Rattle.record.specs.declared.call.CallKind.{CallKind}
 use Rattle.record.specs.declared.stage.Stage.{Stage}
 use Rattle.record.specs.PhaseOrder.{due, stage_after, IsCourse, BeginAtBase, IsEndedBefore}

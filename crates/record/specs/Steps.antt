@@ -15,7 +15,7 @@ use Rattle.mail.specs.declared.message.Message.{Message}
 use Rattle.mail.specs.declared.message.Body.{Body}
 use Rattle.mail.specs.declared.message.Body.TheVariants as body
 use Rattle.mail.specs.Message.{answered}
-use Rattle.phase.specs.Phase.{Phase, begun, after_take}
+use Rattle.mail.specs.Phase.{Phase, begun, after_take}
 use Rattle.record.specs.declared.call.CallKind.{CallKind}
 use Rattle.record.specs.declared.call.CallKind.TheVariants.{Read, Write, Move}
 use Rattle.record.specs.Records.{Call, Object, index_by_id, layout_at, bank_at, base_of}

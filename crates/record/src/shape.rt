@@ -1,7 +1,7 @@
 //! The order of phases is defined as a table of stages and as a shape of whole calls. Both definitions agree.
 ghost use Rattle.std.specs.Prelude.{◌≡◌, ◌≢◌, ℕ, List, Some};
 ghost use Rattle.tag.specs.declared.tag.Tag.{Tag};
-ghost use Rattle.phase.specs.Phase.{Phase};
+ghost use Rattle.mail.specs.Phase.{Phase};
 ghost use Rattle.record.specs.PhaseOrder.{IsCourse, stage_after};
 ghost use Rattle.record.specs.Grammar.{FindsTag};
 ghost use Rattle.record.specs.Shape.{AnsweredAreWhole, CoursesAreBeginnings, FinishedAreWhole};

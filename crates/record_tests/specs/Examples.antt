@@ -9,7 +9,7 @@ use Rattle.record.specs.Steps.{Step}
 use Rattle.record.specs.Steps.Step.{CallRead, CallWrite, CallMove, Advance, Again, Supply, Settle, AnswerCall}
 use Rattle.record.specs.Steps.Step.{Serve, Take, Retire}
 use Rattle.tag.specs.Tag.{opening_tag}
-use Rattle.phase.specs.Phase.{Phase}
+use Rattle.mail.specs.Phase.{Phase}
 use Rattle.record.specs.Records.{Call, Object}
 use Rattle.atomicity.specs.Lacking.{AreOverlapping, AreNoMore, IsLackingFetch}
 

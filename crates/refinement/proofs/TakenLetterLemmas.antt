@@ -5,7 +5,7 @@ use Rattle.bank.specs.declared.reply.Reply.{Reply}
 use Rattle.mail.specs.declared.message.Body.{Body}
 use Rattle.mail.specs.declared.message.Body.TheVariants as body
 use Rattle.mail.specs.declared.message.Message.{Message}
-use Rattle.phase.specs.Phase.{Phase, after_body, after_take, has_taken, is_current, with_reply}
+use Rattle.mail.specs.Phase.{Phase, after_body, after_take, has_taken, is_current, with_reply}
 use Rattle.record.specs.Fragments.{Code}
 use Rattle.network.specs.Worlds.{World, NodeCall, known_layouts, open_call, with_open}
 use Rattle.network.specs.Events.{Event, on_open, world_after, taking_open}

@@ -7,7 +7,7 @@ use Rattle.encoder.specs.Coded.{Coding}
 use Rattle.encoder.specs.Fragment.{fragment}
 use Rattle.mail.specs.declared.message.Message.{Message}
 use Rattle.mail.specs.Mail.{mail_cause}
-use Rattle.phase.specs.Phase.{Phase, members_of}
+use Rattle.mail.specs.Phase.{Phase, members_of}
 use Rattle.record.specs.Knowledge.{IsTruePhase}
 use Rattle.record.specs.Preconditions.{MayStep}
 use Rattle.record.specs.Records.{layout_at}

@@ -8,7 +8,7 @@ use Rattle.bank.specs.declared.kind.Kind.TheVariants.{Next}
 use Rattle.mail.specs.declared.message.Message.{Message}
 use Rattle.mail.specs.declared.message.Body.{Body}
 use Rattle.mail.specs.declared.message.Body.TheVariants as body
-use Rattle.phase.specs.Phase.{Phase, after_body, after_take, has_taken, is_current, lacks_pieces, with_reply}
+use Rattle.mail.specs.Phase.{Phase, after_body, after_take, has_taken, is_current, lacks_pieces, with_reply}
 use Rattle.record.specs.declared.stage.Stage.{Stage}
 use Rattle.record.specs.declared.stage.Stage.TheVariants.{ReadBegin}
 use Rattle.record.specs.declared.stage.Want.{Want}

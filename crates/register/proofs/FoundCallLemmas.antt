@@ -2,7 +2,7 @@
 use Rattle.std.proofs.Common.{◌≡◌, ℕ, suc, pred, ◌<◌, ◌≤◌, List, [], ◌∷◌, length, get_or, slice_get, Option, Some}
 use Rattle.std.proofs.Common.{None, option_map, IfSome, sym, ap, subst, ◌∙◌, refl}
 use Rattle.std.proofs.lemmas.Option.{slice_get_read, same_Some, slice_get_within}
-use Rattle.phase.specs.Phase.{Phase}
+use Rattle.mail.specs.Phase.{Phase}
 use Rattle.record.specs.PhaseOrder.{begun_at, due}
 use Rattle.record.specs.Legal.{due_of, stage_of, BeginsAt}
 use Rattle.record.specs.Wants.{current_phase, want_of}

@@ -8,8 +8,8 @@ use Rattle.bank.specs.Bank.{Bank, opened_bank}
 use Rattle.layout.specs.Quorum.{has}
 use Rattle.mail.specs.Bounds.{AreOthers}
 use Rattle.mail.specs.declared.message.Message.{Message}
-use Rattle.phase.specs.declared.phase.Taken.{Taken}
-use Rattle.phase.specs.Phase.{has_taken, members_of}
+use Rattle.mail.specs.declared.phase.Taken.{Taken}
+use Rattle.mail.specs.Phase.{has_taken, members_of}
 use Rattle.call.proofs.MemberListLemmas.{first_of, each_from, each_from-zero, append_none, request_for, requests_for}
 use Rattle.register.proofs.ListLemmas.{same_some}
 use Rattle.record.specs.Steps.{opened_banks}

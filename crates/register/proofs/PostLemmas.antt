@@ -9,7 +9,7 @@ use Rattle.encoder.specs.Fragment.{fragment}
 use Rattle.bank.specs.declared.kind.Kind.{Kind}
 use Rattle.bank.specs.declared.kind.Kind.TheVariants.{PreWrite}
 use Rattle.mail.specs.Mail.{mail_cause}
-use Rattle.phase.specs.Phase.{Phase, members_of}
+use Rattle.mail.specs.Phase.{Phase, members_of}
 use Rattle.record.specs.declared.stage.Want.{Want}
 use Rattle.record.specs.declared.stage.Want.TheVariants as want
 use Rattle.record.specs.Records.{Object, layout_at}

@@ -9,7 +9,7 @@ use Rattle.encoder.specs.Fragment.{fragment}
 use Rattle.mail.specs.declared.message.Message.{Message}
 use Rattle.mail.specs.declared.message.Body.{Body}
 use Rattle.mail.specs.declared.message.Body.TheVariants as body
-use Rattle.phase.specs.Phase.{Phase}
+use Rattle.mail.specs.Phase.{Phase}
 use Rattle.record.specs.Preconditions.{MayStep}
 use Rattle.record.specs.Records.{Call, Object, layout_at}
 use Rattle.record.specs.Steps.{Step}

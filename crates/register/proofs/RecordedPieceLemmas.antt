@@ -12,8 +12,8 @@ use Rattle.bank.specs.declared.reply.Answer.{Answer}
 use Rattle.bank.specs.declared.reply.Answer.TheVariants as answer
 use Rattle.encoder.specs.Fragment.{fragment}
 use Rattle.piece.specs.declared.piece.Piece.{Piece}
-use Rattle.phase.specs.declared.phase.Taken.{Taken}
-use Rattle.phase.specs.Phase.{Phase, lacks_pieces}
+use Rattle.mail.specs.declared.phase.Taken.{Taken}
+use Rattle.mail.specs.Phase.{Phase, lacks_pieces}
 use Rattle.record.specs.Records.{Call, Object, layout_at}
 use Rattle.record.specs.Fragments.{answer_piece, answer_tag, IfCoded}
 use Rattle.record.specs.Legal.{due_of}

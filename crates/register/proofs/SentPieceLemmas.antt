@@ -9,7 +9,7 @@ use Rattle.bank.specs.declared.kind.Kind.{Kind}
 use Rattle.bank.specs.declared.kind.Kind.TheVariants.{PreWrite}
 use Rattle.encoder.specs.Fragment.{fragment}
 use Rattle.layout.specs.Layout.{Layout}
-use Rattle.phase.specs.Phase.{Phase}
+use Rattle.mail.specs.Phase.{Phase}
 use Rattle.record.specs.Records.{Object, layout_at, no_layout}
 use Rattle.record.specs.PhaseOrder.{due}
 use Rattle.record.specs.Legal.{due_of}

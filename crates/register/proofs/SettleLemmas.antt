@@ -14,8 +14,8 @@ use Rattle.encoder.specs.Fragment.{fragment}
 use Rattle.piece.specs.declared.piece.Piece.{Piece}
 use Rattle.decoder.specs.Decoded.{Decoding, IsDecoded}
 use Rattle.decoder.specs.Pieces.{points_of}
-use Rattle.phase.specs.declared.phase.Taken.{Taken}
-use Rattle.phase.specs.Phase.{Phase}
+use Rattle.mail.specs.declared.phase.Taken.{Taken}
+use Rattle.mail.specs.Phase.{Phase}
 use Rattle.record.specs.Records.{Call, Object, layout_at}
 use Rattle.record.specs.Fragments.{answer_piece, answer_tag, IsFetch, IfCoded, HasPiece}
 use Rattle.record.specs.Preconditions.{MayStep}

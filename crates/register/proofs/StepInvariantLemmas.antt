@@ -7,7 +7,7 @@ use Rattle.tag.specs.declared.limits.TheConstants.{MOST_CALLS, MOST_PHASES, MOST
 use Rattle.bank.specs.declared.kind.Kind.{Kind}
 use Rattle.encoder.specs.Fragment.{fragment}
 use Rattle.mail.specs.declared.message.Message.{Message}
-use Rattle.phase.specs.Phase.{Phase}
+use Rattle.mail.specs.Phase.{Phase}
 use Rattle.record.specs.Records.{Call, IsNewId}
 use Rattle.record.specs.PhaseOrder.{begun_at, due}
 use Rattle.record.specs.Knowledge.{IsTruePhase}

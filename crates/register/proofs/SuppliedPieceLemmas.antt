@@ -13,7 +13,7 @@ use Rattle.mail.specs.Mail.{mail_cause}
 use Rattle.encoder.specs.Coded.{Coding}
 use Rattle.encoder.specs.Fragment.{fragment, piece_at_point}
 use Rattle.layout.specs.Layout.{Layout}
-use Rattle.phase.specs.Phase.{Phase}
+use Rattle.mail.specs.Phase.{Phase}
 use Rattle.record.specs.Records.{Call, Object, layout_at}
 use Rattle.record.specs.Steps.{Step, stepped, on_call, advanced_object}
 use Rattle.record.specs.Sending.{sent_value, value_or_empty, fragment_piece, sent_pieces}

@@ -11,7 +11,7 @@ use Rattle.piece.specs.declared.piece.Piece.{Piece}
 use Rattle.bank.specs.declared.kind.Kind.{Kind}
 use Rattle.layout.specs.Layout.{Layout}
 use Rattle.mail.specs.Mail.{mail_cause}
-use Rattle.phase.specs.Phase.{Phase}
+use Rattle.mail.specs.Phase.{Phase}
 use Rattle.record.specs.Legal.{due_of}
 use Rattle.record.specs.Records.{Call, Object, layout_at}
 use Rattle.record.specs.Sending.{sent_value, value_or_empty}

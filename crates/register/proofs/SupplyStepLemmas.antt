@@ -9,7 +9,7 @@ use Rattle.mail.specs.Mail.{mail_cause}
 use Rattle.encoder.specs.Coded.{Coding}
 use Rattle.encoder.specs.Fragment.{fragment}
 use Rattle.layout.specs.Layout.{Layout}
-use Rattle.phase.specs.Phase.{Phase}
+use Rattle.mail.specs.Phase.{Phase}
 use Rattle.record.specs.PhaseOrder.{due}
 use Rattle.record.specs.Legal.{due_of}
 use Rattle.record.specs.Preconditions.{WantsPieces, AwaitsPieces}

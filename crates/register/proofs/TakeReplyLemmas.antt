@@ -9,10 +9,10 @@ use Rattle.bank.specs.declared.reply.Reply.{Reply}
 use Rattle.mail.specs.declared.message.Message.{Message}
 use Rattle.mail.specs.declared.message.Body.{Body}
 use Rattle.mail.specs.declared.message.Body.TheVariants as body
-use Rattle.phase.specs.declared.phase.Took.{Took}
+use Rattle.mail.specs.declared.phase.Took.{Took}
 use Rattle.std.proofs.lemmas.Option.{slice_get_read, slice_get_within}
 use Rattle.register.proofs.FoundCallLemmas.{later}
-use Rattle.phase.specs.Phase.{Phase, after_take}
+use Rattle.mail.specs.Phase.{Phase, after_take}
 use Rattle.record.specs.Records.{Call, Object}
 use Rattle.record.specs.PhaseOrder.{begun_at}
 use Rattle.record.specs.Legal.{stage_of, first_stage, source_of}

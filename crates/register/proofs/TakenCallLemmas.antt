@@ -7,10 +7,10 @@ use Rattle.std.proofs.lemmas.Bool.Decides.{nat_tests}
 use Rattle.mail.specs.declared.message.Message.{Message}
 use Rattle.mail.specs.declared.message.Body.{Body}
 use Rattle.mail.specs.declared.message.Body.TheVariants as body
-use Rattle.phase.specs.declared.phase.Taken.{Taken}
-use Rattle.phase.specs.declared.phase.Took.TheVariants as took
-use Rattle.phase.specs.Phase.{Phase, is_current, has_taken, makes_quorum, with_reply, after_body, after_take}
-use Rattle.phase.specs.Phase.{took_body, took_by, lacks_pieces}
+use Rattle.mail.specs.declared.phase.Taken.{Taken}
+use Rattle.mail.specs.declared.phase.Took.TheVariants as took
+use Rattle.mail.specs.Phase.{Phase, is_current, has_taken, makes_quorum, with_reply, after_body, after_take}
+use Rattle.mail.specs.Phase.{took_body, took_by, lacks_pieces}
 use Rattle.record.specs.declared.call.CallKind.{CallKind}
 use Rattle.record.specs.declared.stage.Stage.{Stage}
 use Rattle.record.specs.PhaseOrder.{begun_at, passed, stage_past, stage_after}

@@ -5,9 +5,9 @@ use Rattle.layout.specs.Layout.{Layout}
 use Rattle.piece.specs.declared.piece.Piece.{Piece}
 use Rattle.bank.specs.declared.kind.Kind.{Kind}
 use Rattle.mail.specs.declared.message.Message.{Message}
-use Rattle.phase.specs.declared.phase.Took.{Took}
-use Rattle.phase.specs.declared.phase.Took.TheVariants as took
-use Rattle.phase.specs.Phase.{Phase, after_take, took_by, members_of}
+use Rattle.mail.specs.declared.phase.Took.{Took}
+use Rattle.mail.specs.declared.phase.Took.TheVariants as took
+use Rattle.mail.specs.Phase.{Phase, after_take, took_by, members_of}
 use Rattle.record.specs.declared.call.CallKind.{CallKind}
 use Rattle.record.specs.declared.stage.Stage.{Stage}
 use Rattle.record.specs.declared.stage.Want.{Want}

@@ -5,9 +5,9 @@ use Rattle.tag.specs.declared.tag.Tag.{Tag}
 use Rattle.piece.specs.declared.piece.Piece.{Piece}
 use Rattle.bank.specs.Bank.{Bank}
 use Rattle.mail.specs.declared.message.Message.{Message}
-use Rattle.phase.specs.declared.phase.Took.{Took}
-use Rattle.phase.specs.declared.phase.Took.TheVariants as took
-use Rattle.phase.specs.Phase.{Phase}
+use Rattle.mail.specs.declared.phase.Took.{Took}
+use Rattle.mail.specs.declared.phase.Took.TheVariants as took
+use Rattle.mail.specs.Phase.{Phase}
 use Rattle.record.specs.declared.stage.Want.{Want}
 use Rattle.record.specs.Records.{Call, Object, layout_at}
 use Rattle.record.specs.Journals.{tag_of, operation_of, entry_value}

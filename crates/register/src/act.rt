@@ -13,7 +13,7 @@ use call::Receipt;
 use decoder::Decoded;
 use encoder::Coded;
 use layout::Layout;
-use phase::Took;
+use mail::Took;
 use tag::{CallId, Refusal, Stamp};
 
 /// A step that a caller asks of an object. It names a call by its number, from 1, and a message by its place in the

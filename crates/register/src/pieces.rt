@@ -11,7 +11,7 @@ use decoder::Decoded;
 use encoder::Coded;
 use lane_kernel::same;
 use layout::Layout;
-use phase::Taken;
+use mail::Taken;
 use piece::Piece;
 
 // Whether two slices hold the same bytes.

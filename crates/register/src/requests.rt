@@ -6,15 +6,14 @@ ghost use Rattle.tag.specs.declared.limits.TheConstants.{MOST_MESSAGES};
 ghost use Rattle.tag.specs.declared.refusal.Refusal.TheVariants.{NoMemory};
 ghost use Rattle.piece.specs.declared.piece.Piece.{Piece};
 ghost use Rattle.mail.specs.Mail.{mail_cause};
-ghost use Rattle.phase.specs.Phase.{has_taken, members_of};
+ghost use Rattle.mail.specs.Phase.{has_taken, members_of};
 ghost use Rattle.record.specs.Sending.{requests, missing, waits};
 ghost use Rattle.call.specs.Pieces.{piece_from, HavePieces};
 
 use call::{request_to, requests};
 use encoder::Coded;
 use layout::Layout;
-use mail::{Mail, Message};
-use phase::{Ask, Phase};
+use mail::{Ask, Mail, Message, Phase};
 use std::alloc::Global;
 use tag::{CallId, MOST_MESSAGES, Refusal};
 

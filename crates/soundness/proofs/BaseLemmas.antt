@@ -7,7 +7,7 @@ use Rattle.std.proofs.lemmas.Option.{same_Some}
 use Rattle.std.specs.List.{AllByRecursion}
 use Rattle.bank.specs.Bank.{Bank}
 use Rattle.bank.specs.Knowledge.{came_by}
-use Rattle.phase.specs.Phase.{Phase}
+use Rattle.mail.specs.Phase.{Phase}
 use Rattle.record.specs.declared.call.CallKind.{CallKind}
 use Rattle.record.specs.declared.stage.Stage.{Stage}
 use Rattle.record.specs.declared.stage.Stage.TheVariants.{ReadBegin}

@@ -1,6 +1,6 @@
 -- Phases that begin from a step on.
 use Rattle.std.proofs.Common.{ℕ, ◌≤◌, List, [], ◌∷◌}
-use Rattle.phase.specs.Phase.{Phase}
+use Rattle.mail.specs.Phase.{Phase}
 
 -- the first phase starts at this step or later
 abbrev pub StartsFrom : ℕ → List Phase → Type 0

@@ -11,7 +11,7 @@ use Rattle.bank.specs.declared.reply.Reply.{Reply}
 use Rattle.mail.specs.declared.message.Message.{Message}
 use Rattle.mail.specs.declared.message.Body.TheVariants as body
 use Rattle.mail.specs.Message.{body_kind}
-use Rattle.phase.specs.Phase.{Phase}
+use Rattle.mail.specs.Phase.{Phase}
 use Rattle.record.specs.Records.{Call, Object, layout_at, bank_at, retired_at, base_of}
 use Rattle.record.specs.Legal.{moves_in, IsOpenedAt, BeginInOpen, IsLegal}
 use Rattle.record.specs.Journals.{tag_of}

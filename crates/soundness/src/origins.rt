@@ -2,7 +2,7 @@
 ghost use Rattle.std.specs.Prelude.{◌≡◌, ◌<◌, ℕ, List, Some, slice_get};
 ghost use Rattle.tag.specs.declared.tag.Tag.{Tag};
 ghost use Rattle.bank.specs.declared.row.Label.{Label};
-ghost use Rattle.phase.specs.Phase.{Phase};
+ghost use Rattle.mail.specs.Phase.{Phase};
 ghost use Rattle.record.specs.Fragments.{Code, kind_tag};
 ghost use Rattle.record.specs.Journals.{IsJournaled};
 ghost use Rattle.soundness.specs.Origins.{ComesWithIts};

@@ -1,7 +1,7 @@
 //! An object of a cluster, as a picture reads it.
 use bank::Bank;
 use layout::Layout;
-use phase::Phase;
+use mail::Phase;
 use picture::ObjectView;
 use register::Register;
 use tag::{CallId, Stamp};

@@ -2,8 +2,7 @@
 use bank::{Answer, Kind, Reply, Status};
 use call::{Call, Next, request_to, requests};
 use layout::Layout;
-use mail::{Body, Message};
-use phase::{Ask, Took};
+use mail::{Ask, Body, Message, Took};
 use record::{CallKind, Operation, Stage};
 use std::alloc::Global;
 use std::process::Abort;

@@ -1,8 +1,7 @@
 //! A phase that records each member until a quorum.
 use crate::same::assert_row;
 use bank::{Answer, Kind, Reply, Request, Status};
-use mail::{Body, Message};
-use phase::{Ask, Phase, Took};
+use mail::{Ask, Body, Message, Phase, Took};
 use std::alloc::Global;
 use std::process::Abort;
 use tag::CallId;

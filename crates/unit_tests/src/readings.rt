@@ -1,7 +1,7 @@
 //! A reading over three positions, and what replies show.
 use bank::{Answer, Kind, Reply, Status};
 use call::{Reading, greatest_status, greatest_tag};
-use phase::Taken;
+use mail::Taken;
 use tag::Tag;
 
 fn reply(member: u8, answer: Answer) -> Taken {

@@ -17,7 +17,7 @@ use Rattle.bank.specs.Knowledge.{came_by, final_step, row_finalized, finalized_a
 use Rattle.bank.specs.Knowledge.{is_dropped_at, HasFinalized}
 use Rattle.bank.proofs.EntryCountLemmas.{one_if}
 use Rattle.bank.proofs.EntryOrderLemmas.{Rows, find_sorted, t_true, is_lt-tag}
-use Rattle.phase.specs.Phase.{Phase}
+use Rattle.mail.specs.Phase.{Phase}
 use Rattle.record.specs.declared.call.CallKind.TheVariants.{Read}
 use Rattle.record.specs.Records.{Call, Object, bank_at, IsRetiredBy}
 use Rattle.record.specs.Knowledge.{IsTrueReply, IsTruePhase}

@@ -4,7 +4,7 @@ use Rattle.std.proofs.Common.{None, refl, sym, subst, ◌∙◌, arith, le_refl,
 use Rattle.std.proofs.lemmas.Option.{same_Some}
 use Rattle.std.specs.List.{AllByRecursion}
 use Rattle.layout.specs.Layout.{IsLawful}
-use Rattle.phase.specs.Phase.{Phase, lacks_pieces}
+use Rattle.mail.specs.Phase.{Phase, lacks_pieces}
 use Rattle.record.specs.declared.call.CallKind.{CallKind}
 use Rattle.record.specs.Records.{Call, Object, retired_at, base_at}
 use Rattle.record.specs.Knowledge.{IsTruePhase}

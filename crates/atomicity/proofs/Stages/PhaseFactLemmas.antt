@@ -5,7 +5,7 @@ use Rattle.std.proofs.lemmas.Bool.{cond_both}
 use Rattle.tag.specs.declared.tag.Tag.{Tag}
 use Rattle.bank.specs.declared.status.Status.{Status}
 use Rattle.bank.specs.declared.kind.Kind.{Kind}
-use Rattle.phase.specs.declared.phase.Taken.{Taken}
+use Rattle.mail.specs.declared.phase.Taken.{Taken}
 use Rattle.record.specs.declared.call.CallKind.{CallKind}
 use Rattle.record.specs.Records.{Object}
 use Rattle.record.specs.Legal.{is_move}

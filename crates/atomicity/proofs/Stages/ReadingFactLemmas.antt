@@ -6,7 +6,7 @@ use Rattle.tag.specs.declared.tag.Tag.{Tag}
 use Rattle.tag.specs.Tag.{tag_lt, later_tag}
 use Rattle.bank.specs.declared.status.Status.{Status}
 use Rattle.bank.specs.declared.kind.Kind.{Kind}
-use Rattle.phase.specs.declared.phase.Taken.{Taken}
+use Rattle.mail.specs.declared.phase.Taken.{Taken}
 use Rattle.record.specs.declared.call.CallKind.{CallKind}
 use Rattle.record.specs.Records.{Object}
 use Rattle.bank.specs.declared.status.Status.TheVariants.{Unset, Pending, Final}

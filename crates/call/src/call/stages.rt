@@ -12,7 +12,7 @@ use crate::call::Call;
 use crate::next::Next;
 use crate::{due, greatest_tag, passed};
 use bank::Kind;
-use phase::Taken;
+use mail::Taken;
 use record::{CallKind, Stage};
 use tag::Tag;
 

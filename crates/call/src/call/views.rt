@@ -8,7 +8,7 @@ ghost use Rattle.call.specs.Call.{IsCall};
 
 use crate::call::Call;
 use bytes::Bytes;
-use phase::{Ask, Phase};
+use mail::{Ask, Phase};
 use record::{CallKind, Operation, Stage};
 use tag::{CallId, Refusal};
 

@@ -16,8 +16,7 @@ ghost use Rattle.cluster.specs.Causes.{next, object_cause, serving_cause, can_ha
 use crate::cluster::Cluster;
 use crate::cluster::mailing::{exchanged, waiting};
 use crate::servers::Servers;
-use mail::{Body, Message};
-use phase::Took;
+use mail::{Body, Message, Took};
 use register::{Act, Register};
 use tag::{MOST_BYTES, MOST_STEPS, Refusal, Stamp};
 

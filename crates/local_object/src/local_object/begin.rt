@@ -18,7 +18,7 @@ use bank::{Kind, Status};
 use bytes::Bytes;
 use call::{Call, requests};
 use layout::Layout;
-use phase::Ask;
+use mail::Ask;
 use record::{CallKind, Stage};
 use tag::{CallId, LONGEST_VALUE, Refusal};
 

@@ -4,7 +4,7 @@ use Rattle.std.proofs.Common.{length, refl, sym, subst, ap, inl, inr, le_refl, e
 use Rattle.tag.specs.declared.tag.Tag.{Tag}
 use Rattle.bank.specs.declared.status.Status.TheVariants.{Unset}
 use Rattle.bank.specs.declared.kind.Kind.TheVariants.{PreWrite, Finalize, Fetch}
-use Rattle.phase.specs.Phase.{Phase}
+use Rattle.mail.specs.Phase.{Phase}
 use Rattle.record.specs.declared.call.CallKind.{CallKind}
 use Rattle.record.specs.declared.call.CallKind.TheVariants.{Read, Write}
 use Rattle.record.specs.declared.stage.Stage.{Stage}

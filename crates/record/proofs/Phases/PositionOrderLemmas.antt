@@ -1,6 +1,6 @@
 -- A call reads positions in order.
 use Rattle.std.proofs.Common.{ℕ, ◌≤◌, Bool, List, arith, le_refl}
-use Rattle.phase.specs.declared.phase.Taken.{Taken}
+use Rattle.mail.specs.declared.phase.Taken.{Taken}
 use Rattle.record.specs.declared.call.CallKind.{CallKind}
 use Rattle.record.specs.declared.stage.Stage.{Stage}
 use Rattle.record.specs.declared.stage.Stage.TheVariants.{ReadNext, ReadSpread, QueryFrom}

@@ -13,7 +13,7 @@ use Rattle.bank.specs.declared.reply.Answer.{Answer}
 use Rattle.bank.specs.declared.reply.Answer.TheVariants as answer
 use Rattle.mail.specs.declared.message.Body.TheVariants as body
 use Rattle.mail.specs.declared.message.Message.{Message}
-use Rattle.phase.specs.Phase.{Phase}
+use Rattle.mail.specs.Phase.{Phase}
 use Rattle.record.specs.declared.stage.Want.TheVariants as want
 use Rattle.record.specs.Fragments.{IsCode, IsValue}
 use Rattle.record.specs.Preconditions.{MayRun, MaySettle}

@@ -23,7 +23,7 @@ use bank::{Kind, Status};
 use bytes::Bytes;
 use call::{Receipt, first_stage};
 use layout::Layout;
-use phase::Ask;
+use mail::Ask;
 use record::{CallKind, Operation, Want};
 use tag::{CallId, LONGEST_VALUE, MOST_STEPS, Refusal, Stamp};
 

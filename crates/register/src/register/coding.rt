@@ -25,7 +25,7 @@ use bytes::Bytes;
 use call::due;
 use decoder::Decoded;
 use encoder::Coded;
-use phase::Phase;
+use mail::Phase;
 use piece::Piece;
 use record::Want;
 use tag::{CallId, MOST_STEPS, Refusal, Stamp};

@@ -8,8 +8,7 @@ ghost use Rattle.register.specs.Causes.{serve_cause, take_cause, lose_cause, rep
 ghost use Rattle.register.specs.View.{took_at};
 
 use crate::register::Register;
-use mail::Body;
-use phase::Took;
+use mail::{Body, Took};
 use tag::{MOST_BYTES, MOST_STEPS, Refusal, Stamp};
 
 impl Register {

@@ -19,7 +19,7 @@ use crate::register::Register;
 use crate::tracked_call::TrackedCall;
 use bank::{Answer, Kind};
 use call::due;
-use phase::{Phase, Taken};
+use mail::{Phase, Taken};
 use record::Want;
 use tag::{CallId, MOST_STEPS, Refusal, Stamp};
 

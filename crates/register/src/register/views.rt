@@ -19,8 +19,7 @@ use bank::{Bank, Kind};
 use bytes::Bytes;
 use call::{CallView, stage_tag};
 use layout::Layout;
-use mail::Mail;
-use phase::Phase;
+use mail::{Mail, Phase};
 use record::{Entry, Stage};
 use tag::{CallId, Refusal, Tag};
 

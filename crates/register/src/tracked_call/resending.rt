@@ -6,7 +6,7 @@ ghost use Rattle.tag.specs.declared.limits.TheConstants.{MOST_PHASES, MOST_MESSA
 ghost use Rattle.tag.specs.Refusal.{IsByCause};
 ghost use Rattle.piece.specs.declared.piece.Piece.{Piece};
 ghost use Rattle.mail.specs.Mail.{mail_cause};
-ghost use Rattle.phase.specs.Phase.{Phase as Asking};
+ghost use Rattle.mail.specs.Phase.{Phase as Asking};
 ghost use Rattle.record.specs.Wants.{current_phase};
 ghost use Rattle.call.specs.Pieces.{HavePieces, piece_from};
 ghost use Rattle.register.specs.Kept.{HasRoomIfFew};
@@ -15,8 +15,7 @@ ghost use Rattle.register.specs.Tracked.{asked_again};
 use crate::requests::{has_room, missing, missing_count};
 use crate::tracked_call::TrackedCall;
 use encoder::Coded;
-use mail::Mail;
-use phase::Ask;
+use mail::{Ask, Mail};
 use tag::{CallId, MOST_PHASES, Refusal};
 
 impl TrackedCall {

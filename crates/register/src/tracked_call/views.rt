@@ -8,7 +8,7 @@ ghost use Rattle.record.specs.Wants.{current_phase};
 
 use crate::tracked_call::TrackedCall;
 use bytes::Bytes;
-use phase::Phase;
+use mail::Phase;
 use record::{Entry, Operation, Stage};
 use tag::{Refusal, Stamp};
 

@@ -13,7 +13,7 @@ use Rattle.bank.specs.declared.request.Request.{Request}
 use Rattle.mail.specs.declared.message.Message.{Message}
 use Rattle.mail.specs.Message.{request_bytes, body_bytes, message_bytes, answered}
 use Rattle.mail.specs.Mail.{mail_bytes}
-use Rattle.phase.specs.Phase.{Phase}
+use Rattle.mail.specs.Phase.{Phase}
 use Rattle.bank.specs.declared.status.Status.TheVariants.{Pending}
 use Rattle.record.specs.declared.call.CallKind.{CallKind}
 use Rattle.record.specs.declared.call.CallKind.TheVariants.{Move}

@@ -7,7 +7,7 @@ use Rattle.mail.specs.declared.message.Message.{Message}
 use Rattle.mail.specs.declared.message.Body.{Body}
 use Rattle.mail.specs.Message.{body_bytes, message_bytes}
 use Rattle.mail.specs.Mail.{mail_bytes}
-use Rattle.phase.specs.Phase.{Phase}
+use Rattle.mail.specs.Phase.{Phase}
 use Rattle.record.specs.declared.call.CallKind.TheVariants.{Read, Write}
 use Rattle.record.specs.Records.{Call, Object}
 use Rattle.record.specs.Legal.{due_of}

@@ -9,8 +9,8 @@ use Rattle.layout.specs.Layout.{IsLawful}
 use Rattle.bank.specs.declared.status.Status.{Status}
 use Rattle.bank.specs.Bank.{Bank}
 use Rattle.bank.specs.declared.reply.Answer.{Answer}
-use Rattle.phase.specs.declared.phase.Taken.{Taken}
-use Rattle.phase.specs.Phase.{Phase, members_of}
+use Rattle.mail.specs.declared.phase.Taken.{Taken}
+use Rattle.mail.specs.Phase.{Phase, members_of}
 use Rattle.record.specs.Records.{Object, layout_at, bank_at}
 use Rattle.bank.specs.declared.status.Status.TheVariants.{Unset, Final}
 use Rattle.bank.specs.declared.kind.Kind.TheVariants.{Next, Spread, Query, Finalize, Fetch}

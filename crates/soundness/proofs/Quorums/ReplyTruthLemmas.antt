@@ -10,8 +10,8 @@ use Rattle.layout.specs.Quorum.{has}
 use Rattle.bank.specs.declared.status.Status.{Status}
 use Rattle.bank.specs.Bank.{Bank}
 use Rattle.bank.specs.declared.reply.Answer.{Answer}
-use Rattle.phase.specs.declared.phase.Taken.{Taken}
-use Rattle.phase.specs.Phase.{members_of}
+use Rattle.mail.specs.declared.phase.Taken.{Taken}
+use Rattle.mail.specs.Phase.{members_of}
 use Rattle.bank.specs.declared.status.Status.TheVariants.{Final}
 use Rattle.bank.specs.declared.kind.Kind.TheVariants.{Next, Spread, Query, Finalize, Fetch}
 use Rattle.bank.specs.Knowledge.{came_by, HasFinalized, pointer_at, IsTrueAnswer}

@@ -4,7 +4,7 @@ use Rattle.std.proofs.Common.{length, Some, None, refl, sym, subst, ap, ◌∙�
 use Rattle.std.proofs.lemmas.Option.{same_Some}
 use Rattle.piece.specs.declared.piece.Piece.{Piece}
 use Rattle.mail.specs.declared.message.Message.{Message}
-use Rattle.phase.specs.Phase.{Phase, members_of, lacks_pieces}
+use Rattle.mail.specs.Phase.{Phase, members_of, lacks_pieces}
 use Rattle.record.specs.declared.call.CallKind.{CallKind}
 use Rattle.record.specs.Records.{Call, Object, layout_at}
 use Rattle.record.specs.declared.stage.Stage.{Stage}

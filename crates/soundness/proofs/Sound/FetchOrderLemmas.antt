@@ -4,8 +4,8 @@ use Rattle.std.proofs.Common.{◌∷◌, Option, Some, None, refl, sym, subst, i
 use Rattle.std.proofs.lemmas.Option.{same_Some}
 use Rattle.tag.specs.declared.tag.Tag.{Tag}
 use Rattle.bank.specs.declared.kind.Kind.{Kind}
-use Rattle.phase.specs.declared.phase.Taken.{Taken}
-use Rattle.phase.specs.Phase.{Phase, lacks_pieces}
+use Rattle.mail.specs.declared.phase.Taken.{Taken}
+use Rattle.mail.specs.Phase.{Phase, lacks_pieces}
 use Rattle.record.specs.declared.call.CallKind.{CallKind}
 use Rattle.bank.specs.declared.kind.Kind.TheVariants.{Fetch}
 use Rattle.record.specs.declared.call.CallKind.TheVariants.{Read}

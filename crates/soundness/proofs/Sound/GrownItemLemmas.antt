@@ -6,7 +6,7 @@ use Rattle.bank.specs.Bank.{Bank}
 use Rattle.bank.specs.Facts.{IsBefore}
 use Rattle.bank.proofs.TrueAnswerLemmas.{grows_past}
 use Rattle.mail.specs.declared.message.Message.{Message}
-use Rattle.phase.specs.Phase.{Phase}
+use Rattle.mail.specs.Phase.{Phase}
 use Rattle.record.specs.Records.{Call, Object, layout_at, bank_at, base_at}
 use Rattle.record.specs.Fragments.{Code, answer_tag, answer_piece, body_tag, body_piece}
 use Rattle.soundness.specs.Sound.{IsSound}

@@ -9,8 +9,8 @@ use Rattle.bank.proofs.MonotoneLemmas.{Grows as BankGrows}
 use Rattle.bank.proofs.RowChangeLemmas.{comes_past}
 use Rattle.bank.proofs.TrueAnswerLemmas.{grows_past}
 use Rattle.mail.specs.declared.message.Message.{Message}
-use Rattle.phase.specs.declared.phase.Taken.{Taken}
-use Rattle.phase.specs.Phase.{Phase}
+use Rattle.mail.specs.declared.phase.Taken.{Taken}
+use Rattle.mail.specs.Phase.{Phase}
 use Rattle.record.specs.Records.{Call, Object, layout_at, bank_at, no_bank, base_at}
 use Rattle.record.specs.declared.call.CallKind.TheVariants.{Write}
 use Rattle.record.specs.Knowledge.{IsTrueReply}

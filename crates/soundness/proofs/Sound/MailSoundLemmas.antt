@@ -6,7 +6,7 @@ use Rattle.piece.specs.declared.piece.Piece.{Piece}
 use Rattle.bank.specs.declared.kind.Kind.{Kind}
 use Rattle.bank.specs.Serve.{kind_of}
 use Rattle.mail.specs.declared.message.Message.{Message}
-use Rattle.phase.specs.Phase.{Phase}
+use Rattle.mail.specs.Phase.{Phase}
 use Rattle.record.specs.Records.{Call, Object, layout_at}
 use Rattle.record.specs.Fragments.{Code, IfCoded, request_tag, request_piece}
 use Rattle.soundness.specs.Sound.{IsSound}

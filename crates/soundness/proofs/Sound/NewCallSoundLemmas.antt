@@ -5,7 +5,7 @@ use Rattle.std.proofs.lemmas.Option.{same_Some, slice_get_within}
 use Rattle.layout.specs.Layout.{Layout}
 use Rattle.bank.specs.Bank.{Bank, empty_piece}
 use Rattle.bank.specs.declared.kind.Kind.{Kind}
-use Rattle.phase.specs.Phase.{Phase}
+use Rattle.mail.specs.Phase.{Phase}
 use Rattle.record.specs.declared.call.CallKind.{CallKind}
 use Rattle.record.specs.declared.call.CallKind.TheVariants.{Write, Move}
 use Rattle.record.specs.Records.{Call, Object, IsNewId, layout_at, bank_at, no_layout, base_at}

@@ -11,8 +11,8 @@ use Rattle.bank.specs.declared.reply.Answer.{Answer}
 use Rattle.bank.specs.Bank.{Bank}
 use Rattle.bank.specs.Knowledge.{IsTrueAnswer}
 use Rattle.bank.specs.Facts.{SameBefore}
-use Rattle.phase.specs.declared.phase.Taken.{Taken}
-use Rattle.phase.specs.Phase.{Phase, members_of}
+use Rattle.mail.specs.declared.phase.Taken.{Taken}
+use Rattle.mail.specs.Phase.{Phase, members_of}
 use Rattle.record.specs.Records.{Object, layout_at}
 use Rattle.record.specs.Knowledge.{IsTrueReply, IsTruePhase}
 use Rattle.bank.specs.declared.reply.Answer.TheVariants as answer

@@ -7,8 +7,8 @@ use Rattle.bank.specs.declared.kind.Kind.{Kind}
 use Rattle.bank.specs.declared.reply.Reply.{Reply}
 use Rattle.mail.specs.declared.message.Message.{Message}
 use Rattle.mail.specs.Message.{body_kind}
-use Rattle.phase.specs.declared.phase.Taken.{Taken}
-use Rattle.phase.specs.Phase.{Phase, lacks_pieces}
+use Rattle.mail.specs.declared.phase.Taken.{Taken}
+use Rattle.mail.specs.Phase.{Phase, lacks_pieces}
 use Rattle.record.specs.Records.{Call, Object, base_at}
 use Rattle.record.specs.Knowledge.{IsTrueReply}
 use Rattle.record.specs.Legal.{first_stage, source_of}

@@ -6,7 +6,7 @@ use Rattle.std.specs.List.{remove}
 use Rattle.bank.specs.declared.kind.Kind.{Kind}
 use Rattle.bank.specs.declared.reply.Reply.{Reply}
 use Rattle.mail.specs.declared.message.Message.{Message}
-use Rattle.phase.specs.Phase.{Phase, after_body, after_reply, after_take}
+use Rattle.mail.specs.Phase.{Phase, after_body, after_reply, after_take}
 use Rattle.record.specs.Records.{Call, Object}
 use Rattle.record.specs.Legal.{IsLegal}
 use Rattle.record.specs.Fragments.{Code}

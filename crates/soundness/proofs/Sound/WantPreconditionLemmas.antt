@@ -1,6 +1,6 @@
 -- When a call may advance, be supplied or be answered, by what it wants.
 use Rattle.std.proofs.Common.{◌≡◌, ℕ, ◌<◌, ◌⊎◌, true, false, Some, None, IsSome, inl, inr, arith}
-use Rattle.phase.specs.Phase.{Phase, lacks_pieces}
+use Rattle.mail.specs.Phase.{Phase, lacks_pieces}
 use Rattle.record.specs.Records.{Call, Object}
 use Rattle.record.specs.PhaseOrder.{EndsBefore}
 use Rattle.record.specs.Legal.{due_of}

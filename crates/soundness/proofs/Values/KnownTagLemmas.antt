@@ -7,7 +7,7 @@ use Rattle.tag.specs.declared.tag.Tag.{Tag}
 use Rattle.tag.specs.Tag.{opening_tag}
 use Rattle.bank.specs.declared.kind.Kind.{Kind}
 use Rattle.bank.specs.declared.reply.Answer.{Answer}
-use Rattle.phase.specs.Phase.{Phase}
+use Rattle.mail.specs.Phase.{Phase}
 use Rattle.record.specs.declared.call.CallKind.{CallKind}
 use Rattle.record.specs.Records.{Call, Object}
 use Rattle.record.specs.declared.call.CallKind.TheVariants.{Read, Write, Move}

@@ -6,7 +6,7 @@ use Rattle.std.specs.List.{AllByRecursion, IsDistinct}
 use Rattle.tag.specs.declared.tag.Tag.{Tag}
 use Rattle.tag.specs.declared.limits.TheConstants.{MOST_MEMBERS}
 use Rattle.layout.specs.Layout.{IsLawful}
-use Rattle.phase.specs.Phase.{Phase, lacks_pieces}
+use Rattle.mail.specs.Phase.{Phase, lacks_pieces}
 use Rattle.record.specs.declared.call.CallKind.{CallKind}
 use Rattle.record.specs.Records.{Call, Object, layout_at}
 use Rattle.bank.specs.declared.kind.Kind.{Kind}

@@ -3,7 +3,7 @@ use Rattle.std.proofs.Common.{◌≡◌, ℕ, suc, ◌<◌, ◌≤◌, List, rul
 use Rattle.std.proofs.Common.{Some, arith, le_trans, slice_get}
 use Rattle.std.specs.List.{AllByRecursion}
 use Rattle.tag.specs.declared.tag.Tag.{Tag}
-use Rattle.phase.specs.Phase.{Phase}
+use Rattle.mail.specs.Phase.{Phase}
 use Rattle.record.specs.declared.call.CallKind.{CallKind}
 use Rattle.record.specs.Records.{Object}
 use Rattle.record.specs.declared.call.CallKind.TheVariants.{Read}

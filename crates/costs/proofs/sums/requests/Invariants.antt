@@ -1,5 +1,5 @@
 use Rattle.std.proofs.Common.{◌≡◌, take, sum_by}
-use Rattle.phase.specs.Phase.{Phase}
+use Rattle.mail.specs.Phase.{Phase}
 use Rattle.std.specs.Io.Iter.{u64_saturate}
 use Rattle.register.specs.View.{phases_at}
 use Rattle.costs.proofs.sums.requests.Given as goal

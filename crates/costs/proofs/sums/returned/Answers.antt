@@ -1,5 +1,5 @@
 use Rattle.std.proofs.Common.{ℕ, sum_by, take}
-use Rattle.phase.specs.Phase.{Phase}
+use Rattle.mail.specs.Phase.{Phase}
 use Rattle.register.specs.View.{phases_at}
 use Rattle.costs.specs.Cost.{returned_in}
 use Rattle.costs.proofs.CappedSumLemmas.{capped_more, sum_at}

@@ -1,6 +1,6 @@
 use Rattle.std.proofs.Common.{sym, ap, ◌∙◌}
 use Rattle.std.proofs.lemmas.Result.{IfOk-weaker}
-use Rattle.phase.specs.Phase.{Phase}
+use Rattle.mail.specs.Phase.{Phase}
 use Rattle.local_object.specs.Local.{layout_in, heard_place}
 use Rattle.local_object.specs.Pieces.{first_pieces}
 use Rattle.local_object.proofs.FetchedLemmas.{decoded_as, fetched_by, none_fetched}

@@ -2,8 +2,8 @@ use Rattle.std.proofs.Common.{◌≡◌, List, map, filter, not, rules, ap, ◌�
 use Rattle.std.proofs.lemmas.Fn.{filter_same}
 use Rattle.encoder.specs.Fragment.{fragment}
 use Rattle.mail.specs.declared.message.Message.{Message}
-use Rattle.phase.specs.Phase.{Phase, has_taken}
-use Rattle.phase.specs.declared.phase.Ask.{Ask}
+use Rattle.mail.specs.Phase.{Phase, has_taken}
+use Rattle.mail.specs.declared.phase.Ask.{Ask}
 use Rattle.record.specs.Sending.{fragment_piece, requests}
 use Rattle.local_object.specs.declared.letter.Letter.{Letter}
 use Rattle.local_object.specs.Coding.{call_value}

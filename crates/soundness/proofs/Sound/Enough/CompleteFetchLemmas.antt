@@ -8,8 +8,8 @@ use Rattle.tag.specs.Tag.{opening_tag}
 use Rattle.layout.specs.Layout.{IsLawful}
 use Rattle.layout.specs.Quorum.{has, Share}
 use Rattle.bank.specs.declared.reply.Answer.{Answer}
-use Rattle.phase.specs.declared.phase.Taken.{Taken}
-use Rattle.phase.specs.Phase.{Phase, members_of}
+use Rattle.mail.specs.declared.phase.Taken.{Taken}
+use Rattle.mail.specs.Phase.{Phase, members_of}
 use Rattle.record.specs.Records.{Call, Object, layout_at, bank_at}
 use Rattle.bank.specs.Bank.{Bank}
 use Rattle.bank.specs.declared.kind.Kind.TheVariants.{Fetch}

@@ -12,8 +12,8 @@ use Rattle.layout.proofs.DistinctMemberLemmas.{distinct_cons, has-head}
 use Rattle.layout.specs.Quorum.{has}
 use Rattle.bank.specs.declared.reply.Answer.{Answer}
 use Rattle.bank.specs.declared.reply.Answer.TheVariants as answer
-use Rattle.phase.specs.declared.phase.Taken.{Taken}
-use Rattle.phase.specs.Phase.{Phase, has_piece, pieces_in, members_of, lacks_pieces}
+use Rattle.mail.specs.declared.phase.Taken.{Taken}
+use Rattle.mail.specs.Phase.{Phase, has_piece, pieces_in, members_of, lacks_pieces}
 use Rattle.record.specs.Records.{Object}
 use Rattle.record.specs.Knowledge.{IsTruePhase}
 use Rattle.record.specs.Fragments.{Code, answer_piece, TookPiece, HasEnough, HasPieces}

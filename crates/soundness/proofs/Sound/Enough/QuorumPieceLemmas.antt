@@ -7,8 +7,8 @@ use Rattle.tag.specs.Tag.{opening_tag, later_tag, tag_lt}
 use Rattle.layout.specs.Quorum.{IsQuorum}
 use Rattle.bank.specs.declared.kind.Kind.{Kind}
 use Rattle.bank.specs.declared.reply.Answer.{Answer}
-use Rattle.phase.specs.declared.phase.Taken.{Taken}
-use Rattle.phase.specs.Phase.{Phase, members_of}
+use Rattle.mail.specs.declared.phase.Taken.{Taken}
+use Rattle.mail.specs.Phase.{Phase, members_of}
 use Rattle.record.specs.Records.{Object, layout_at, bank_at}
 use Rattle.bank.specs.Bank.{Bank}
 use Rattle.bank.specs.declared.kind.Kind.TheVariants.{Query, PreWrite}

@@ -10,8 +10,8 @@ use Rattle.tag.specs.Tag.{later_tag, tag_lt}
 use Rattle.layout.specs.Layout.{IsLawful}
 use Rattle.bank.specs.declared.status.Status.{Status}
 use Rattle.bank.specs.declared.kind.Kind.{Kind}
-use Rattle.phase.specs.declared.phase.Taken.{Taken}
-use Rattle.phase.specs.Phase.{Phase, lacks_pieces}
+use Rattle.mail.specs.declared.phase.Taken.{Taken}
+use Rattle.mail.specs.Phase.{Phase, lacks_pieces}
 use Rattle.record.specs.declared.call.CallKind.{CallKind}
 use Rattle.record.specs.Records.{Call, Object}
 use Rattle.bank.specs.declared.kind.Kind.TheVariants.{Query, PreWrite}

@@ -4,7 +4,7 @@ use Rattle.std.proofs.lemmas.Option.{slice_get_within}
 use Rattle.std.proofs.lemmas.Result.{IfOk-weaker}
 use Rattle.bank.specs.declared.kind.Kind.{Kind}
 use Rattle.encoder.specs.Fragment.{fragment}
-use Rattle.phase.specs.Phase.{Phase}
+use Rattle.mail.specs.Phase.{Phase}
 use Rattle.local_object.specs.Coding.{is_sendable}
 use Rattle.local_object.specs.Local.{LocalObject, layout_in, heard_place}
 use Rattle.local_object.specs.Resent.{IsResent, letters_again, letters_again_of}

@@ -4,7 +4,7 @@ use Rattle.tag.specs.declared.limits.TheConstants.{MOST_MESSAGES}
 use Rattle.tag.specs.Refusal.{IsByCause}
 use Rattle.mail.specs.declared.message.Message.{Message}
 use Rattle.mail.specs.Mail.{mail_cause}
-use Rattle.phase.specs.Phase.{Phase, members_of}
+use Rattle.mail.specs.Phase.{Phase, members_of}
 use Rattle.record.specs.Sending.{missing, requests}
 use Rattle.record.specs.Wants.{current_phase}
 use Rattle.call.specs.Pieces.{HavePieces, piece_from}

@@ -1,6 +1,6 @@
 use Rattle.std.proofs.Common.{◌≡◌, ◌++◌, length, Some, nat_le, sym, ap, subst, ◌∙◌}
 use Rattle.tag.specs.declared.limits.TheConstants.{MOST_MESSAGES}
-use Rattle.phase.specs.Phase.{Phase}
+use Rattle.mail.specs.Phase.{Phase}
 use Rattle.record.specs.Wants.{current_phase}
 use Rattle.register.specs.Tracked.{Tracked, asked_again}
 use Rattle.register.proofs.ListLemmas.{same_some}

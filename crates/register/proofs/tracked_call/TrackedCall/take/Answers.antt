@@ -1,5 +1,5 @@
 use Rattle.std.proofs.Common.{◌≡◌, is_some, true, false, Some, sym, ap, subst, ◌∙◌}
-use Rattle.phase.specs.Phase.{Phase, after_take}
+use Rattle.mail.specs.Phase.{Phase, after_take}
 use Rattle.record.specs.PhaseOrder.{begun_at}
 use Rattle.record.specs.Wants.{current_phase}
 use Rattle.call.specs.StageLimits.{IsBelowLimit, HasNextTag}

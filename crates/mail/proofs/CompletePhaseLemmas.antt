@@ -12,11 +12,11 @@ use Rattle.bank.specs.declared.reply.Reply.{Reply}
 use Rattle.mail.specs.declared.message.Message.{Message}
 use Rattle.mail.specs.declared.message.Body.{Body}
 use Rattle.mail.specs.declared.message.Body.TheVariants as body
-use Rattle.phase.specs.declared.phase.Taken.{Taken}
-use Rattle.phase.specs.Phase.{Phase, IsRecord, is_current, has_taken, makes_quorum, members_of, with_reply, after_reply, after_body}
-use Rattle.phase.specs.Phase.{after_take}
-use Rattle.phase.specs.Complete.{Take, Rise, IsNew, IsReply, IsTimelyIfReply, CameBy, IsComplete, after_takes}
-use Rattle.phase.proofs.TakenReplyLemmas.{record_more, is_some-if}
+use Rattle.mail.specs.declared.phase.Taken.{Taken}
+use Rattle.mail.specs.Phase.{Phase, IsRecord, is_current, has_taken, makes_quorum, members_of, with_reply, after_reply, after_body}
+use Rattle.mail.specs.Phase.{after_take}
+use Rattle.mail.specs.Complete.{Take, Rise, IsNew, IsReply, IsTimelyIfReply, CameBy, IsComplete, after_takes}
+use Rattle.mail.proofs.TakenReplyLemmas.{record_more, is_some-if}
 
 -- all replies came by step s
 abbrev AllCame : Phase → List Take → ℕ → List Taken → Type 0

@@ -1,10 +1,10 @@
 ghost use Rattle.std.specs.Prelude.{◌≡◌, ◌≤◌, IsNone, IfOk, IfErr, is_some, false, if◌then◌else◌};
 ghost use Rattle.tag.specs.declared.refusal.Refusal.TheVariants.{NoMemory};
-ghost use Rattle.phase.specs.Complete.{CompleteMeansQuorum};
-ghost use Rattle.phase.specs.Phase.{has_piece};
+ghost use Rattle.mail.specs.Complete.{CompleteMeansQuorum};
+ghost use Rattle.mail.specs.Phase.{has_piece};
 
+use crate::{Body, Message};
 use bank::{Answer, Kind, Reply};
-use mail::{Body, Message};
 use std::alloc::Global;
 use std::marker::Model;
 use tag::{CallId, Refusal, Stamp};
@@ -76,7 +76,7 @@ impl Drop for Phase {
 }
 
 impl Model for Phase {
-    ghost use Rattle.phase.specs.Phase.{Phase as Record, IsRecord, end_of};
+    ghost use Rattle.mail.specs.Phase.{Phase as Record, IsRecord, end_of};
     ghost use Rattle.std.specs.Prelude.{◌≤◌, vec_capacity};
 
     ghost Value = { Record };
@@ -100,9 +100,9 @@ impl Model for Phase {
 }
 
 impl Phase {
-    ghost use Rattle.phase.specs.Phase.{IsRecord, begun, after_take, took_by};
-    ghost use Rattle.phase.specs.Phase.{is_current, has_taken, makes_quorum, with_reply, lacks_pieces};
-    ghost use Rattle.phase.specs.declared.phase.Took.TheVariants as took;
+    ghost use Rattle.mail.specs.Phase.{IsRecord, begun, after_take, took_by};
+    ghost use Rattle.mail.specs.Phase.{is_current, has_taken, makes_quorum, with_reply, lacks_pieces};
+    ghost use Rattle.mail.specs.declared.phase.Took.TheVariants as took;
 
     /// Makes a phase that begins at step `now`. It is complete once `quorum` of the position's `members` have replied.
     /// If it is a fetch, it needs `needed` pieces.

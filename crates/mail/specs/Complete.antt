@@ -7,8 +7,8 @@ use Rattle.bank.specs.declared.reply.Reply.{Reply}
 use Rattle.mail.specs.declared.message.Message.{Message}
 use Rattle.mail.specs.declared.message.Body.TheVariants as body
 use Rattle.layout.specs.Quorum.{AreEnough}
-use Rattle.phase.specs.declared.phase.Taken.{Taken}
-use Rattle.phase.specs.Phase.{Phase, after_take, members_of}
+use Rattle.mail.specs.declared.phase.Taken.{Taken}
+use Rattle.mail.specs.Phase.{Phase, after_take, members_of}
 
 -- a message with the step at which it is taken
 abbrev pub Take : Type 0

@@ -1,9 +1,9 @@
 use Rattle.std.proofs.Common.{◌≡◌, ◌-◌, length, slice_get, Some, List, true, is_some, arith, sym, ap, ◌∙◌}
 use Rattle.std.proofs.lemmas.Bool.Decides.{nat_tests}
-use Rattle.phase.specs.declared.phase.Taken.{Taken}
-use Rattle.phase.specs.Phase.{Phase, end_of}
-use Rattle.phase.proofs.TakenReplyLemmas.{end_last}
-use Rattle.phase.proofs.phase.Phase.end.Goals as goal
+use Rattle.mail.specs.declared.phase.Taken.{Taken}
+use Rattle.mail.specs.Phase.{Phase, end_of}
+use Rattle.mail.proofs.TakenReplyLemmas.{end_last}
+use Rattle.mail.proofs.phase.Phase.end.Goals as goal
 
 pub returns-in-Some : goal.returns-in-Some
 returns-in-Some c =

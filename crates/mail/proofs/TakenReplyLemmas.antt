@@ -7,8 +7,8 @@ use Rattle.std.proofs.lemmas.Bool.Decides.{nat_tests}
 use Rattle.std.proofs.lemmas.List.{map_push, length_push}
 use Rattle.layout.specs.Quorum.{has}
 use Rattle.layout.proofs.DistinctMemberLemmas.{distinct_push}
-use Rattle.phase.specs.declared.phase.Taken.{Taken}
-use Rattle.phase.specs.Phase.{Phase, IsRecord, end_of, has_taken, last_step, members_of, with_reply}
+use Rattle.mail.specs.declared.phase.Taken.{Taken}
+use Rattle.mail.specs.Phase.{Phase, IsRecord, end_of, has_taken, last_step, members_of, with_reply}
 
 -- the test on the replies is one on their members
 has-members_of : (replies : List Taken) (member : ℕ) → has (members_of replies) member ≡ has_taken replies member

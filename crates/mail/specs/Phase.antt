@@ -9,9 +9,9 @@ use Rattle.bank.specs.declared.reply.Reply.{Reply}
 use Rattle.mail.specs.declared.message.Message.{Message}
 use Rattle.mail.specs.declared.message.Body.{Body}
 use Rattle.mail.specs.declared.message.Body.TheVariants as body
-use Rattle.phase.specs.declared.phase.Taken.{Taken}
-use Rattle.phase.specs.declared.phase.Took.{Took}
-use Rattle.phase.specs.declared.phase.Took.TheVariants as took
+use Rattle.mail.specs.declared.phase.Taken.{Taken}
+use Rattle.mail.specs.declared.phase.Took.{Took}
+use Rattle.mail.specs.declared.phase.Took.TheVariants as took
 
 -- a phase: its call and number, what it asks of a position's members, what it needs, its steps, and the replies it took
 pub record Phase : Type 0 where

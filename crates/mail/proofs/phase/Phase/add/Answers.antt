@@ -1,8 +1,8 @@
 use Rattle.std.proofs.Common.{◌≡◌, ◌+◌, ◌<◌, ◌≤◌, false, length, is_some, arith}
 use Rattle.std.proofs.lemmas.Bool.Decides.{nat_tests}
-use Rattle.phase.specs.Phase.{Phase, end_of, has_taken}
-use Rattle.phase.proofs.TakenReplyLemmas.{ended_pushed, record_more, recorded}
-use Rattle.phase.proofs.phase.Phase.add.Goals as goal
+use Rattle.mail.specs.Phase.{Phase, end_of, has_taken}
+use Rattle.mail.proofs.TakenReplyLemmas.{ended_pushed, record_more, recorded}
+use Rattle.mail.proofs.phase.Phase.add.Goals as goal
 
 -- a quorum is still missing
 pub invariant_of-self : goal.invariant_of-self

@@ -1,2 +1,0 @@
-pub mod TakenReplyLemmas
-pub mod CompletePhaseLemmas
