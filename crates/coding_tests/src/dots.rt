@@ -3,8 +3,8 @@
 ghost use Rattle.std.specs.Prelude.{◌≡◌, ◌≤◌, ◌+◌, ◌%◌, length};
 
 use crate::same::{are_all, assert_row, byte_at, fill};
-use dot_kernel::{Tables, differences_of, dot, dots_of, powers_of};
 use gf256::mul;
+use kernels::{Tables, differences_of, dot, dots_of, powers_of};
 
 const LENGTHS: [usize; 8] = [0, 1, 31, 32, 33, 64, 65, 100];
 

@@ -4,7 +4,7 @@ ghost use Rattle.std.specs.Prelude.{◌≤◌, ◌<◌};
 
 use crate::same::{are_all, assert_row, fill};
 use gf256::mul;
-use lane_kernel::{add_scaled, same, scale_add};
+use kernels::{add_scaled, same, scale_add};
 
 const LENGTHS: [usize; 6] = [0, 1, 31, 32, 33, 64];
 

@@ -12,10 +12,10 @@ use Rattle.gf256.proofs.FieldLemmas.{product-one_left, product-zero_right}
 use Rattle.gf256.proofs.FieldSumLemmas.{field_sum_same}
 use Rattle.gf256.proofs.InterpolationLemmas.{interpolation, get_or-interpolation, Interpolates-interpolation, Interpolates-unique}
 use Rattle.gf256.proofs.RootLemmas.{IsByte, evaluate_lt}
-use Rattle.dot_kernel.specs.Dot.{row}
-use Rattle.dot_kernel.specs.Level.{HaveLevels, level}
-use Rattle.dot_kernel.proofs.LaneSumLemmas.{get_or-zeros}
-use Rattle.dot_kernel.proofs.LevelSumLemmas.{level_zero, level_later}
+use Rattle.kernels.specs.Dot.{row}
+use Rattle.kernels.specs.Level.{HaveLevels, level}
+use Rattle.kernels.proofs.LaneSumLemmas.{get_or-zeros}
+use Rattle.kernels.proofs.LevelSumLemmas.{level_zero, level_later}
 use Rattle.poly.specs.Basis.{HasRows}
 use Rattle.decoder.specs.Rows.{HaveColumnSums}
 use Rattle.decoder.proofs.InterpolationLemmas.{evaluate-interpolation}

@@ -7,7 +7,7 @@ use Rattle.gf256.specs.Field.{field_product, field_sum}
 use Rattle.gf256.proofs.FieldLemmas.{product_comm}
 use Rattle.gf256.proofs.FieldSumLemmas.{field_sum_same}
 use Rattle.gf256.proofs.BasisRowLemmas.{basis_row, IsBasisRow-unique, IsBasisRow-basis_row}
-use Rattle.dot_kernel.specs.Dot.{dot_byte, row, term}
+use Rattle.kernels.specs.Dot.{dot_byte, row, term}
 use Rattle.encoder.specs.Fragment.{fragment_len}
 use Rattle.piece.specs.declared.piece.Piece.{Piece}
 use Rattle.decoder.specs.Parts.{piece_at, pieces_at, AreLawfulParts}

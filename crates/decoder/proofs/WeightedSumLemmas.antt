@@ -8,9 +8,9 @@ use Rattle.gf256.proofs.BasisRowLemmas.{basis_row, AreBytes-basis_row, IsBasisRo
 use Rattle.gf256.proofs.FieldLemmas.{product_comm}
 use Rattle.gf256.proofs.FieldSumLemmas.{field_sum_same}
 use Rattle.gf256.proofs.RootLemmas.{evaluate_lt}
-use Rattle.dot_kernel.specs.Dot.{dot_byte, row, term}
-use Rattle.dot_kernel.specs.Level.{HaveLevels}
-use Rattle.dot_kernel.proofs.LevelSumLemmas.{level_zero}
+use Rattle.kernels.specs.Dot.{dot_byte, row, term}
+use Rattle.kernels.specs.Level.{HaveLevels}
+use Rattle.kernels.proofs.LevelSumLemmas.{level_zero}
 use Rattle.encoder.specs.Fragment.{fragment, fragment_len}
 use Rattle.piece.specs.declared.piece.Piece.{Piece}
 use Rattle.encoder.proofs.ColumnLemmas.{length-fragment, get_or-fragment}

@@ -3,8 +3,8 @@
 use Rattle.std.specs.Prelude.{◌≡◌, ℕ, ◌+◌, ◌*◌, ◌<◌, List, length, slice_index, take, drop, true}
 use Rattle.gf256.specs.Polynomial.{evaluate}
 use Rattle.gf256.specs.Field.{field_sum}
-use Rattle.dot_kernel.specs.Dot.{dot_byte, row}
-use Rattle.dot_kernel.specs.Level.{level}
+use Rattle.kernels.specs.Dot.{dot_byte, row}
+use Rattle.kernels.specs.Level.{level}
 
 -- each of k columns of a table of k lines sums up to 0, and the first one to 1
 abbrev pub HaveColumnSums : List ℕ → ℕ → Type 0

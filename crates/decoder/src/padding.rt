@@ -1,7 +1,7 @@
 //! The bytes of the blocks past the value's end.
 
 ghost use Rattle.std.specs.Prelude.{◌≡◌, ℕ, ◌*◌, ◌/◌, ◌%◌, ◌^◌, ◌<◌, ◌≤◌, ◌↔◌, [], length, slice_index_or, IsTrue};
-ghost use Rattle.dot_kernel.specs.Dot.{bytes_of};
+ghost use Rattle.kernels.specs.Dot.{bytes_of};
 ghost use Rattle.decoder.specs.Rows.{block_byte};
 
 use gf256::mul;

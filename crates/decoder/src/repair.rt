@@ -1,7 +1,7 @@
 //! A lost fragment of a value from k others, without the value.
 
 ghost use Rattle.std.specs.Prelude.{◌≡◌, ◌*◌, ◌≤◌, ◌↔◌, ◌⊎◌, ℕ, List, length, IfErr, IsOk, OnErr, OnOk};
-ghost use Rattle.dot_kernel.specs.Dot.{bytes_of};
+ghost use Rattle.kernels.specs.Dot.{bytes_of};
 ghost use Rattle.encoder.specs.Fragment.{fragment, fragment_len};
 ghost use Rattle.decoder.specs.Parts.{AreLawfulParts, pieces_at};
 ghost use Rattle.decoder.specs.Pieces.{AreOfBytes, ArePiecesOf, HaveNoValue, HaveValue, IsInterpolated};
@@ -10,7 +10,7 @@ use crate::lawful::are_lawful_parts;
 use crate::rooms::MOST_COEFFICIENTS;
 use crate::value::have_value;
 use crate::weights::write_sum;
-use dot_kernel::Tables;
+use kernels::Tables;
 use tag::{MOST_MEMBERS, Refusal};
 
 /// Writes the fragment at `point` to `out`, of the value of `len` bytes that has these fragments at these points. The

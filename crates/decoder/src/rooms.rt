@@ -2,12 +2,12 @@
 //! sooner. Each room is in a function of its own that is not inlined; otherwise a call would pay for all rooms.
 
 ghost use Rattle.std.specs.Prelude.{◌≡◌, ◌*◌, ◌≤◌, ◌⊎◌, length, IfErr, IfOk, OnErr, OnOk};
-ghost use Rattle.dot_kernel.specs.Dot.{bytes_of};
+ghost use Rattle.kernels.specs.Dot.{bytes_of};
 ghost use Rattle.decoder.specs.Parts.{AreLawfulParts, pieces_at};
 ghost use Rattle.decoder.specs.Pieces.{AreOfBytes, HaveNoValue, IsInterpolated};
 
 use crate::value::{make_with, write_with};
-use dot_kernel::Tables;
+use kernels::Tables;
 use std::alloc::Global;
 use tag::Refusal;
 

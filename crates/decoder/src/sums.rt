@@ -2,10 +2,10 @@
 //! stripe is what all fragments have from one byte on, and stays in the near caches while its passes are made.
 
 ghost use Rattle.std.specs.Prelude.{◌≡◌, ◌≢◌, ℕ, ◌+◌, ◌*◌, ◌^◌, ◌<◌, ◌≤◌, length, slice_index};
-ghost use Rattle.dot_kernel.specs.Dot.{bytes_of};
+ghost use Rattle.kernels.specs.Dot.{bytes_of};
 ghost use Rattle.decoder.specs.Rows.{AreBlockBytes, AreBlockRows, AreBlocksUntil, HaveColumnSums, block_byte};
 
-use dot_kernel::{Tables, differences_between};
+use kernels::{Tables, differences_between};
 
 /// The most blocks of one pass, whose sums fit the registers.
 const MOST_BLOCKS: usize = 6;

@@ -2,7 +2,7 @@
 
 ghost use Rattle.std.specs.Prelude.{◌≡◌, ◌*◌, ◌^◌, ◌<◌, ◌≤◌, ◌⊎◌, ℕ, List, length};
 ghost use Rattle.std.specs.Prelude.{IfErr, IfOk, IsFalse, IsTrue, OnErr, OnOk};
-ghost use Rattle.dot_kernel.specs.Dot.{bytes_of};
+ghost use Rattle.kernels.specs.Dot.{bytes_of};
 ghost use Rattle.encoder.specs.Fragment.{fragment_len};
 ghost use Rattle.decoder.specs.Parts.{AreLawfulParts, pieces_at};
 ghost use Rattle.decoder.specs.Pieces.{AreOfBytes, HaveNoValue, HaveValue, IsInterpolated};
@@ -11,7 +11,7 @@ ghost use Rattle.decoder.specs.Rows.{AreBlockBytes, HaveColumnSums};
 
 use crate::padding::is_padding_zero;
 use crate::sums::write_blocks;
-use dot_kernel::Tables;
+use kernels::Tables;
 use poly::fill_rows;
 use std::alloc::{AllocError, Global};
 use tag::Refusal;

@@ -2,11 +2,11 @@
 
 ghost use Rattle.std.specs.Prelude.{◌≡◌, ℕ, ◌+◌, ◌*◌, ◌<◌, ◌≤◌, length, take, drop, slice_index, EachIndex};
 ghost use Rattle.gf256.specs.Polynomial.{AreDistinct};
-ghost use Rattle.dot_kernel.specs.Dot.{bytes_of, dot_byte};
+ghost use Rattle.kernels.specs.Dot.{bytes_of, dot_byte};
 ghost use Rattle.poly.specs.Basis.{HasRows};
 ghost use Rattle.decoder.specs.Rows.{line_value};
 
-use dot_kernel::{Tables, differences_of};
+use kernels::{Tables, differences_of};
 use poly::value_at;
 
 /// Makes `out` be the sum of the fragments, each times the value of its row at `point`.

@@ -7,8 +7,8 @@ use Rattle.std.proofs.lemmas.Grind.{same_number_lists}
 use Rattle.gf256.specs.Field.{field_product, field_power, field_sum}
 use Rattle.gf256.proofs.FieldSumLemmas.{field_sum_same}
 use Rattle.std.specs.List.{slice_range}
-use Rattle.dot_kernel.specs.Dot.{dot_byte, term}
-use Rattle.dot_kernel.specs.Line.{ArePowers}
+use Rattle.kernels.specs.Dot.{dot_byte, term}
+use Rattle.kernels.specs.Line.{ArePowers}
 use Rattle.encoder.specs.Fragment.{fragment_len, fragment_byte, fragment}
 use Rattle.encoder.specs.Points.{AreBlocksOfValue, ArePoints, AreFragmentRows}
 use Rattle.encoder.proofs.ColumnLemmas.{length-fragment, get_or-fragment}

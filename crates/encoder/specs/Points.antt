@@ -2,7 +2,7 @@
 -- Sums of sources by the powers of points.
 use Rattle.std.specs.Prelude.{◌≡◌, ℕ, ◌+◌, ◌*◌, ◌<◌, List, [], length, take, drop, slice_index, slice_index_or}
 use Rattle.gf256.specs.Field.{field_power}
-use Rattle.dot_kernel.specs.Dot.{dot_byte}
+use Rattle.kernels.specs.Dot.{dot_byte}
 use Rattle.encoder.specs.Fragment.{fragment_len, fragment_byte}
 
 -- source j is block j of the value, as far as the value goes

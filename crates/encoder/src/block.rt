@@ -1,6 +1,6 @@
 ghost use Rattle.std.specs.Prelude.{◌≡◌, ℕ, ◌+◌, ◌*◌, ◌<◌, ◌≤◌, ◌^◌};
 ghost use Rattle.std.specs.Prelude.{length, take, drop, slice_index, IfOk, IfErr};
-ghost use Rattle.dot_kernel.specs.Dot.{bytes_of};
+ghost use Rattle.kernels.specs.Dot.{bytes_of};
 ghost use Rattle.encoder.specs.Fragment.{fragment, fragment_len, piece_at_point};
 ghost use Rattle.encoder.specs.Points.{AreBlocksOfValue, AreFragmentRows};
 

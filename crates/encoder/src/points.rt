@@ -3,11 +3,11 @@
 
 ghost use Rattle.std.specs.Prelude.{◌≡◌, ◌≢◌, ℕ, ◌+◌, ◌*◌, ◌%◌, ◌<◌, ◌≤◌, length, slice_index, EachIndex};
 ghost use Rattle.gf256.specs.Field.{field_power};
-ghost use Rattle.dot_kernel.specs.Dot.{bytes_of, dot_byte};
-ghost use Rattle.dot_kernel.specs.Line.{ArePowers};
+ghost use Rattle.kernels.specs.Dot.{bytes_of, dot_byte};
+ghost use Rattle.kernels.specs.Line.{ArePowers};
 ghost use Rattle.encoder.specs.Points.{ArePoints};
 
-use dot_kernel::{Tables, dot, powers_between};
+use kernels::{Tables, dot, powers_between};
 
 /// The most points of one pass, whose sums fit the registers.
 const MOST_POINTS: usize = 8;

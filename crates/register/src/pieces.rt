@@ -9,7 +9,7 @@ use bank::Answer;
 use bytes::Bytes;
 use decoder::Decoded;
 use encoder::Coded;
-use lane_kernel::same;
+use kernels::same;
 use layout::Layout;
 use mail::Taken;
 use piece::Piece;

@@ -1,8 +1,8 @@
 use Rattle.std.proofs.Common.{◌≡◌, ℕ, ◌<◌, ◌∷◌, [], true, refl, subst, ap₂, ◌∙◌, arith}
 use Rattle.gf256.specs.Field.{field_sum}
 use Rattle.gf256.specs.Field as field
-use Rattle.dot_kernel.specs.Dot.{row}
-use Rattle.dot_kernel.specs.Level.{level}
+use Rattle.kernels.specs.Dot.{row}
+use Rattle.kernels.specs.Level.{level}
 use Rattle.coding_tests.proofs.dots.sums_differences_by_hand.Goals as goal
 
 first_row : field_sum 2 (row (3 ∷ 2 ∷ []) 1 0) ≡ level true 0

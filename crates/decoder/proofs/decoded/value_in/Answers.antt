@@ -1,6 +1,6 @@
 use Rattle.std.proofs.Common.{◌≡◌, ◌⊎◌, ◌≤◌, List, length, take, IfOk, IfErr, sym, subst, ◌∙◌, arith}
 use Rattle.tag.specs.declared.refusal.Refusal.TheVariants.{BadPieces, NoMemory}
-use Rattle.dot_kernel.specs.Dot.{bytes_of}
+use Rattle.kernels.specs.Dot.{bytes_of}
 use Rattle.piece.specs.declared.piece.Piece.{Piece}
 use Rattle.decoder.specs.Parts.{pieces_at}
 use Rattle.decoder.specs.Pieces.{AreOfBytes, HaveNoValue, IsInterpolated}

@@ -1,6 +1,6 @@
 use Rattle.std.proofs.Common.{length, Result, Ok, Err, OnOk, OnErr, IsOk, refl, sym, ◌∙◌, true≢false}
-use Rattle.dot_kernel.specs.Dot.{bytes_of}
-use Rattle.dot_kernel.proofs.LaneSumLemmas.{length-bytes_of}
+use Rattle.kernels.specs.Dot.{bytes_of}
+use Rattle.kernels.proofs.LaneSumLemmas.{length-bytes_of}
 use Rattle.decoder.specs.Parts.{AreLawfulParts, pieces_at}
 use Rattle.decoder.proofs.ValuePrefixLemmas.{AreLawful-pieces_of, IsInterpolated-pieces_of, value-only}
 use Rattle.decoder.proofs.into.decode_into.Goals as goal

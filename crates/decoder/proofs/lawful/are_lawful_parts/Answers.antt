@@ -1,7 +1,7 @@
 use Rattle.std.proofs.Common.{sym, ◌∙◌, arith, true≢false, Bool, true, false}
 use Rattle.std.specs.Bool.{OnTrue}
-use Rattle.dot_kernel.specs.Dot.{bytes_of}
-use Rattle.dot_kernel.proofs.LaneSumLemmas.{length-bytes_of}
+use Rattle.kernels.specs.Dot.{bytes_of}
+use Rattle.kernels.proofs.LaneSumLemmas.{length-bytes_of}
 use Rattle.decoder.proofs.PointAndFragmentLemmas.{AreLawfulParts-from, AreOfBytes-from, counts, fragment_at-len, distinct_points}
 use Rattle.decoder.proofs.lawful.are_lawful_parts.Goals as goal
 

@@ -1,6 +1,6 @@
 use Rattle.std.proofs.Common.{◌≡◌, ℕ, ◌<◌, length, get_or}
 use Rattle.piece.specs.declared.piece.Piece.{Piece}
-use Rattle.dot_kernel.proofs.LaneSumLemmas.{no_slice}
+use Rattle.kernels.proofs.LaneSumLemmas.{no_slice}
 use Rattle.decoder.proofs.lawful.fill_fragments.Given as goal
 
 -- the fragments so far

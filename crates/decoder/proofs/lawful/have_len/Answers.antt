@@ -1,8 +1,8 @@
 use Rattle.std.proofs.Common.{◌≡◌, ◌<◌, [], length, get_or, sym, ap, subst, ◌∙◌, arith, ⊎_elim, true≢false}
 use Rattle.std.proofs.lemmas.Bool.{cases_lt}
 use Rattle.gf256.specs.Polynomial.{AreBytes}
-use Rattle.dot_kernel.specs.Dot.{bytes_of}
-use Rattle.dot_kernel.proofs.LaneSumLemmas.{no_slice, bytes_at}
+use Rattle.kernels.specs.Dot.{bytes_of}
+use Rattle.kernels.proofs.LaneSumLemmas.{no_slice, bytes_at}
 use Rattle.decoder.proofs.lawful.have_len.Goals as goal
 
 pub returns-then-not-has_len-clause-lens : goal.returns-then-not-has_len-clause-lens

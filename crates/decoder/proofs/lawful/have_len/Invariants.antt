@@ -1,6 +1,6 @@
 use Rattle.std.proofs.Common.{◌≡◌, ℕ, ◌<◌, [], length, get_or}
 use Rattle.gf256.specs.Polynomial.{AreBytes}
-use Rattle.dot_kernel.specs.Dot.{bytes_of}
+use Rattle.kernels.specs.Dot.{bytes_of}
 use Rattle.decoder.proofs.lawful.have_len.Given as goal
 
 -- the fragments so far

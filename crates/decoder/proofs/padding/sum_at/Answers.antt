@@ -1,8 +1,8 @@
 use Rattle.std.proofs.Common.{◌≡◌, ℕ, ◌+◌, ◌*◌, ◌<◌, length, get_or, bit_xor, refl, sym, ap, ap₂, subst, ◌∙◌, arith, add-one}
 use Rattle.gf256.specs.Field.{field_product, field_sum}
 use Rattle.gf256.proofs.FieldSumLemmas.{field_sum-suc}
-use Rattle.dot_kernel.specs.Dot.{bytes_of, dot_byte, row, term}
-use Rattle.dot_kernel.proofs.LaneSumLemmas.{no_slice, bytes_at, length-bytes_of}
+use Rattle.kernels.specs.Dot.{bytes_of, dot_byte, row, term}
+use Rattle.kernels.proofs.LaneSumLemmas.{no_slice, bytes_at, length-bytes_of}
 use Rattle.decoder.proofs.padding.sum_at.Goals as goal
 
 pub loop-i-init : goal.loop-i-init

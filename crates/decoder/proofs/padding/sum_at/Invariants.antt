@@ -1,6 +1,6 @@
 use Rattle.std.proofs.Common.{◌≡◌, length}
 use Rattle.gf256.specs.Field.{field_sum}
-use Rattle.dot_kernel.specs.Dot.{bytes_of, row, term}
+use Rattle.kernels.specs.Dot.{bytes_of, row, term}
 use Rattle.decoder.proofs.padding.sum_at.Given as goal
 
 -- the terms so far

@@ -1,7 +1,7 @@
 use Rattle.std.proofs.Common.{◌≡◌, ℕ, ◌*◌, length, length-take, sym, ap, ◌∙◌, arith, rules}
 use Rattle.std.proofs.lemmas.List.{length-replicate}
-use Rattle.dot_kernel.specs.Dot.{bytes_of}
-use Rattle.dot_kernel.proofs.LaneSumLemmas.{length-bytes_of}
+use Rattle.kernels.specs.Dot.{bytes_of}
+use Rattle.kernels.proofs.LaneSumLemmas.{length-bytes_of}
 use Rattle.decoder.proofs.PointAndFragmentLemmas.{distinct_points, other_count}
 use Rattle.decoder.proofs.WeightedSumLemmas.{fragment-sums}
 use Rattle.decoder.proofs.repair.write_in.Goals as goal

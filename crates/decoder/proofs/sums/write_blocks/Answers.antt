@@ -1,5 +1,5 @@
 use Rattle.std.proofs.Common.{length, arith}
-use Rattle.dot_kernel.specs.Dot.{bytes_of}
+use Rattle.kernels.specs.Dot.{bytes_of}
 use Rattle.decoder.proofs.RowTableLemmas.{AreBlockBytes-until}
 use Rattle.decoder.proofs.sums.write_blocks.Goals as goal
 

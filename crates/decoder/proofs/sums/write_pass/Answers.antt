@@ -1,6 +1,6 @@
 use Rattle.std.proofs.Common.{◌≡◌, ◌≤◌, ◌<◌, ℕ, ◌+◌, ◌*◌, length, get_or, sym, ap, ◌∙◌, arith, mul-le-mul_right}
-use Rattle.dot_kernel.specs.Dot.{bytes_of, dot_byte, row}
-use Rattle.dot_kernel.proofs.LaneSumLemmas.{dot_same, length-bytes_of}
+use Rattle.kernels.specs.Dot.{bytes_of, dot_byte, row}
+use Rattle.kernels.proofs.LaneSumLemmas.{dot_same, length-bytes_of}
 use Rattle.decoder.specs.Rows.{block_byte}
 use Rattle.decoder.proofs.ColumnSumLemmas.{HaveLevels-columns}
 use Rattle.decoder.proofs.sums.write_pass.Goals as goal

@@ -1,5 +1,5 @@
 use Rattle.std.proofs.Common.{◌+◌, ◌*◌, ◌-◌, arith}
-use Rattle.dot_kernel.specs.Dot.{bytes_of}
+use Rattle.kernels.specs.Dot.{bytes_of}
 use Rattle.decoder.specs.Rows.{block_byte}
 use Rattle.decoder.proofs.RowTableLemmas.{part_made}
 use Rattle.decoder.proofs.sums.write_rows.Goals as goal

@@ -1,5 +1,5 @@
 use Rattle.std.proofs.Common.{◌+◌, ◌≤◌, length, arith, rules}
-use Rattle.dot_kernel.specs.Dot.{bytes_of}
+use Rattle.kernels.specs.Dot.{bytes_of}
 use Rattle.decoder.proofs.RowTableLemmas.{AreBlocksUntil-more, AreBlocksLeft-less, rows_left}
 use Rattle.decoder.proofs.sums.write_stripe.Goals as goal
 

@@ -1,5 +1,5 @@
 use Rattle.std.proofs.Common.{◌-◌, ◌≤◌, length}
-use Rattle.dot_kernel.specs.Dot.{bytes_of}
+use Rattle.kernels.specs.Dot.{bytes_of}
 use Rattle.decoder.specs.Rows.{AreBlocksUntil}
 use Rattle.decoder.proofs.RowTableLemmas.{AreBlocksLeft}
 use Rattle.decoder.proofs.sums.write_stripe.Given as goal

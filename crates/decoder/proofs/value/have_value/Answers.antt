@@ -1,6 +1,6 @@
 use Rattle.std.proofs.Common.{◌≡◌, ℕ, ◌*◌, ◌<◌, List, length, All, sym, ap, subst, ◌∙◌, arith, true≢false}
-use Rattle.dot_kernel.specs.Dot.{bytes_of}
-use Rattle.dot_kernel.proofs.LaneSumLemmas.{length-bytes_of}
+use Rattle.kernels.specs.Dot.{bytes_of}
+use Rattle.kernels.proofs.LaneSumLemmas.{length-bytes_of}
 use Rattle.decoder.specs.Rows.{HaveColumnSums}
 use Rattle.decoder.proofs.ColumnSumLemmas.{HaveColumnSums-rows}
 use Rattle.decoder.proofs.PointAndFragmentLemmas.{count, other_count, distinct_points, fragment_at-len, points-pieces_at}

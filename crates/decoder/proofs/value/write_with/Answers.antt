@@ -1,6 +1,6 @@
 use Rattle.std.proofs.Common.{◌≡◌, ℕ, ◌*◌, length, sym, ap, subst, ◌∙◌, arith}
-use Rattle.dot_kernel.specs.Dot.{bytes_of}
-use Rattle.dot_kernel.proofs.LaneSumLemmas.{length-bytes_of}
+use Rattle.kernels.specs.Dot.{bytes_of}
+use Rattle.kernels.proofs.LaneSumLemmas.{length-bytes_of}
 use Rattle.decoder.specs.Rows.{AreBlockBytes, HaveColumnSums}
 use Rattle.decoder.proofs.PointAndFragmentLemmas.{other_count}
 use Rattle.decoder.proofs.SummedValueLemmas.{whole_fits, whole_holds}

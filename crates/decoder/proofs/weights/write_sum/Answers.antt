@@ -1,9 +1,9 @@
 use Rattle.std.proofs.Common.{◌≡◌, ℕ, ◌+◌, ◌*◌, ◌<◌, length, get_or, true, sym, ap, subst, ◌∙◌, arith, lit<}
 use Rattle.std.proofs.lemmas.List.Elements.{All-from_get_or}
 use Rattle.gf256.specs.Polynomial.{AreBytes}
-use Rattle.dot_kernel.specs.Dot.{bytes_of, row}
-use Rattle.dot_kernel.specs.Level.{HaveLevels}
-use Rattle.dot_kernel.proofs.LaneSumLemmas.{dot_same, length-bytes_of}
+use Rattle.kernels.specs.Dot.{bytes_of, row}
+use Rattle.kernels.specs.Level.{HaveLevels}
+use Rattle.kernels.proofs.LaneSumLemmas.{dot_same, length-bytes_of}
 use Rattle.decoder.specs.Rows.{line_value}
 use Rattle.decoder.proofs.WeightedSumLemmas.{HaveLevels-values}
 use Rattle.decoder.proofs.weights.write_sum.Goals as goal

@@ -1,5 +1,5 @@
 use Rattle.std.proofs.Common.{◌≡◌, ℕ, ◌*◌, ◌<◌, get_or, take, drop}
-use Rattle.dot_kernel.proofs.LaneSumLemmas.{no_slice}
+use Rattle.kernels.proofs.LaneSumLemmas.{no_slice}
 use Rattle.encoder.proofs.block.fill_blocks.Given as goal
 
 -- the blocks so far

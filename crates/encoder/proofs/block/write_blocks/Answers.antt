@@ -1,6 +1,6 @@
 use Rattle.std.proofs.Common.{length, arith}
-use Rattle.dot_kernel.specs.Dot.{bytes_of}
-use Rattle.dot_kernel.proofs.LaneSumLemmas.{length-bytes_of}
+use Rattle.kernels.specs.Dot.{bytes_of}
+use Rattle.kernels.proofs.LaneSumLemmas.{length-bytes_of}
 use Rattle.encoder.proofs.PointSumLemmas.{AreFragmentRows-points}
 use Rattle.encoder.proofs.block.write_blocks.Goals as goal
 

@@ -1,8 +1,8 @@
 use Rattle.std.proofs.Common.{◌∙◌, arith}
 use Rattle.gf256.specs.Field.{field_power}
 use Rattle.std.specs.List.{slice_index}
-use Rattle.dot_kernel.specs.Dot.{bytes_of}
-use Rattle.dot_kernel.proofs.LaneSumLemmas.{dot_same, length-bytes_of}
+use Rattle.kernels.specs.Dot.{bytes_of}
+use Rattle.kernels.proofs.LaneSumLemmas.{dot_same, length-bytes_of}
 use Rattle.encoder.proofs.points.write_point.Goals as goal
 
 pub returns : goal.returns

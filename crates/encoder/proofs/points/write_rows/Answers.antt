@@ -1,6 +1,6 @@
 use Rattle.std.proofs.Common.{◌+◌, ◌*◌, ◌-◌, arith}
 use Rattle.gf256.specs.Field.{field_power}
-use Rattle.dot_kernel.specs.Dot.{bytes_of, dot_byte}
+use Rattle.kernels.specs.Dot.{bytes_of, dot_byte}
 use Rattle.encoder.proofs.RowPlaceLemmas.{part_made}
 use Rattle.encoder.proofs.points.write_rows.Goals as goal
 

@@ -1,5 +1,5 @@
 use Rattle.std.proofs.Common.{◌≤◌, ◌+◌, mul-le-mul_right, arith}
-use Rattle.dot_kernel.specs.Dot.{bytes_of}
+use Rattle.kernels.specs.Dot.{bytes_of}
 use Rattle.encoder.proofs.PointSumLemmas.{ArePowers-more, ArePowersLeft-less, rows_left}
 use Rattle.encoder.proofs.points.write_stripe.Goals as goal
 

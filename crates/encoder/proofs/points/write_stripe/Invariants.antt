@@ -1,6 +1,6 @@
 use Rattle.std.proofs.Common.{◌-◌, ◌≤◌}
-use Rattle.dot_kernel.specs.Dot.{bytes_of}
-use Rattle.dot_kernel.specs.Line.{ArePowers}
+use Rattle.kernels.specs.Dot.{bytes_of}
+use Rattle.kernels.specs.Line.{ArePowers}
 use Rattle.encoder.proofs.PointSumLemmas.{ArePowersLeft}
 use Rattle.encoder.proofs.points.write_stripe.Given as goal
 

@@ -1,9 +1,0 @@
-use Rattle.std.proofs.Common.{◌+◌, ◌*◌}
-use Rattle.dot_kernel.specs.Dot.{bytes_of, AreDotsWithin}
-use Rattle.dot_kernel.proofs.differences.differences_between.Given as goal
-
--- where the rows are made up to `from`, they are as far as the blocks so far go
-abbrev pub invariant-loop-two : goal.invariant-loop-two
-invariant-loop-two g l =
-    AreDotsWithin l.initial.out l.tables g.row.R (bytes_of l.sources) l.size l.from
-    → AreDotsWithin l.out l.tables g.row.R (bytes_of l.sources) l.size (l.from + l.two * 2 * 32)

@@ -1,2 +1,0 @@
-pub mod EqualityMaskLemmas
-pub mod LaneLemmas
