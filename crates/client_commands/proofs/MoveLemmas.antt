@@ -7,16 +7,16 @@ use Rattle.std.proofs.lemmas.List.{length-map}
 use Rattle.tag.specs.declared.limits.TheConstants.{LONGEST_NAME, MOST_MEMBERS}
 use Rattle.layout.specs.Layout.{Layout, IsLawful}
 use Rattle.words.specs.Parts.{and_then}
-use Rattle.string_parts.specs.Strings.{Strings}
-use Rattle.string_parts.specs.Layouts.{checked_layout}
+use Rattle.node_strings.specs.Strings.{Strings}
+use Rattle.node_strings.specs.Layouts.{checked_layout}
 use Rattle.client_commands.specs.Layouts.{small_number, small_numbers, move_layout, layout_from}
 use Rattle.client_commands.specs.Command.{IsShortName, AreNodes, layout_strings}
 use Rattle.client_commands.specs.declared.command.CommandName.TheVariants as of
 use Rattle.client_commands.specs.declared.fault.CommandFault.{CommandFault}
 use Rattle.client_commands.specs.declared.fault.CommandFault.TheVariants.{WrongCount, NameTooLong, BadNumber, OutOfRange, BadLayout}
 use Rattle.words.proofs.PartLemmas.{bind_ok, guarded_above, ok_is}
-use Rattle.string_parts.proofs.LayoutLemmas.{checked_ok, checked_again}
-use Rattle.string_parts.proofs.NumberLemmas.{number_ok as up_to_ok, number_again as up_to_again}
+use Rattle.node_strings.proofs.LayoutLemmas.{checked_ok, checked_again}
+use Rattle.node_strings.proofs.NumberLemmas.{number_ok as up_to_ok, number_again as up_to_again}
 
 -- ---- numbers
 

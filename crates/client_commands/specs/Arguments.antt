@@ -2,7 +2,7 @@
 -- The arguments of a command: the strings after its name.
 use Rattle.std.specs.Prelude.{ℕ, List, [], ◌∷◌, length, Result, Ok, Err, nat_lt, if◌then◌else◌}
 use Rattle.tag.specs.declared.limits.TheConstants.{LONGEST_NAME, LONGEST_VALUE}
-use Rattle.string_parts.specs.Strings.{Strings}
+use Rattle.node_strings.specs.Strings.{Strings}
 use Rattle.client_commands.specs.declared.command.CommandName.{CommandName}
 use Rattle.client_commands.specs.declared.command.CommandName.TheVariants as of
 use Rattle.client_commands.specs.declared.fault.CommandFault.{CommandFault}

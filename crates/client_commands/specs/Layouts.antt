@@ -5,9 +5,9 @@ use Rattle.std.specs.Prelude.{nat_lt, ◌||◌, ◌==◌, if◌then◌else◌}
 use Rattle.tag.specs.declared.limits.TheConstants.{LONGEST_NAME, MOST_MEMBERS}
 use Rattle.layout.specs.Layout.{Layout}
 use Rattle.words.specs.Parts.{and_then}
-use Rattle.string_parts.specs.Numbers.{number_up_to}
-use Rattle.string_parts.specs.Layouts.{checked_layout}
-use Rattle.string_parts.specs.Strings.{Strings}
+use Rattle.node_strings.specs.Numbers.{number_up_to}
+use Rattle.node_strings.specs.Layouts.{checked_layout}
+use Rattle.node_strings.specs.Strings.{Strings}
 use Rattle.client_commands.specs.declared.command.CommandName.TheVariants as of
 use Rattle.client_commands.specs.declared.fault.CommandFault.{CommandFault}
 use Rattle.client_commands.specs.declared.fault.CommandFault.TheVariants.{WrongCount, NameTooLong, BadNumber}

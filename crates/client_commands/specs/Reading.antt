@@ -3,7 +3,7 @@
 use Rattle.std.specs.Prelude.{ℕ, List, [], ◌∷◌, length, get_or, Option, Some, None, Result, Ok, Err, ◌==◌, codes}
 use Rattle.std.specs.Prelude.{if◌then◌else◌}
 use Rattle.words.specs.Parts.{and_then}
-use Rattle.string_parts.specs.Strings.{Strings}
+use Rattle.node_strings.specs.Strings.{Strings}
 use Rattle.client_commands.specs.Arguments.{checked_name, checked_value, only_argument, name_and_value}
 use Rattle.client_commands.specs.Layouts.{layout_from}
 use Rattle.client_commands.specs.Words.{is_word, name_of_word}

@@ -9,7 +9,7 @@ use crate::fault::CommandFault;
 use arrayvec::ArrayVec;
 use bytes::Bytes;
 use layout::Layout;
-use string_parts::{checked_layout, read_number};
+use node_strings::{checked_layout, read_number};
 use tag::{LONGEST_NAME, MOST_MEMBERS};
 
 /// Returns the layout of a `MOVE`, whose arguments are a name, a k and the nodes.

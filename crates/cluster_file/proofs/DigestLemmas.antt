@@ -2,7 +2,7 @@
 use Rattle.std.proofs.Common.{◌≡◌, ℕ, ◌<◌, ◌^◌, List, [], ◌∷◌, ◌++◌, length, Option, Some, None, refl, sym, ap, ◌∙◌, arith}
 use Rattle.std.specs.Int.{w32, to_be_bytes, from_be_bytes}
 use Rattle.std.proofs.lemmas.Nat.{from_be_bytes-to_be_bytes_4}
-use Rattle.placement.proofs.FirstNodesLemmas.{placed-IsLawful}
+use Rattle.cluster_file.proofs.FirstNodesLemmas.{placed-IsLawful}
 use Rattle.cluster_file.specs.File.{Fixed, placement_of}
 use Rattle.cluster_file.specs.Digest.{delta_bytes}
 use Rattle.cluster_file.specs.Written.{IsDelta}

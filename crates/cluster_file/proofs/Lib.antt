@@ -1,8 +1,11 @@
-pub mod NumberLemmas
+pub mod DigestLemmas
+pub mod FirstNodesLemmas
 pub mod LineLemmas
 pub mod NodeLemmas
-pub mod DigestLemmas
-pub mod ValueLemmas
-pub mod SettingLemmas
-pub mod WrittenLemmas
+pub mod NodeOrderLemmas
+pub mod NumberLemmas
 pub mod ReadAgainLemmas
+pub mod ScoredListLemmas
+pub mod SettingLemmas
+pub mod ValueLemmas
+pub mod WrittenLemmas

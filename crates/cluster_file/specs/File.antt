@@ -3,7 +3,7 @@
 use Rattle.std.specs.Prelude.{ℕ, ◌≤◌, ◌++◌, IsTrue, List, length, nat_eq, Option}
 use Rattle.std.specs.List.{IsDistinct}
 use Rattle.layout.specs.Quorum.{has}
-use Rattle.placement.specs.Placement.{ClusterNodes, AreLawfulNodes}
+use Rattle.cluster_file.specs.Placement.{ClusterNodes, AreLawfulNodes}
 use Rattle.tag.specs.declared.limits.TheConstants.{MOST_SERVERS}
 
 -- what is fixed when the cluster is first started: the nodes among which placement chooses, the n and the k of a name's

@@ -2,7 +2,7 @@
 -- What holds for every file.
 use Rattle.std.specs.Prelude.{◌≡◌, ℕ, List}
 use Rattle.layout.specs.Layout.{IsLawful as IsLawfulLayout}
-use Rattle.placement.specs.Placement.{placed}
+use Rattle.cluster_file.specs.Placement.{placed}
 use Rattle.cluster_file.specs.File.{Fixed, FileContents, IsLawfulFile, placement_of}
 use Rattle.cluster_file.specs.Written.{IsDelta}
 use Rattle.cluster_file.specs.Digest.{hashed_fixed}

@@ -5,10 +5,10 @@ ghost use Rattle.cluster_file.specs.File.{AreApart, IsLawfulFile, IsLawfulFixed,
 ghost use Rattle.cluster_file.specs.Digest.{fixed_digest};
 ghost use Rattle.cluster_file.specs.Gives.{shown};
 
+use crate::ClusterNodes;
 use crate::digest::fixed_digest;
 use crate::nodes::has;
 use arrayvec::ArrayVec;
-use placement::ClusterNodes;
 use std::marker::Model;
 use tag::MOST_SERVERS;
 

@@ -13,7 +13,7 @@ use Rattle.recoveries.specs.Stops.{IsHandledSafely, sent_in}
 use Rattle.recoveries.proofs.StopLemmas.{more_safe, two_safe}
 use Rattle.node_clients.specs.Desk.{NoneWaits}
 use Rattle.node_effects.specs.Seen.{all_seen, named_of, seen_of}
-use Rattle.string_parts.specs.Strings.{Strings}
+use Rattle.node_strings.specs.Strings.{Strings}
 use Rattle.node_effects.specs.Work.{IsDueTaken, IsEmpty, IsOwnTaken}
 use Rattle.node_effects.specs.declared.effects.Effects.{Effects}
 use Rattle.node_effects.specs.declared.letter.NamedLetter.{NamedLetter}

@@ -2,7 +2,7 @@
 use Rattle.std.proofs.Common.{◌≡◌, ℕ, Bool, true, false, not, ◌&&◌, ◌||◌, List, [], ◌∷◌, ◌++◌, Option, None, Some}
 use Rattle.std.proofs.Common.{refl, sym, subst, ap, ◌∙◌}
 use Rattle.std.proofs.lemmas.List.{append-nil, append_assoc, map-append}
-use Rattle.string_parts.specs.Strings.{Strings}
+use Rattle.node_strings.specs.Strings.{Strings}
 use Rattle.node_strings.specs.declared.arrival.Arrival.{Arrival}
 use Rattle.node_strings.specs.declared.arrival.Arrival.TheVariants as arrived
 use Rattle.indexmap.specs.IndexMap.{keys}

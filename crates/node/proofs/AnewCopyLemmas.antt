@@ -10,7 +10,7 @@ use Rattle.node_strings.proofs.RecordLemmas.{record_ok}
 use Rattle.recoveries.specs.Records.{LogRecord, Recovers}
 use Rattle.recoveries.proofs.NodeCopyLemmas.{same_self}
 use Rattle.recoveries.proofs.RecoveredLemmas.{two_recovered}
-use Rattle.string_parts.specs.Strings.{Strings}
+use Rattle.node_strings.specs.Strings.{Strings}
 use Rattle.node_keeper.specs.Keeping.{kept_of}
 use Rattle.node_keeper.specs.Logging.{IsReadBack, deeds_if, deeds_of, log_entry_of}
 use Rattle.node.specs.declared.node.Node.{Node}

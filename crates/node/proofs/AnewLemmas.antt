@@ -22,7 +22,7 @@ use Rattle.rewritten_logs.proofs.OwnCallLemmas.{handled_own_calls}
 use Rattle.rewritten_logs.proofs.OwnHandledLemmas.{handled_own}
 use Rattle.rewritten_logs.proofs.OwnObjectLemmas.{new_own, starts_own}
 use Rattle.rewritten_logs.proofs.OwnRecoveredLemmas.{recovered_own}
-use Rattle.string_parts.specs.Strings.{Strings}
+use Rattle.node_strings.specs.Strings.{Strings}
 use Rattle.node_effects.specs.Seen.{named_of}
 use Rattle.node_keeper.specs.Keeping.{heeds, if_heeded, kept_of, names_of}
 use Rattle.node_keeper.specs.Logging.{deeds_of, letter_records}

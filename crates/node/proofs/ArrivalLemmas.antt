@@ -7,7 +7,7 @@ use Rattle.cluster_file.specs.File.{FileContents}
 use Rattle.deeds.proofs.ListLemmas.{all_append}
 use Rattle.node_strings.specs.declared.arrival.Arrival.{Arrival}
 use Rattle.node_strings.specs.declared.arrival.Arrival.TheVariants as arrived
-use Rattle.string_parts.specs.Strings.{Strings}
+use Rattle.node_strings.specs.Strings.{Strings}
 use Rattle.node_effects.specs.declared.notice.Notice.{Notice}
 use Rattle.node_effects.specs.declared.work.Work.{Work}
 use Rattle.node_clients.specs.Served.{AreServicesDone, HasServed}

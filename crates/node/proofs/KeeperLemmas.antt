@@ -12,7 +12,7 @@ use Rattle.client_commands.specs.declared.command.Command.{Command}
 use Rattle.node_objects.specs.Objects.{objects_of}
 use Rattle.mail.specs.Message.{is_request}
 use Rattle.node_effects.specs.Seen.{named_of}
-use Rattle.string_parts.specs.Strings.{Strings}
+use Rattle.node_strings.specs.Strings.{Strings}
 use Rattle.node_effects.specs.Work.{IsGrown}
 use Rattle.node_effects.specs.declared.letter.NamedLetter.{NamedLetter}
 use Rattle.node_effects.specs.declared.work.Work.{Work}

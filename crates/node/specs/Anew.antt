@@ -9,7 +9,7 @@ use Rattle.recoveries.specs.Copies.{IsCopyOf, IsRecorded}
 use Rattle.recoveries.specs.Records.{IsStarted, LogRecord}
 use Rattle.rewritten_logs.specs.Calls.{HasOwnCalls}
 use Rattle.rewritten_logs.specs.Sound.{HasDistinctCalls, HasOwnObjects}
-use Rattle.string_parts.specs.Strings.{Strings}
+use Rattle.node_strings.specs.Strings.{Strings}
 use Rattle.node_effects.specs.declared.effects.Effects.{Effects}
 use Rattle.node_keeper.specs.Anew.{anew_records}
 use Rattle.node_keeper.specs.Fitting.{IsLoggable}

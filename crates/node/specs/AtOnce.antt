@@ -19,7 +19,7 @@ use Rattle.client_commands.specs.declared.answer.Answer.TheVariants as answers
 use Rattle.client_commands.specs.declared.answer.AnswerError.TheVariants as errors
 use Rattle.client_commands.specs.declared.command.Command.{Command}
 use Rattle.client_commands.specs.declared.command.Command.TheVariants as ask
-use Rattle.string_parts.specs.Strings.{Strings}
+use Rattle.node_strings.specs.Strings.{Strings}
 use Rattle.node_strings.specs.declared.arrival.Arrival.{Arrival}
 use Rattle.node_strings.specs.declared.arrival.Arrival.TheVariants as came
 use Rattle.node_objects.specs.Objects.{bytes_in_banks, heard_names, objects_of}

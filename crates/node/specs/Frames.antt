@@ -12,7 +12,7 @@ use Rattle.node_strings.specs.Arrival.{arrival_at}
 use Rattle.node_strings.specs.declared.arrival.Arrival.{Arrival}
 use Rattle.node_strings.specs.declared.arrival.Arrival.TheVariants as came
 use Rattle.node_effects.specs.Seen.{named_of}
-use Rattle.string_parts.specs.Strings.{Strings}
+use Rattle.node_strings.specs.Strings.{Strings}
 use Rattle.node_effects.specs.declared.letter.NamedLetter.{NamedLetter}
 use Rattle.node_keeper.specs.Keeping.{if_heeded, kept_of}
 use Rattle.node_keeper.specs.Sendings.{letter_of_message}

@@ -8,7 +8,7 @@ use Rattle.recoveries.specs.Stops.{IsHandledSafely}
 use Rattle.node_strings.specs.Arrival.{arrival_at}
 use Rattle.node_clients.specs.Desk.{NoneWaits}
 use Rattle.node_effects.specs.Seen.{all_seen, named_of}
-use Rattle.string_parts.specs.Strings.{Strings}
+use Rattle.node_strings.specs.Strings.{Strings}
 use Rattle.node_effects.specs.declared.effects.Effects.{Effects}
 use Rattle.node_effects.specs.declared.work.Work.{Work}
 use Rattle.node_keeper.specs.Keeping.{kept_of}

@@ -14,7 +14,7 @@ use Rattle.node_messages.specs.declared.message.NodeMessage.{NodeMessage}
 use Rattle.node_strings.specs.Record.{record_at}
 use Rattle.node_strings.specs.declared.record.Record.{Record}
 use Rattle.node_strings.specs.declared.record.Record.TheVariants as record_of
-use Rattle.string_parts.specs.Strings.{Strings}
+use Rattle.node_strings.specs.Strings.{Strings}
 use Rattle.node_effects.specs.declared.error.NodeError.TheVariants as errors
 use Rattle.node_effects.specs.declared.error.RecoveryError.{RecoveryError}
 use Rattle.node_effects.specs.declared.error.RecoveryError.TheVariants as refusals

@@ -6,7 +6,7 @@ use Rattle.node_clients.specs.declared.connection.State.TheVariants.{Quit}
 use Rattle.client_commands.specs.Reading.{command_at}
 use Rattle.client_commands.specs.declared.command.Command.{Command}
 use Rattle.client_commands.specs.declared.command.Command.TheVariants as ask
-use Rattle.string_parts.specs.Strings.{Strings}
+use Rattle.node_strings.specs.Strings.{Strings}
 use Rattle.node_effects.specs.declared.work.Work.{Work}
 use Rattle.node_clients.specs.Calls.{becomes_late, call_under, is_move_open, older_call, waiting_for, with_nobody}
 use Rattle.node_clients.specs.Desk.{IsIdleAgain, IsIdleFor, connection_of, has_listener, listener}

@@ -8,7 +8,7 @@ use Rattle.client_commands.specs.declared.answer.AnswerError.TheVariants.{NoQuor
 use Rattle.client_commands.specs.declared.command.Command.{Command}
 use Rattle.client_commands.specs.declared.command.Command.TheVariants as ask
 use Rattle.node_strings.specs.Arrival.{client_address}
-use Rattle.string_parts.specs.Strings.{Strings}
+use Rattle.node_strings.specs.Strings.{Strings}
 use Rattle.node_effects.specs.declared.notice.Notice.{Notice}
 use Rattle.node_effects.specs.declared.notice.Notice.TheVariants as notice
 use Rattle.node_clients.specs.Answers.{answer_frame, ended_answer}

@@ -15,7 +15,7 @@ use Rattle.node_strings.specs.Arrival.{client_address}
 use Rattle.node_strings.specs.Record.{record_strings}
 use Rattle.node_strings.specs.declared.record.Record.TheVariants as record_of
 use Rattle.node_effects.specs.Errors.{IsUnwritten, error_of_frame}
-use Rattle.string_parts.specs.Strings.{Strings}
+use Rattle.node_strings.specs.Strings.{Strings}
 
 pub no_frame : (strings : Strings) (fault : Fault) → IsNoFrame strings fault → IsFrame strings → ⊥
 no_frame strings faults.TooManyStrings many is =

@@ -1,7 +1,7 @@
 -- The contracts that docs/trusted.md lists do not depend on this file; other contracts and proofs do.
 -- How what a node has to do, and what it wants done, grows.
 use Rattle.std.specs.Prelude.{◌≡◌, ℕ, List, [], ◌∷◌, ◌++◌, map, Option, None, Some}
-use Rattle.string_parts.specs.Strings.{Strings}
+use Rattle.node_strings.specs.Strings.{Strings}
 use Rattle.node_effects.specs.declared.letter.NamedLetter.{NamedLetter}
 use Rattle.node_effects.specs.declared.notice.Notice.{Notice}
 use Rattle.node_effects.specs.declared.output.Output.{Output}

@@ -14,7 +14,7 @@ use Rattle.node_objects.specs.Objects.{heard_names}
 use Rattle.object_letters.specs.Letters.{letters_as}
 use Rattle.recoveries.specs.Records.{LogRecord}
 use Rattle.rewritten_logs.specs.Records.{epoch_records, object_records}
-use Rattle.string_parts.specs.Strings.{Strings}
+use Rattle.node_strings.specs.Strings.{Strings}
 use Rattle.node_keeper.specs.Anew.{name_records}
 use Rattle.node_keeper.specs.Fitting.{IsLoggable}
 use Rattle.node_keeper.specs.Keeping.{kept_of}

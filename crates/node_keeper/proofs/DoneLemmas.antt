@@ -6,7 +6,7 @@ use Rattle.local_object.specs.declared.progress.Ended.{Ended}
 use Rattle.local_object.specs.Events.{LocalEvent}
 use Rattle.node_objects.specs.Doing.{IsDoneAt, IsTakenAt}
 use Rattle.node_objects.specs.Objects.{HaveSameSettings}
-use Rattle.placement.specs.Placement.{placed}
+use Rattle.cluster_file.specs.Placement.{placed}
 use Rattle.recoveries.specs.Records.{IsDoneTo, IsTakenBy}
 use Rattle.node_keeper.specs.Keeping.{names_of_keeper, kept_of}
 use Rattle.node_keeper.specs.declared.keeper.Keeper.{Keeper}

@@ -19,7 +19,7 @@ use Rattle.mail.specs.Message.{names_next}
 use Rattle.node_messages.specs.Message.{IsBody, IsMessage, is_fitting}
 use Rattle.node_messages.specs.Strings.{strings_of}
 use Rattle.node_messages.specs.Writing.{is_frame, same, strings_or_fault}
-use Rattle.string_parts.specs.Strings.{Strings}
+use Rattle.node_strings.specs.Strings.{Strings}
 use Rattle.call_ids.specs.CallId.{CallIds}
 use Rattle.local_object.specs.declared.letter.Letter.{Letter}
 use Rattle.local_object.specs.declared.progress.Ended.{Ended}

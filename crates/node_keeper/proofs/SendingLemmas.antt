@@ -5,7 +5,7 @@ use Rattle.std.specs.List.{AllByRecursion}
 use Rattle.deeds.specs.Named.{with_names}
 use Rattle.local_object.specs.declared.letter.Letter.{Letter}
 use Rattle.node_effects.specs.Seen.{named_of}
-use Rattle.string_parts.specs.Strings.{Strings}
+use Rattle.node_strings.specs.Strings.{Strings}
 use Rattle.node_effects.specs.Work.{IsGrown, both_grown, no_growth, send_all}
 use Rattle.node_effects.specs.declared.output.Output.{Output}
 use Rattle.node_effects.specs.declared.output.Output.TheVariants as output

@@ -2,7 +2,7 @@
 -- What a node keeps, as a value of the definitions of `deeds`.
 use Rattle.std.specs.Prelude.{◌==◌, ◌&&◌, ◌||◌, not, Bool, if◌then◌else◌, nat_lt, List, [], ◌∷◌, length}
 use Rattle.cluster_file.specs.File.{FileContents, placement_of}
-use Rattle.placement.specs.Placement.{placed}
+use Rattle.cluster_file.specs.Placement.{placed}
 use Rattle.local_object.specs.declared.letter.Letter.{Letter}
 use Rattle.local_object.specs.Agreement.{agrees, knows_all_of}
 use Rattle.deeds.specs.Kept.{FileOfNames, KeptNode}

@@ -10,7 +10,7 @@ use Rattle.node_strings.specs.Record.{record_at, record_strings}
 use Rattle.node_strings.specs.declared.record.Record.{Record}
 use Rattle.node_strings.specs.declared.record.Record.TheVariants as record_of
 use Rattle.recoveries.specs.Records.{LogRecord}
-use Rattle.string_parts.specs.Strings.{Strings}
+use Rattle.node_strings.specs.Strings.{Strings}
 use Rattle.node_keeper.specs.Sendings.{letter_of_message, message_of}
 
 -- the entry that records that an epoch began

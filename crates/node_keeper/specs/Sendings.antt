@@ -8,7 +8,7 @@ use Rattle.node_messages.specs.Strings.{strings_of}
 use Rattle.node_messages.specs.declared.message.NodeMessage.{NodeMessage}
 use Rattle.node_strings.specs.Arrival.{node_address}
 use Rattle.node_effects.specs.Seen.{named_of}
-use Rattle.string_parts.specs.Strings.{Strings}
+use Rattle.node_strings.specs.Strings.{Strings}
 use Rattle.node_effects.specs.Work.{Growth, no_growth, send_all}
 use Rattle.node_effects.specs.declared.letter.NamedLetter.{NamedLetter}
 

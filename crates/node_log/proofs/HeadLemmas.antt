@@ -11,7 +11,7 @@ use Rattle.std.specs.Int.{w64, to_be_bytes, from_be_bytes}
 use Rattle.std.specs.Str.{bytes_eq}
 use Rattle.std.proofs.lemmas.Slice.Eq.{bytes_eq-Decides}
 use Rattle.std.proofs.lemmas.Bool.{true≢false}
-use Rattle.crc32c.proofs.TableLemmas.{written_out}
+use Rattle.node_log.proofs.TableLemmas.{written_out}
 use Rattle.node_log.specs.Entry.{digest_of, described, head_of, IsHead, length_in, digest_in}
 
 pub front : (n : ℕ) (a b : List ℕ) → length a ≡ n → take n (a ++ b) ≡ a

@@ -1,5 +1,8 @@
-pub mod HeadLemmas
-pub mod EntryLemmas
-pub mod ZeroLemmas
-pub mod ReadEntryLemmas
 pub mod CutEntryLemmas
+pub mod EntryLemmas
+pub mod HeadLemmas
+pub mod ReadEntryLemmas
+pub mod ShiftLemmas
+pub mod StateLemmas
+pub mod TableLemmas
+pub mod ZeroLemmas

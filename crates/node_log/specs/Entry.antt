@@ -2,7 +2,7 @@
 -- Entries of a log, and the bytes of each: a head of 16 bytes, and a body.
 use Rattle.std.specs.Prelude.{◌≡◌, ◌++◌, ℕ, List, length, take, drop, ⊤}
 use Rattle.std.specs.Int.{w32, w64, to_be_bytes, from_be_bytes}
-use Rattle.crc32c.specs.Crc32c.{crc32c}
+use Rattle.node_log.specs.Crc32c.{crc32c}
 use Rattle.frames.specs.Frame.{IsFrame, IsNoFrame, frame_bytes}
 use Rattle.frames.specs.declared.error.FrameError.{FrameError}
 use Rattle.frames.specs.declared.error.FrameError.TheVariants as errors

@@ -1,4 +1,5 @@
+pub mod Crc32c
 pub mod Entry
-pub mod Reading
-pub mod Parts
 pub mod Laws
+pub mod Parts
+pub mod Reading

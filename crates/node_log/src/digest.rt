@@ -2,7 +2,7 @@
 ghost use Rattle.std.specs.Prelude.{◌≡◌};
 ghost use Rattle.node_log.specs.Entry.{digest_of};
 
-use crc32c::checksum;
+use crate::checksum;
 
 /// The CRC-32C of bytes, high byte first.
 pub(crate) fn digest_of(bytes: &[u8]) -> [u8; 4]

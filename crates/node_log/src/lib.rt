@@ -1,17 +1,25 @@
 //! The log of a node: entries, each a list of byte strings with a digest, over any reader and writer.
+//!
+//! The digest is CRC-32C: the cyclic redundancy check of iSCSI, ext4 and many databases, of 32 bits.
 #![tactic(auto)]
 
+pub use checksum_laws::changed_bytes_are_noticed;
 pub use entry::Entry;
 pub use error::{Damage, LogError};
 pub use laws::entries_are_read_back;
 pub use reading::read_entry;
+pub use states::checksum;
 pub use writing::write_entry;
 
+mod checksum_laws;
 mod digest;
 mod entry;
 mod error;
+mod far_tables;
 mod head;
 mod input;
 mod laws;
+mod near_tables;
 mod reading;
+mod states;
 mod writing;

@@ -15,7 +15,7 @@ use Rattle.mail.specs.declared.message.Body.TheVariants as body
 use Rattle.node_messages.specs.declared.error.Fault.{Fault}
 use Rattle.node_messages.specs.Message.{is_answer_to, IsKind, IsAnswer, IsPiece, IsBody}
 use Rattle.words.specs.Parts.{and_then}
-use Rattle.string_parts.specs.Strings.{Strings}
+use Rattle.node_strings.specs.Strings.{Strings}
 use Rattle.node_messages.specs.Strings.{piece_strings, kind_strings, request_rest, held_strings, answer_strings, body_strings}
 use Rattle.node_messages.specs.Reading.{first_string, first_number, first_tag, first_piece, first_status, first_kind}
 use Rattle.node_messages.specs.Reading.{first_request, first_held, first_answer}

@@ -13,16 +13,16 @@ use Rattle.node_messages.specs.declared.error.Fault.TheVariants.{BadDigest, BadN
 use Rattle.cluster_file.specs.declared.file.TheConstants.{DIGEST_LENGTH}
 use Rattle.node_messages.specs.Message.{IsTag, IsPiece}
 use Rattle.words.specs.Parts.{and_then}
-use Rattle.string_parts.specs.Numbers.{number_up_to}
-use Rattle.string_parts.specs.Strings.{Strings}
-use Rattle.string_parts.specs.Layouts.{layout_string, layout_of_string}
+use Rattle.node_strings.specs.Numbers.{number_up_to}
+use Rattle.node_strings.specs.Strings.{Strings}
+use Rattle.node_strings.specs.Layouts.{layout_string, layout_of_string}
 use Rattle.node_messages.specs.Strings.{tag_strings, piece_strings, next_strings}
 use Rattle.node_messages.specs.Reading.{first_string, first_number, first_tag, first_piece, first_status}
 use Rattle.node_messages.specs.Reading.{first_layout, checked_digest, first_digest, first_name, first_member, first_next}
 use Rattle.node_messages.specs.Words.{status_word, status_from}
 use Rattle.words.proofs.PartLemmas.{bind_ok, guarded, guarded_above, ok_is}
-use Rattle.string_parts.proofs.NumberLemmas.{number_ok, number_again}
-use Rattle.string_parts.proofs.LayoutLemmas.{layout_ok as layout_string_ok, layout_again as layout_string_again}
+use Rattle.node_strings.proofs.NumberLemmas.{number_ok, number_again}
+use Rattle.node_strings.proofs.LayoutLemmas.{layout_ok as layout_string_ok, layout_again as layout_string_again}
 use Rattle.node_messages.proofs.WordLemmas.{status_ok, status_again}
 
 -- ---- a string, a number

@@ -31,8 +31,8 @@ use Rattle.cluster_file.specs.declared.file.TheConstants.{DIGEST_LENGTH}
 use Rattle.node_messages.specs.Laws.{ShortPiecesHaveFrames}
 use Rattle.node_messages.specs.Message.{is_fitting, IsTag, IsPiece, IsKind, IsRequest, IsAnswer, IsBody, IsMessage}
 use Rattle.mail.specs.Message.{names_next}
-use Rattle.string_parts.specs.Strings.{Strings}
-use Rattle.string_parts.specs.Layouts.{layout_string}
+use Rattle.node_strings.specs.Strings.{Strings}
+use Rattle.node_strings.specs.Layouts.{layout_string}
 use Rattle.node_messages.specs.Strings.{tag_strings, piece_strings, kind_strings, request_rest}
 use Rattle.node_messages.specs.Strings.{answer_strings, body_strings, next_strings, subject_strings, number_strings, strings_of}
 use Rattle.node_messages.specs.Words.{status_word}

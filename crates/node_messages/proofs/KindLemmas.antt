@@ -10,7 +10,7 @@ use Rattle.bank.specs.Serve.{kind_of}
 use Rattle.node_messages.specs.declared.error.Fault.{Fault}
 use Rattle.node_messages.specs.Message.{IsKind, IsRequest}
 use Rattle.words.specs.Parts.{and_then}
-use Rattle.string_parts.specs.Strings.{Strings}
+use Rattle.node_strings.specs.Strings.{Strings}
 use Rattle.node_messages.specs.Strings.{kind_strings, request_rest}
 use Rattle.node_messages.specs.Reading.{first_string, first_tag, first_piece, first_status, kind_tagged, kind_from, first_kind}
 use Rattle.node_messages.specs.Reading.{first_request}

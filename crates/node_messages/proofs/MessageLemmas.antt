@@ -15,8 +15,8 @@ use Rattle.node_messages.specs.Laws.{WrittenMessageIsRead, ReadMessageWasWritten
 use Rattle.node_messages.specs.Message.{IsMessage}
 use Rattle.mail.specs.Message.{names_next}
 use Rattle.words.specs.Parts.{and_then}
-use Rattle.string_parts.specs.Strings.{Strings}
-use Rattle.string_parts.specs.Layouts.{layout_string}
+use Rattle.node_strings.specs.Strings.{Strings}
+use Rattle.node_strings.specs.Layouts.{layout_string}
 use Rattle.node_messages.specs.Strings.{body_strings, next_strings, strings_of}
 use Rattle.node_messages.specs.Gives.{Agrees}
 use Rattle.node_messages.specs.Reading.{first_number, first_layout, first_digest, first_name, first_subject, first_member}

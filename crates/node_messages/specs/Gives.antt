@@ -2,7 +2,7 @@
 -- What functions that read give.
 use Rattle.std.specs.Prelude.{◌≡◌, Result, Ok, Err}
 use denote.Ref.{Bor}
-use Rattle.string_parts.specs.Strings.{Strings}
+use Rattle.node_strings.specs.Strings.{Strings}
 use Rattle.node_messages.specs.declared.error.Fault.{Fault}
 use Rattle.node_messages.specs.declared.error.MessageError.{MessageError}
 use Rattle.node_messages.specs.declared.error.MessageError.TheVariants as errors

@@ -3,7 +3,7 @@
 use Rattle.std.specs.Prelude.{◌≡◌, ◌≤◌, Ok}
 use Rattle.frames.specs.declared.limits.TheConstants.{LONGEST_STRING}
 use Rattle.mail.specs.Message.{message_bytes}
-use Rattle.string_parts.specs.Strings.{Strings}
+use Rattle.node_strings.specs.Strings.{Strings}
 use Rattle.node_messages.specs.declared.message.NodeMessage.{NodeMessage}
 use Rattle.node_messages.specs.Message.{IsMessage}
 use Rattle.node_messages.specs.Reading.{message_from}

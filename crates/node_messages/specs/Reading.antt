@@ -17,9 +17,9 @@ use Rattle.bank.specs.declared.request.Request.TheVariants as request
 use Rattle.bank.specs.declared.status.Status.{Status}
 use Rattle.mail.specs.declared.message.Body.{Body}
 use Rattle.mail.specs.declared.message.Body.TheVariants as body
-use Rattle.string_parts.specs.Strings.{Strings}
-use Rattle.string_parts.specs.Numbers.{number_up_to}
-use Rattle.string_parts.specs.Layouts.{layout_of_string}
+use Rattle.node_strings.specs.Strings.{Strings}
+use Rattle.node_strings.specs.Numbers.{number_up_to}
+use Rattle.node_strings.specs.Layouts.{layout_of_string}
 use Rattle.words.specs.Parts.{and_then}
 use Rattle.node_messages.specs.declared.error.Fault.{Fault}
 use Rattle.node_messages.specs.declared.error.Fault.TheVariants.{WrongCount, BadDigest, NameTooLong, BadLayout}

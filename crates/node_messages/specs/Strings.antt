@@ -15,8 +15,8 @@ use Rattle.bank.specs.Serve.{kind_of}
 use Rattle.mail.specs.declared.message.Body.{Body}
 use Rattle.mail.specs.declared.message.Body.TheVariants as body
 use Rattle.mail.specs.declared.message.Message.{Message}
-use Rattle.string_parts.specs.Layouts.{layout_string}
-use Rattle.string_parts.specs.Strings.{Strings}
+use Rattle.node_strings.specs.Layouts.{layout_string}
+use Rattle.node_strings.specs.Strings.{Strings}
 use Rattle.node_messages.specs.declared.message.NodeMessage.{NodeMessage}
 use Rattle.node_messages.specs.Words.{status_word, kind_word}
 

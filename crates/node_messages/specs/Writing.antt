@@ -11,7 +11,7 @@ use Rattle.node_messages.specs.declared.message.NodeMessage.{NodeMessage}
 use Rattle.node_messages.specs.Message.{is_fitting}
 use Rattle.mail.specs.Message.{names_next}
 use Rattle.words.specs.Parts.{and_then}
-use Rattle.string_parts.specs.Strings.{Strings}
+use Rattle.node_strings.specs.Strings.{Strings}
 use Rattle.node_messages.specs.Strings.{strings_of}
 
 -- whether two answers to a question are the same

@@ -9,8 +9,8 @@ use crate::vocabulary::read_is_request;
 use bank::{Kind, Request};
 use bytes::Bytes;
 use mail::Body;
+use node_strings::is_text;
 use std::alloc::Global;
-use string_parts::is_text;
 
 // A kind that has a tag.
 #[tactic(auto, unfolding(crate::specs::Reading::kind_tagged))]

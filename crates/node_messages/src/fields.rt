@@ -22,8 +22,8 @@ use bank::Status;
 use bytes::Bytes;
 use cluster_file::DIGEST_LENGTH;
 use layout::Layout;
+use node_strings::{read_layout, read_number};
 use piece::Piece;
-use string_parts::{read_layout, read_number};
 use tag::{CallId, LONGEST_NAME, Tag};
 
 /// What a message is about.

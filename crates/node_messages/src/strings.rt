@@ -17,9 +17,9 @@ use crate::vocabulary::{kind_word, status_word};
 use bank::{Answer, HeldPiece, Kind, Request, Status};
 use bytes::Bytes;
 use mail::Body;
+use node_strings::{push_number, push_shared, push_word};
 use piece::Piece;
 use std::alloc::{AllocError, Global};
-use string_parts::{push_number, push_shared, push_word};
 use tag::Tag;
 
 // A status.

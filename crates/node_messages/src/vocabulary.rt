@@ -4,7 +4,7 @@ ghost use Rattle.node_messages.specs.Words.{status_from, status_word, is_request
 
 use crate::error::Fault;
 use bank::{Kind, Status};
-use string_parts::is_text;
+use node_strings::is_text;
 
 /// Returns the status for which a word stands.
 #[tactic(auto, unfolding(crate::specs::Words::status_from))]

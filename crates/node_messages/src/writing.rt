@@ -15,8 +15,8 @@ use bytes::Bytes;
 use frames::Frame;
 use layout::Layout;
 use mail::Message;
+use node_strings::{push_bytes, push_layout, push_number, push_shared};
 use std::alloc::{AllocError, Global};
-use string_parts::{push_bytes, push_layout, push_number, push_shared};
 use tag::LONGEST_NAME;
 
 // The most strings that a message has: a reply to a Fetch with a piece has 3 of its subject, 4 numbers, 2 words, a tag

@@ -4,7 +4,7 @@ use Rattle.std.specs.Prelude.{◌≡◌, ℕ, nat_eq, List, Option, None, Some, 
 use Rattle.std.specs.Cmp.Lexicographic.{pointwise}
 use Rattle.indexmap.specs.IndexMap.{get, keys, values}
 use Rattle.layout.specs.Layout.{Layout}
-use Rattle.placement.specs.Placement.{placed}
+use Rattle.cluster_file.specs.Placement.{placed}
 use Rattle.local_object.specs.Changing.{bytes_at_places}
 use Rattle.local_object.specs.Local.{LocalObject, new_local}
 use Rattle.deeds.specs.Named.{with_named}

@@ -3,14 +3,14 @@ ghost use Rattle.std.specs.Prelude.{◌≡◌, ℕ, nat_eq, IfErr, IfOk, IsSome,
 ghost use Rattle.std.specs.Cmp.Lexicographic.{pointwise};
 ghost use Rattle.tag.specs.declared.refusal.Refusal.TheVariants.{NoMemory};
 ghost use Rattle.indexmap.specs.IndexMap.{get};
-ghost use Rattle.placement.specs.Placement.{placed};
+ghost use Rattle.cluster_file.specs.Placement.{placed};
 ghost use Rattle.local_object.specs.Local.{new_local};
 ghost use Rattle.node_objects.specs.Objects.{AreSame, new_of, objects_of};
 
 use bytes::Bytes;
+use cluster_file::ClusterNodes;
 use indexmap::IndexMap;
 use local_object::LocalObject;
-use placement::ClusterNodes;
 use std::alloc::Global;
 use tag::Refusal;
 

@@ -1,3 +1,5 @@
-pub mod PartLemmas
 pub mod ArrivalLemmas
+pub mod LayoutLemmas
+pub mod NumberLemmas
+pub mod PartLemmas
 pub mod RecordLemmas

@@ -8,10 +8,10 @@ use Rattle.std.proofs.lemmas.List.{take-append-drop}
 use Rattle.std.proofs.lemmas.Slice.Eq.{bytes_eq-Decides}
 use Rattle.layout.specs.Layout.{Layout, IsLawful}
 use Rattle.cluster_file.specs.declared.file.TheConstants.{DIGEST_LENGTH}
-use Rattle.string_parts.specs.Layouts.{layout_string, layout_of_string}
-use Rattle.string_parts.specs.Numbers.{number_up_to}
-use Rattle.string_parts.proofs.LayoutLemmas.{layout_ok as string_ok, layout_again as string_again}
-use Rattle.string_parts.proofs.NumberLemmas.{number_ok as up_to_ok, number_again as up_to_again}
+use Rattle.node_strings.specs.Layouts.{layout_string, layout_of_string}
+use Rattle.node_strings.specs.Numbers.{number_up_to}
+use Rattle.node_strings.proofs.LayoutLemmas.{layout_ok as string_ok, layout_again as string_again}
+use Rattle.node_strings.proofs.NumberLemmas.{number_ok as up_to_ok, number_again as up_to_again}
 use Rattle.node_strings.specs.Parts.{then_read, if_read, number_or_none, rest_behind, layout_or_none, digest_or_none}
 
 abbrev made : {A : Type 0} → A → Option A

@@ -4,8 +4,8 @@ use Rattle.std.proofs.Common.{Option, Some, None, refl, ap, sym, ◌∙◌, subs
 use Rattle.std.specs.Prelude.{codes}
 use Rattle.std.specs.Fmt.{decimal}
 use Rattle.layout.specs.Layout.{Layout}
-use Rattle.string_parts.specs.Layouts.{layout_string}
-use Rattle.string_parts.specs.Strings.{Strings}
+use Rattle.node_strings.specs.Layouts.{layout_string}
+use Rattle.node_strings.specs.Strings.{Strings}
 use Rattle.node_strings.specs.Parts.{then_read, number_or_none, layout_or_none, digest_or_none}
 use Rattle.node_strings.specs.declared.record.Record.{Record}
 use Rattle.node_strings.specs.declared.record.Record.TheVariants as kept

@@ -1,4 +1,7 @@
-pub mod Parts
 pub mod Arrival
-pub mod Record
 pub mod Laws
+pub mod Layouts
+pub mod Numbers
+pub mod Parts
+pub mod Record
+pub mod Strings

@@ -5,9 +5,9 @@ use Rattle.std.specs.Prelude.{if◌then◌else◌, take, drop}
 use Rattle.std.specs.Str.{bytes_eq}
 use Rattle.layout.specs.Layout.{Layout}
 use Rattle.cluster_file.specs.declared.file.TheConstants.{DIGEST_LENGTH}
-use Rattle.string_parts.specs.Strings.{Strings}
-use Rattle.string_parts.specs.Numbers.{number_up_to}
-use Rattle.string_parts.specs.Layouts.{layout_of_string}
+use Rattle.node_strings.specs.Strings.{Strings}
+use Rattle.node_strings.specs.Numbers.{number_up_to}
+use Rattle.node_strings.specs.Layouts.{layout_of_string}
 
 -- what a function returned, seen by `view`, is what reading gives
 abbrev pub IsReadAs : {X Y : Type 0} → (X → Y) → Option X → Option Y → Type 0

@@ -8,8 +8,8 @@ use Rattle.layout.specs.Layout.{IsLawful}
 use Rattle.cluster_file.specs.declared.file.TheConstants.{DIGEST_LENGTH}
 use Rattle.node_strings.specs.declared.record.Record.{Record}
 use Rattle.node_strings.specs.declared.record.Record.TheVariants as kept
-use Rattle.string_parts.specs.Layouts.{layout_string}
-use Rattle.string_parts.specs.Strings.{Strings}
+use Rattle.node_strings.specs.Layouts.{layout_string}
+use Rattle.node_strings.specs.Strings.{Strings}
 use Rattle.node_strings.specs.Parts.{then_read, number_or_none, layout_or_none, digest_or_none}
 
 -- the strings of the entry of a record: a word that says what it is, and then its parts

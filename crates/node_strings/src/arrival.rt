@@ -5,9 +5,9 @@ ghost use Rattle.node_strings.specs.Arrival.{IsArrival, arrival_strings, arrival
 ghost use Rattle.node_strings.specs.Arrival.{node_arrival, tick_arrival};
 
 use crate::address::ConnectionId;
+use crate::is_text;
 use crate::parts::{behind, number_of, split};
 use frames::Frame;
-use string_parts::is_text;
 
 /// What has come to a node.
 #[derive(Debug, Drop)]

@@ -3,11 +3,11 @@ ghost use Rattle.std.specs.Prelude.{◌≡◌, ◌≤◌, ◌∷◌, [], IfSome,
 ghost use Rattle.node_strings.specs.Parts.{IsReadAs, first_and_rest, rest_behind};
 ghost use Rattle.node_strings.specs.Parts.{number_or_none, layout_or_none, digest_or_none};
 
+use crate::{read_layout, read_number};
 use bytes::Bytes;
 use cluster_file::DIGEST_LENGTH;
 use frames::Frame;
 use layout::Layout;
-use string_parts::{read_layout, read_number};
 
 /// The first string of a frame, and the frame of the others. None if the frame has no string.
 pub(crate) fn split(frame: Frame) -> Option<(Bytes, Frame)>

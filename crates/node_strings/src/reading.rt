@@ -4,11 +4,11 @@ ghost use Rattle.node_strings.specs.declared.record.Record.{Record as Kept};
 ghost use Rattle.node_strings.specs.Record.{HasPartsInRange, record_strings, record_at, record_from, start_record};
 ghost use Rattle.node_strings.specs.Record.{cluster_record, move_record};
 
+use crate::is_text;
 use crate::parts::{digest_of, layout_of, number_of, split, string_of};
 use crate::record::Record;
 use bytes::Bytes;
 use frames::Frame;
-use string_parts::is_text;
 
 /// The record of an entry with these strings, or none if no node writes such an entry. The function allocates no
 /// memory.

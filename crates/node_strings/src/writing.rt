@@ -3,10 +3,10 @@ ghost use Rattle.std.specs.Prelude.{◌≡◌, ◌++◌, IfOk, OnOk};
 ghost use Rattle.node_strings.specs.Record.{record_strings};
 
 use crate::record::Record;
+use crate::{push_bytes, push_layout, push_number, push_shared, push_word};
 use bytes::Bytes;
 use frames::Frame;
 use std::alloc::{AllocError, Global};
-use string_parts::{push_bytes, push_layout, push_number, push_shared, push_word};
 
 /// The strings of the entry of this record. It fails only if there is no memory, and copies no byte of a name or of a
 /// message.

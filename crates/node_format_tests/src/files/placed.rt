@@ -1,6 +1,6 @@
 //! Layouts of names, computed by Python's `hashlib`, and the nodes that are refused.
+use cluster_file::ClusterNodes;
 use layout::Layout;
-use placement::ClusterNodes;
 use std::process::Abort;
 use tag::Refusal;
 

@@ -1,5 +1,5 @@
 //! How many members fall on each node.
-use placement::ClusterNodes;
+use cluster_file::ClusterNodes;
 
 const NAMES: u32 = 2_000;
 

@@ -1,5 +1,5 @@
 //! Sums that were published elsewhere.
-use crc32c::checksum;
+use node_log::checksum;
 
 /// The bytes from 0 to 31.
 const ASCENDING: [u8; 32] = [

@@ -1,9 +1,9 @@
 //! A node that is alone, and its letters to itself.
 use super::checks::{assert_prints, is_request};
 use bytes::Bytes;
+use cluster_file::ClusterNodes;
 use local_object::{Ended, Letter};
 use node_objects::Objects;
-use placement::ClusterNodes;
 use std::alloc::Global;
 use std::collections::VecDeque;
 use std::process::Abort;

@@ -1,5 +1,5 @@
 use Rattle.std.proofs.Common.{◌≡◌, List, ℕ, ap, subst, sym, ◌∙◌}
-use Rattle.placement.specs.Placement.{ClusterNodes, AreLawfulNodes}
+use Rattle.cluster_file.specs.Placement.{ClusterNodes, AreLawfulNodes}
 use Rattle.cluster_file.proofs.file.ClusterFile.placement.Goals as goal
 
 pub unreachable-requires : goal.unreachable-requires

@@ -1,6 +1,6 @@
 use Rattle.std.proofs.Common.{◌++◌, ◌∷◌, [], List, map, ap, ◌∙◌}
 use Rattle.rewritten_logs.proofs.RewrittenLogLemmas.{rewritten_record}
-use Rattle.string_parts.specs.Strings.{Strings}
+use Rattle.node_strings.specs.Strings.{Strings}
 use Rattle.node_objects.specs.Objects.{heard_names}
 use Rattle.node_keeper.specs.Anew.{anew_records}
 use Rattle.node_keeper.specs.Keeping.{kept_of}

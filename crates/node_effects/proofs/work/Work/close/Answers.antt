@@ -1,7 +1,7 @@
 use Rattle.std.proofs.Common.{ap, subst, sym, ◌++◌, ◌∙◌, ◌∷◌, [], ◌≡◌}
 use Rattle.frames.specs.Frame.{IsFrame}
 use Rattle.node_strings.specs.Arrival.{client_address}
-use Rattle.string_parts.specs.Strings.{Strings}
+use Rattle.node_strings.specs.Strings.{Strings}
 use Rattle.node_effects.proofs.ErrorLemmas.{client_fits}
 use Rattle.node_effects.proofs.work.Work.close.Goals as goal
 

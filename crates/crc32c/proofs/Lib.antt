@@ -1,3 +1,0 @@
-pub mod ShiftLemmas
-pub mod StateLemmas
-pub mod TableLemmas

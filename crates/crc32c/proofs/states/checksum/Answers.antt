@@ -1,7 +1,0 @@
-use Rattle.std.proofs.Common.{ℕ, ap, bit_xor}
-use Rattle.crc32c.specs.Crc32c.{crc32c, all_bits}
-use Rattle.crc32c.proofs.states.checksum.Goals as goal
-
-pub returns : goal.returns
-unfolding crc32c
-returns c = ap (λ (t : ℕ). bit_xor t all_bits) c.after_bytes.ensures

@@ -1,3 +1,0 @@
-pub mod NodeOrderLemmas
-pub mod FirstNodesLemmas
-pub mod ScoredListLemmas

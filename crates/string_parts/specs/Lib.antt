@@ -1,3 +1,0 @@
-pub mod Strings
-pub mod Numbers
-pub mod Layouts
