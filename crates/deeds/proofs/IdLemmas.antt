@@ -3,7 +3,7 @@ use Rattle.std.proofs.Common.{◌≡◌, ◌<◌, ◌≤◌, ◌^◌, ◌⊎◌,
 use Rattle.std.proofs.Common.{nat_lt, ltb-true, List, [], ◌∷◌, ◌++◌, map}
 use Rattle.std.proofs.Common.{Option, None, Some, refl, sym, subst, ap, ◌∙◌, arith}
 use Rattle.std.specs.List.{AllByRecursion}
-use Rattle.call_ids.specs.CallId.{CallIds, HasRanges, after_given, call_id, next_given_id}
+use Rattle.deeds.specs.CallId.{CallIds, HasRanges, after_given, call_id, next_given_id}
 use Rattle.local_object.specs.Events.{LocalEvent}
 use Rattle.deeds.specs.Deeds.{Deed}
 use Rattle.deeds.specs.Ids.{HaveNextIds, IsGiven, IsLater, IsNextId, begun_id, deed_id}

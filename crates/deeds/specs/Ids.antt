@@ -1,7 +1,7 @@
 -- The contracts that docs/trusted.md lists do not depend on this file; other contracts and proofs do.
 -- Which ids a node gives to the calls that it begins.
 use Rattle.std.specs.Prelude.{◌≡◌, ◌⊎◌, ◌<◌, ◌≤◌, ℕ, List, [], ◌∷◌, Option, None, Some}
-use Rattle.call_ids.specs.CallId.{CallIds, HasRanges, after_given, next_given_id}
+use Rattle.deeds.specs.CallId.{CallIds, HasRanges, after_given, next_given_id}
 use Rattle.local_object.specs.Events.{LocalEvent}
 use Rattle.deeds.specs.Deeds.{Deed}
 

@@ -2,7 +2,7 @@
 -- What a node keeps of all objects.
 use Rattle.std.specs.Prelude.{ℕ, List, Option}
 use Rattle.layout.specs.Layout.{Layout}
-use Rattle.call_ids.specs.CallId.{CallIds}
+use Rattle.deeds.specs.CallId.{CallIds}
 use Rattle.local_object.specs.Local.{LocalObject, new_local}
 
 -- what a cluster file says: of how many finalized versions banks keep pieces besides the newest (None: of all), which

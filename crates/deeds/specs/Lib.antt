@@ -1,7 +1,8 @@
-pub mod Named
-pub mod Kept
+pub mod CallId
 pub mod Deeds
-pub mod May
-pub mod Ids
 pub mod Handled
+pub mod Ids
+pub mod Kept
 pub mod Laws
+pub mod May
+pub mod Named

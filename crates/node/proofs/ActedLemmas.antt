@@ -4,7 +4,7 @@ use Rattle.std.proofs.Common.{None, Some, slice_get, refl, sym, subst, ap, â—Œâˆ
 use Rattle.std.proofs.lemmas.List.{append-nil, append_assoc, map-append}
 use Rattle.std.specs.List.{AllByRecursion}
 use Rattle.encoder.specs.Fragment.{fragment}
-use Rattle.call_ids.specs.CallId.{HasRanges}
+use Rattle.deeds.specs.CallId.{HasRanges}
 use Rattle.deeds.specs.Named.{NamedLetter as Named, IsOneOf}
 use Rattle.deeds.proofs.ListLemmas.{all_append, all_weaker}
 use Rattle.deeds.proofs.NameLemmas.{one_of_first, one_of_second}

@@ -9,7 +9,7 @@ use Rattle.client_commands.specs.Reading.{command_at}
 use Rattle.client_commands.specs.declared.answer.Answer.TheVariants as answers
 use Rattle.client_commands.specs.declared.answer.AnswerError.TheVariants as errors
 use Rattle.client_commands.specs.declared.command.Command.{Command}
-use Rattle.node_objects.specs.Objects.{objects_of}
+use Rattle.node_keeper.specs.Objects.{objects_of}
 use Rattle.mail.specs.Message.{is_request}
 use Rattle.node_effects.specs.Seen.{named_of}
 use Rattle.node_strings.specs.Strings.{Strings}
@@ -31,7 +31,7 @@ use Rattle.node_keeper.specs.declared.delivered.Delivered.{Delivered}
 use Rattle.node_keeper.specs.declared.delivered.Delivered.TheVariants as delivered
 use Rattle.node_keeper.specs.declared.keeper.Keeper.{Keeper}
 use Rattle.node_keeper.proofs.SeenLemmas.{begins_leaves, begins_seen, delivers_leaves, delivers_seen}
-use Rattle.call_ids.specs.CallId.{CallIds}
+use Rattle.deeds.specs.CallId.{CallIds}
 use Rattle.indexmap.specs.IndexMap.{index_map_len}
 use Rattle.node_keeper.specs.Acts.{GivesId}
 use Rattle.node.specs.AtOnce.{BeginsHere, IsNextGiven, IsReplyHere}

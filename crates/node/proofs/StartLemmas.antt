@@ -5,7 +5,7 @@ use Rattle.std.proofs.lemmas.List.{map-append}
 use Rattle.indexmap.specs.IndexMap.{get}
 use Rattle.node_clients.specs.Connections.{has_next}
 use Rattle.node_clients.specs.declared.connections.Connections.{Connections}
-use Rattle.call_ids.specs.CallId.{with_next_epoch}
+use Rattle.deeds.specs.CallId.{with_next_epoch}
 use Rattle.recoveries.specs.Records.{IsStarted}
 use Rattle.node_effects.specs.Work.{Growth, IsEmpty, IsGrown, OnlyLogs, entries_in, log_all, no_growth, one_entry}
 use Rattle.node_effects.specs.declared.output.Output.TheVariants as output

@@ -7,7 +7,7 @@ use Rattle.std.specs.List.{concat}
 use Rattle.words.specs.Hexadecimal.{hexadecimal_text}
 use Rattle.indexmap.specs.IndexMap.{index_map_len}
 use Rattle.tag.specs.declared.refusal.Refusal.{Refusal}
-use Rattle.call_ids.specs.CallId.{CallIds, next_given_id, with_next_epoch}
+use Rattle.deeds.specs.CallId.{CallIds, next_given_id, with_next_epoch}
 use Rattle.node_clients.specs.Connections.{doing, waiting_on}
 use Rattle.node_clients.specs.declared.connection.Connection.{Connection}
 use Rattle.node_clients.specs.declared.connection.State.TheVariants.{Idle}
@@ -22,7 +22,7 @@ use Rattle.client_commands.specs.declared.command.Command.TheVariants as ask
 use Rattle.node_strings.specs.Strings.{Strings}
 use Rattle.node_strings.specs.declared.arrival.Arrival.{Arrival}
 use Rattle.node_strings.specs.declared.arrival.Arrival.TheVariants as came
-use Rattle.node_objects.specs.Objects.{bytes_in_banks, heard_names, objects_of}
+use Rattle.node_keeper.specs.Objects.{bytes_in_banks, heard_names, objects_of}
 use Rattle.node_clients.specs.Desk.{connection_of}
 use Rattle.node_clients.specs.Services.{Service}
 use Rattle.node_clients.specs.declared.counts.Counts.{Counts}

@@ -5,7 +5,7 @@ use Rattle.std.specs.Prelude.{Result}
 use Rattle.frames.specs.Frame.{IsFrame}
 use Rattle.tag.specs.declared.refusal.Refusal.{Refusal}
 use Rattle.local_object.specs.Doing.{move_refusal}
-use Rattle.node_objects.specs.Objects.{objects_of}
+use Rattle.node_keeper.specs.Objects.{objects_of}
 use Rattle.recoveries.specs.Records.{Recovers}
 use Rattle.node_log.specs.Entry.{sealed}
 use Rattle.node_messages.specs.Reading.{message_from}

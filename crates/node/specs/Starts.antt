@@ -1,7 +1,7 @@
 -- The contracts that docs/trusted.md lists do not depend on this file; other contracts and proofs do.
 -- What the log of a node gets when the node starts.
 use Rattle.std.specs.Prelude.{◌^◌, ◌<◌, ⊤, suc, ℕ, Bool, if◌then◌else◌, List, [], ◌∷◌, ◌++◌}
-use Rattle.call_ids.specs.CallId.{CallIds}
+use Rattle.deeds.specs.CallId.{CallIds}
 use Rattle.node_log.specs.Entry.{IsEntry}
 use Rattle.node_strings.specs.Record.{record_strings}
 use Rattle.node_strings.specs.declared.record.Record.TheVariants as record_of

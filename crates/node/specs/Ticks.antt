@@ -4,8 +4,8 @@ use Rattle.std.specs.Prelude.{◌≡◌, ⊤, ℕ, ◌||◌, ◌&&◌, not, Bool
 use Rattle.std.specs.Prelude.{Option, None, Some}
 use Rattle.indexmap.specs.IndexMap.{keys}
 use Rattle.local_object.specs.Doing.{give_up_events}
-use Rattle.node_objects.specs.Doing.{IsDoneAt}
-use Rattle.node_objects.specs.Objects.{objects_of}
+use Rattle.node_keeper.specs.Doing.{IsDoneAt}
+use Rattle.node_keeper.specs.Objects.{objects_of}
 use Rattle.node_strings.specs.declared.arrival.Arrival.{Arrival}
 use Rattle.node_strings.specs.declared.arrival.Arrival.TheVariants as came
 use Rattle.node_effects.specs.Work.{send_all}

@@ -3,7 +3,7 @@ use Rattle.std.proofs.Common.{◌≡◌, ◌⊎◌, inl, inr, ℕ, List, [], ◌
 use Rattle.std.proofs.lemmas.List.{map-append}
 use Rattle.std.specs.List.{AllByRecursion}
 use Rattle.encoder.specs.Fragment.{fragment}
-use Rattle.call_ids.specs.CallId.{HasRanges}
+use Rattle.deeds.specs.CallId.{HasRanges}
 use Rattle.deeds.specs.Deeds.{Notice as Seen}
 use Rattle.deeds.specs.Handled.{IsHandled}
 use Rattle.deeds.specs.Kept.{KeptNode}

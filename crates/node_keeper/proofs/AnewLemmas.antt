@@ -10,7 +10,7 @@ use Rattle.deeds.proofs.ListLemmas.{all_append}
 use Rattle.node_effects.specs.Errors.{WritesOrFails}
 use Rattle.node_effects.specs.declared.error.NodeError.{NodeError}
 use Rattle.node_effects.proofs.ErrorLemmas.{start_fits}
-use Rattle.node_objects.specs.Objects.{heard_names}
+use Rattle.node_keeper.specs.Objects.{heard_names}
 use Rattle.object_letters.specs.Letters.{letters_as}
 use Rattle.recoveries.specs.Records.{LogRecord}
 use Rattle.rewritten_logs.specs.Records.{epoch_records, object_records}

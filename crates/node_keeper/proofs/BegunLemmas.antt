@@ -2,7 +2,7 @@
 use Rattle.std.proofs.Common.{◌≡◌, inl, inr, ℕ, List, [], ◌∷◌, ◌++◌, map, Some, refl, sym, subst, ap, ◌∙◌}
 use Rattle.std.specs.List.{AllByRecursion}
 use Rattle.encoder.specs.Fragment.{fragment}
-use Rattle.call_ids.specs.CallId.{CallIds, after_given, next_given_id}
+use Rattle.deeds.specs.CallId.{CallIds, after_given, next_given_id}
 use Rattle.local_object.specs.declared.letter.Letter.{Letter}
 use Rattle.local_object.specs.Events.{LocalEvent}
 use Rattle.local_object.specs.Resent.{IsResent}
@@ -15,8 +15,8 @@ use Rattle.deeds.proofs.IdLemmas.{later_same}
 use Rattle.deeds.proofs.MethodLemmas.{begun_handled}
 use Rattle.recoveries.specs.Records.{LogRecord}
 use Rattle.recoveries.specs.Stops.{logged_first}
-use Rattle.node_objects.specs.Doing.{IsDoneAt}
-use Rattle.node_objects.specs.Objects.{objects_of}
+use Rattle.node_keeper.specs.Doing.{IsDoneAt}
+use Rattle.node_keeper.specs.Objects.{objects_of}
 use Rattle.node_effects.specs.Seen.{seen_of}
 use Rattle.node_effects.specs.Work.{Growth, IsGrown, both_grown, log_all, no_growth, send_all}
 use Rattle.node_effects.specs.declared.notice.Notice.{Notice}

@@ -4,14 +4,14 @@ use Rattle.std.proofs.Common.{sym, subst, ap, ◌∙◌}
 use Rattle.std.proofs.lemmas.List.{append-nil}
 use Rattle.std.specs.List.{AllByRecursion}
 use Rattle.encoder.specs.Fragment.{fragment}
-use Rattle.call_ids.specs.CallId.{CallIds, with_next_epoch}
+use Rattle.deeds.specs.CallId.{CallIds, with_next_epoch}
 use Rattle.tag.specs.declared.refusal.Refusal.{Refusal}
 use Rattle.tag.specs.declared.refusal.Refusal.TheVariants.{NoMemory}
 use Rattle.local_object.specs.declared.letter.Letter.{Letter}
 use Rattle.local_object.specs.Events.{done_here}
-use Rattle.node_objects.specs.Doing.{IsDoneAt}
-use Rattle.node_objects.specs.declared.objects.Objects.{Objects}
-use Rattle.node_objects.specs.Objects.{AreSame, objects_of}
+use Rattle.node_keeper.specs.Doing.{IsDoneAt}
+use Rattle.node_keeper.specs.declared.objects.Objects.{Objects}
+use Rattle.node_keeper.specs.Objects.{AreSame, objects_of}
 use Rattle.node_effects.specs.Errors.{IsUnwritten}
 use Rattle.node_effects.specs.Work.{IsGrown}
 use Rattle.node_effects.proofs.GrowthLemmas.{grown_then}

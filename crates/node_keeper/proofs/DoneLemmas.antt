@@ -1,11 +1,11 @@
 -- What is done to the object of a name, as the laws on logs say it.
 use Rattle.std.proofs.Common.{◌≡◌, ℕ, List, ap}
-use Rattle.call_ids.specs.CallId.{CallIds}
+use Rattle.deeds.specs.CallId.{CallIds}
 use Rattle.local_object.specs.declared.letter.Letter.{Letter}
 use Rattle.local_object.specs.declared.progress.Ended.{Ended}
 use Rattle.local_object.specs.Events.{LocalEvent}
-use Rattle.node_objects.specs.Doing.{IsDoneAt, IsTakenAt}
-use Rattle.node_objects.specs.Objects.{HaveSameSettings}
+use Rattle.node_keeper.specs.Doing.{IsDoneAt, IsTakenAt}
+use Rattle.node_keeper.specs.Objects.{HaveSameSettings}
 use Rattle.cluster_file.specs.Placement.{placed}
 use Rattle.recoveries.specs.Records.{IsDoneTo, IsTakenBy}
 use Rattle.node_keeper.specs.Keeping.{names_of_keeper, kept_of}

@@ -5,13 +5,13 @@ use Rattle.std.proofs.lemmas.Result.{on_ok_weaker}
 use Rattle.tag.specs.declared.refusal.Refusal.{Refusal}
 use Rattle.tag.specs.declared.refusal.Refusal.TheVariants.{NoMemory}
 use Rattle.encoder.specs.Fragment.{fragment}
-use Rattle.call_ids.specs.CallId.{CallIds, HasRanges, after_given, with_next_epoch}
+use Rattle.deeds.specs.CallId.{CallIds, HasRanges, after_given, with_next_epoch}
 use Rattle.deeds.specs.Ids.{IsLater}
 use Rattle.deeds.proofs.HandledLemmas.{handled_as, nothing_handled}
 use Rattle.deeds.proofs.IdLemmas.{later_same, next_later}
 use Rattle.recoveries.specs.Records.{LogRecord}
 use Rattle.recoveries.proofs.LoggedLemmas.{same_unlogged, starts_logged}
-use Rattle.node_objects.specs.Objects.{AreSame}
+use Rattle.node_keeper.specs.Objects.{AreSame}
 use Rattle.node_effects.specs.Work.{IsGrown, no_growth, one_entry}
 use Rattle.node_effects.specs.declared.work.Work.{Work}
 use Rattle.node_effects.proofs.GrowthLemmas.{grown_none}

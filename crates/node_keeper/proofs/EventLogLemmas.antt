@@ -9,9 +9,9 @@ use Rattle.deeds.specs.Kept.{FileOfNames, KeptNode}
 use Rattle.recoveries.specs.Copies.{IsLogged}
 use Rattle.recoveries.specs.Records.{IsDoneTo, LogRecord}
 use Rattle.recoveries.proofs.LoggedLemmas.{moves_logged, reads_unlogged, writes_unlogged}
-use Rattle.node_objects.specs.Doing.{IsDoneAt}
-use Rattle.node_objects.specs.declared.objects.Objects.{Objects}
-use Rattle.node_objects.specs.Objects.{objects_of}
+use Rattle.node_keeper.specs.Doing.{IsDoneAt}
+use Rattle.node_keeper.specs.declared.objects.Objects.{Objects}
+use Rattle.node_keeper.specs.Objects.{objects_of}
 use Rattle.node_keeper.specs.Keeping.{names_of_keeper}
 use Rattle.node_keeper.specs.declared.keeper.Keeper.{Keeper}
 

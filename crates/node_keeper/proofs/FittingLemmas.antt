@@ -20,13 +20,13 @@ use Rattle.node_messages.specs.Message.{IsBody, IsMessage, is_fitting}
 use Rattle.node_messages.specs.Strings.{strings_of}
 use Rattle.node_messages.specs.Writing.{is_frame, same, strings_or_fault}
 use Rattle.node_strings.specs.Strings.{Strings}
-use Rattle.call_ids.specs.CallId.{CallIds}
+use Rattle.deeds.specs.CallId.{CallIds}
 use Rattle.local_object.specs.declared.letter.Letter.{Letter}
 use Rattle.local_object.specs.declared.progress.Ended.{Ended}
 use Rattle.local_object.specs.Doing.{serve_events}
-use Rattle.node_objects.specs.Doing.{IsDoneAt, IsTakenAt}
-use Rattle.node_objects.specs.declared.objects.Objects.{Objects}
-use Rattle.node_objects.specs.Objects.{objects_of}
+use Rattle.node_keeper.specs.Doing.{IsDoneAt, IsTakenAt}
+use Rattle.node_keeper.specs.declared.objects.Objects.{Objects}
+use Rattle.node_keeper.specs.Objects.{objects_of}
 use Rattle.node_strings.specs.Record.{record_strings}
 use Rattle.node_strings.specs.declared.record.Record.TheVariants as record_of
 use Rattle.node_effects.specs.Errors.{IsUnwritten, WritesOrFails, error_of_message}

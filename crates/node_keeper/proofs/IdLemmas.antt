@@ -3,7 +3,7 @@ use Rattle.std.proofs.Common.{◌≡◌, ◌<◌, ◌^◌, inl, ℕ, suc, Bool, 
 use Rattle.std.proofs.Common.{List, [], ◌∷◌, Option, None, Some, refl, sym, subst, ap, ◌∙◌, arith}
 use Rattle.std.proofs.lemmas.Bool.{ltb-true}
 use Rattle.record.specs.Fragments.{Code}
-use Rattle.call_ids.specs.CallId.{CallIds, HasRanges, after_given, call_id, next_given_id, with_next_epoch}
+use Rattle.deeds.specs.CallId.{CallIds, HasRanges, after_given, call_id, next_given_id, with_next_epoch}
 use Rattle.deeds.specs.Named.{NamedLetter as Named}
 use Rattle.deeds.specs.Kept.{KeptNode}
 use Rattle.deeds.specs.Deeds.{Deed, Notice}

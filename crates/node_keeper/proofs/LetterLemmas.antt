@@ -15,8 +15,8 @@ use Rattle.deeds.specs.Named.{NamedLetter as Named}
 use Rattle.recoveries.specs.Copies.{IsHeeded, IsLogged}
 use Rattle.recoveries.specs.Records.{LogRecord}
 use Rattle.recoveries.proofs.LoggedLemmas.{given_up_unlogged, served_logged, taken_logged, taken_unlogged, unchanged_unlogged}
-use Rattle.node_objects.specs.Doing.{IsDoneAt}
-use Rattle.node_objects.specs.Objects.{objects_of}
+use Rattle.node_keeper.specs.Doing.{IsDoneAt}
+use Rattle.node_keeper.specs.Objects.{objects_of}
 use Rattle.node_effects.specs.Seen.{all_seen, named_of}
 use Rattle.node_effects.specs.Work.{both_grown, log_all, no_growth}
 use Rattle.node_effects.specs.declared.letter.NamedLetter.{NamedLetter}

@@ -6,7 +6,7 @@ use Rattle.encoder.specs.Fragment.{fragment}
 use Rattle.call.specs.Call.{OpenCall as Machine}
 use Rattle.call.specs.declared.next.Next.{Next}
 use Rattle.call.specs.declared.next.Next.TheVariants as next
-use Rattle.call_ids.specs.CallId.{CallIds}
+use Rattle.deeds.specs.CallId.{CallIds}
 use Rattle.network.specs.Worlds.{NodeCall, open_call}
 use Rattle.local_object.specs.declared.letter.Letter.{Letter}
 use Rattle.local_object.specs.declared.progress.Ended.{Ended}
@@ -27,7 +27,7 @@ use Rattle.deeds.proofs.MethodLemmas.{BeginsNone, if_all, quiet_handled}
 use Rattle.recoveries.specs.Copies.{IsLogged}
 use Rattle.recoveries.specs.Records.{LogRecord}
 use Rattle.recoveries.specs.Stops.{logged_first}
-use Rattle.node_objects.specs.Objects.{IsChangedAt, objects_of}
+use Rattle.node_keeper.specs.Objects.{IsChangedAt, objects_of}
 use Rattle.node_effects.specs.Seen.{all_seen}
 use Rattle.node_effects.specs.Work.{Growth, IsGrown, log_all, send_all}
 use Rattle.node_effects.specs.declared.work.Work.{Work}

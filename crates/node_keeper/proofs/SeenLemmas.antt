@@ -2,7 +2,7 @@
 use Rattle.std.proofs.Common.{◌≡◌, inl, inr, ℕ, Bool, true, false, not, List, [], ◌∷◌, ◌++◌, Option, None, Some}
 use Rattle.std.proofs.Common.{refl, sym, subst, ap, ◌∙◌}
 use Rattle.std.proofs.lemmas.List.{append-nil, append_assoc}
-use Rattle.call_ids.specs.CallId.{CallIds}
+use Rattle.deeds.specs.CallId.{CallIds}
 use Rattle.local_object.specs.declared.progress.Ended.{Ended}
 use Rattle.mail.specs.Message.{is_request}
 use Rattle.node_effects.specs.Seen.{named_of}

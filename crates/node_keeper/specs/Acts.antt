@@ -3,7 +3,7 @@
 use Rattle.std.specs.Prelude.{◌≡◌, ◌<◌, ◌^◌, ◌⊎◌, ℕ, suc, List, ◌++◌, map, Some}
 use Rattle.std.specs.List.{AllByRecursion}
 use Rattle.encoder.specs.Fragment.{fragment}
-use Rattle.call_ids.specs.CallId.{CallIds, HasRanges, after_given, with_next_epoch, next_given_id}
+use Rattle.deeds.specs.CallId.{CallIds, HasRanges, after_given, with_next_epoch, next_given_id}
 use Rattle.deeds.specs.Named.{NamedLetter as Named}
 use Rattle.recoveries.specs.Records.{LogRecord}
 use Rattle.recoveries.specs.Stops.{IsHandledSafely}

@@ -1,7 +1,7 @@
 -- The contracts that docs/trusted.md lists do not depend on this file; other contracts and proofs do.
 -- The records of a node's log that is written anew.
 use Rattle.std.specs.Prelude.{ℕ, List, map}
-use Rattle.node_objects.specs.Objects.{heard_names, objects_of}
+use Rattle.node_keeper.specs.Objects.{heard_names, objects_of}
 use Rattle.object_letters.specs.Letters.{letters_as}
 use Rattle.recoveries.specs.Records.{LogRecord}
 use Rattle.rewritten_logs.specs.Records.{object_records, rewritten_records}

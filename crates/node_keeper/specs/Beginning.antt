@@ -8,8 +8,8 @@ use Rattle.local_object.specs.declared.letter.Letter.{Letter}
 use Rattle.local_object.specs.Doing.{move_refusal, read_refusal, write_refusal}
 use Rattle.local_object.specs.Events.{LocalEvent, done_here}
 use Rattle.local_object.specs.Local.{LocalObject}
-use Rattle.node_objects.specs.Doing.{IsDoneAt}
-use Rattle.node_objects.specs.Objects.{AreSame, objects_of}
+use Rattle.node_keeper.specs.Doing.{IsDoneAt}
+use Rattle.node_keeper.specs.Objects.{AreSame, objects_of}
 use Rattle.recoveries.specs.Records.{LogRecord}
 use Rattle.node_effects.specs.Work.{Growth, IsGrown, both_grown}
 use Rattle.node_effects.specs.declared.error.NodeError.{NodeError}

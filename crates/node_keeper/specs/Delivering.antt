@@ -10,9 +10,9 @@ use Rattle.local_object.specs.Changing.{is_changed_by}
 use Rattle.mail.specs.Message.{is_request}
 use Rattle.local_object.specs.Doing.{has_move_open, serve_events}
 use Rattle.local_object.specs.Events.{all_done}
-use Rattle.node_objects.specs.Doing.{IsDoneAt, IsTakenAt}
-use Rattle.node_objects.specs.declared.objects.Objects.{Objects}
-use Rattle.node_objects.specs.Objects.{objects_of}
+use Rattle.node_keeper.specs.Doing.{IsDoneAt, IsTakenAt}
+use Rattle.node_keeper.specs.declared.objects.Objects.{Objects}
+use Rattle.node_keeper.specs.Objects.{objects_of}
 use Rattle.recoveries.specs.Records.{LogRecord}
 use Rattle.node_effects.specs.Seen.{named_of}
 use Rattle.node_effects.specs.Work.{Growth, IsGrown, both_grown, no_growth}

@@ -7,7 +7,7 @@ use Rattle.local_object.specs.declared.letter.Letter.{Letter}
 use Rattle.local_object.specs.Agreement.{agrees, knows_all_of}
 use Rattle.deeds.specs.Kept.{FileOfNames, KeptNode}
 use Rattle.deeds.specs.Named.{NamedLetter as Named}
-use Rattle.node_objects.specs.Objects.{first_layout_of, objects_of}
+use Rattle.node_keeper.specs.Objects.{first_layout_of, objects_of}
 use Rattle.node_keeper.specs.declared.keeper.Keeper.{Keeper}
 
 -- what a cluster file says, as `deeds` defines it

@@ -1,7 +1,7 @@
 -- The contracts that docs/trusted.md lists do not depend on this file; other contracts and proofs do.
 -- Which id a node gives next, and why it gives none.
 use Rattle.std.specs.Prelude.{◌≡◌, ◌<◌, ◌^◌, ⊤, ℕ, suc, nat_lt, if◌then◌else◌, Option, None}
-use Rattle.call_ids.specs.CallId.{CallIds, next_given_id, with_next_epoch}
+use Rattle.deeds.specs.CallId.{CallIds, next_given_id, with_next_epoch}
 use Rattle.node_effects.specs.declared.error.NodeError.{NodeError}
 use Rattle.node_effects.specs.declared.error.NodeError.TheVariants as errors
 

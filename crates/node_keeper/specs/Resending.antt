@@ -4,7 +4,7 @@ use Rattle.std.specs.Prelude.{ℕ, List}
 use Rattle.std.specs.List.{AllByRecursion}
 use Rattle.encoder.specs.Fragment.{fragment}
 use Rattle.local_object.specs.Resent.{letters_again}
-use Rattle.node_objects.specs.Objects.{objects_of}
+use Rattle.node_keeper.specs.Objects.{objects_of}
 use Rattle.node_keeper.specs.Fitting.{IsSendable}
 use Rattle.node_keeper.specs.Sendings.{Sending, asked}
 use Rattle.node_keeper.specs.declared.keeper.Keeper.{Keeper}

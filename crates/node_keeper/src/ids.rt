@@ -1,8 +1,8 @@
 //! The source of the ids of a node's calls, and the node's number.
 ghost use Rattle.std.specs.Prelude.{◌≡◌, ◌^◌, nat_lt, suc};
-ghost use Rattle.call_ids.specs.CallId.{HasRanges, after_given, with_next_epoch, next_given_id};
+ghost use Rattle.deeds.specs.CallId.{HasRanges, after_given, with_next_epoch, next_given_id};
 
-use call_ids::CallIds;
+use deeds::CallIds;
 use std::marker::Model;
 use tag::CallId;
 
@@ -21,7 +21,7 @@ impl Drop for OwnIds {
 
 impl Model for OwnIds {
     ghost use Rattle.std.specs.Prelude.{◌≡◌};
-    ghost use Rattle.call_ids.specs.CallId.{CallIds as Ids, HasRanges};
+    ghost use Rattle.deeds.specs.CallId.{CallIds as Ids, HasRanges};
 
     ghost Value = { Ids };
 

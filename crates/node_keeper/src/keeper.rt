@@ -1,13 +1,13 @@
 //! What a node keeps.
 ghost use Rattle.std.specs.Prelude.{◌≡◌, ◌==◌};
-ghost use Rattle.call_ids.specs.CallId.{HasRanges};
+ghost use Rattle.deeds.specs.CallId.{HasRanges};
 ghost use Rattle.cluster_file.specs.Digest.{fixed_digest};
 ghost use Rattle.deeds.specs.Kept.{new_node};
 ghost use Rattle.node_keeper.specs.Keeping.{kept_of, names_of};
 
+use crate::Objects;
 use crate::ids::OwnIds;
 use cluster_file::{ClusterFile, DIGEST_LENGTH};
-use node_objects::Objects;
 use std::alloc::Global;
 
 mod begin;

@@ -1,15 +1,17 @@
-//! What a node keeps: its cluster file, its objects and the source of its calls' ids; and what it does with each letter
-//! and each call. It knows no clients.
+//! What a node keeps: its cluster file, its objects, each under its name, and the source of its calls' ids; and what it
+//! does with each letter and each call. It knows no clients.
 #![tactic(auto)]
 
 pub use delivered::{Begun, Delivered};
 pub use entries::push_entry;
 pub use ids::OwnIds;
 pub use keeper::Keeper;
+pub use objects::Objects;
 pub use post::letter_of;
 
 mod delivered;
 mod entries;
 mod ids;
 mod keeper;
+mod objects;
 mod post;

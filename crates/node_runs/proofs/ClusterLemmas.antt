@@ -4,7 +4,7 @@ use Rattle.std.proofs.Common.{refl, sym, subst, ap, ◌∙◌, arith}
 use Rattle.std.specs.List.{AllByRecursion}
 use Rattle.record.specs.declared.call.Entry.{Entry}
 use Rattle.record.specs.Fragments.{Code}
-use Rattle.call_ids.specs.CallId.{CallIds, HasRanges}
+use Rattle.deeds.specs.CallId.{CallIds, HasRanges}
 use Rattle.network.specs.Worlds.{ClusterFile}
 use Rattle.local_object.specs.Local.{LocalObject}
 use Rattle.refinement.specs.Refined.{IsKeptHere}

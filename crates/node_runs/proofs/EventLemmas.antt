@@ -6,7 +6,7 @@ use Rattle.std.specs.List.{AllByRecursion}
 use Rattle.record.specs.declared.call.CallKind.TheVariants.{Read, Write, Move}
 use Rattle.record.specs.declared.call.Entry.{Entry}
 use Rattle.record.specs.Fragments.{Code}
-use Rattle.call_ids.specs.CallId.{CallIds, HasRanges}
+use Rattle.deeds.specs.CallId.{CallIds, HasRanges}
 use Rattle.network.specs.Worlds.{NodeCall, open_call}
 use Rattle.network.specs.Events.{answered_entry}
 use Rattle.local_object.specs.declared.progress.Ended.{Ended}

@@ -7,7 +7,7 @@ use Rattle.std.specs.List.{AllByRecursion}
 use Rattle.record.specs.declared.call.Entry.{Entry}
 use Rattle.record.specs.Fragments.{Code}
 use Rattle.record.specs.Journals.{entry_value}
-use Rattle.call_ids.specs.CallId.{CallIds}
+use Rattle.deeds.specs.CallId.{CallIds}
 use Rattle.network.specs.Worlds.{NodeCall}
 use Rattle.network.specs.Events.{answered_entry}
 use Rattle.local_object.specs.declared.letter.Letter.{Letter}

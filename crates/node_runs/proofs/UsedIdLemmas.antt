@@ -3,7 +3,7 @@ use Rattle.std.proofs.Common.{◌≡◌, ◌<◌, ◌≤◌, ◌⊎◌, inl, inr
 use Rattle.std.proofs.Common.{List, Some, sym, subst, ap, ◌∙◌, arith}
 use Rattle.std.specs.List.{AllByRecursion}
 use Rattle.record.specs.declared.call.Entry.{Entry}
-use Rattle.call_ids.specs.CallId.{CallIds, IdsDiffer, HasRanges, after_given, next_given_id}
+use Rattle.deeds.specs.CallId.{CallIds, IdsDiffer, HasRanges, after_given, next_given_id}
 use Rattle.deeds.specs.Ids.{IsLater, IsNextId}
 use Rattle.deeds.proofs.IdLemmas.{later_same, later_then, next_is, next_later}
 use Rattle.deeds.proofs.ListLemmas.{all_weaker}

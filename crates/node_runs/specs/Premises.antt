@@ -5,7 +5,7 @@ use Rattle.std.specs.Prelude.{◌≡◌, ◌<◌, ℕ, List, [], ◌∷◌}
 use Rattle.std.specs.List.{AllByRecursion}
 use Rattle.layout.specs.Layout.{IsLawful}
 use Rattle.record.specs.Fragments.{Code}
-use Rattle.call_ids.specs.CallId.{HasRanges}
+use Rattle.deeds.specs.CallId.{HasRanges}
 use Rattle.refinement.specs.Refined.{IsKeptHere}
 use Rattle.deeds.specs.Named.{IsOneOf}
 use Rattle.deeds.specs.Kept.{FileOfNames, KeptNode}

@@ -1,5 +1,10 @@
-pub mod ServedCopyLemmas
-pub mod PlaceLetterLemmas
-pub mod NewObjectLemmas
-pub mod RebuildableLemmas
+pub mod LateDroppingLemmas
 pub mod LeadableLemmas
+pub mod LeadingLemmas
+pub mod NewObjectLemmas
+pub mod PlaceLetterLemmas
+pub mod ReachedBankLemmas
+pub mod RebuildableLemmas
+pub mod RequestSizeLemmas
+pub mod RowsOfRequestsLemmas
+pub mod ServedCopyLemmas

@@ -5,9 +5,9 @@ use Rattle.std.specs.List.{AllByRecursion, position}
 use Rattle.std.proofs.lemmas.Option.{same_Some, get_or_from_slice_get, slice_get_within}
 use Rattle.layout.specs.Layout.{Layout, IsLawful}
 use Rattle.bank.specs.Bank.{Bank, opened_bank}
-use Rattle.bank_requests.specs.Reached.{after_requests}
-use Rattle.bank_requests.specs.Requests.{requests_to}
-use Rattle.bank_requests.proofs.LeadingLemmas.{requests_lead}
+use Rattle.object_letters.specs.Reached.{after_requests}
+use Rattle.object_letters.specs.Requests.{requests_to}
+use Rattle.object_letters.proofs.LeadingLemmas.{requests_lead}
 use Rattle.local_object.specs.declared.letter.Letter.{Letter}
 use Rattle.local_object.specs.Local.{LocalObject, Place, bank_here, bank_in, bank_or_opened, layout_here, layout_in, heard_place}
 use Rattle.local_object.proofs.FoundLemmas.{IsFirst, FailsBelow, first_of, element}

@@ -10,8 +10,8 @@ use Rattle.bank.specs.Serve.{served_bank}
 use Rattle.bank.specs.declared.kind.Kind.{Kind}
 use Rattle.bank.specs.declared.request.Request.{Request}
 use Rattle.bank.specs.declared.request.Request.TheVariants as request
-use Rattle.bank_requests.specs.Reached.{IsReachedBank}
-use Rattle.bank_requests.proofs.LeadingLemmas.{fresh_reached, served_reached}
+use Rattle.object_letters.specs.Reached.{IsReachedBank}
+use Rattle.object_letters.proofs.LeadingLemmas.{fresh_reached, served_reached}
 use Rattle.mail.specs.declared.message.Body.{Body}
 use Rattle.mail.specs.declared.message.Body.TheVariants as body
 use Rattle.record.specs.declared.call.CallKind.{CallKind}

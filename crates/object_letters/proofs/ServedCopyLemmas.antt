@@ -11,7 +11,7 @@ use Rattle.bank.specs.Serve.{served_bank}
 use Rattle.bank.specs.declared.request.Request.{Request}
 use Rattle.bank.specs.declared.request.Request.TheVariants as request
 use Rattle.bank.specs.declared.status.Status.TheVariants.{Unset, Pending, Final}
-use Rattle.bank_requests.specs.Reached.{after_requests}
+use Rattle.object_letters.specs.Reached.{after_requests}
 use Rattle.record.specs.Legal.{is_move}
 use Rattle.local_object.specs.declared.letter.Letter.{Letter}
 use Rattle.local_object.specs.Doing.{is_member, is_served, names_node}

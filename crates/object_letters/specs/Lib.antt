@@ -1,4 +1,6 @@
-pub mod Rebuildable
+pub mod Laws
 pub mod Leading
 pub mod Letters
-pub mod Laws
+pub mod Reached
+pub mod Rebuildable
+pub mod Requests

@@ -4,7 +4,7 @@ use Rattle.std.specs.Prelude.{◌≡◌, ◌≢◌, ℕ, List, [], ◌∷◌, Op
 use Rattle.std.specs.List.{AllByRecursion}
 use Rattle.layout.specs.Layout.{Layout, IsLawful}
 use Rattle.bank.specs.Bank.{Bank}
-use Rattle.bank_requests.specs.Reached.{IsReachedBank}
+use Rattle.object_letters.specs.Reached.{IsReachedBank}
 use Rattle.local_object.specs.declared.letter.Letter.{Letter}
 use Rattle.local_object.specs.Local.{LocalObject, Place}
 use Rattle.local_object.specs.Events.{LocalEvent}

@@ -1,14 +1,14 @@
 //! The letters that lead to an object.
 ghost use Rattle.std.specs.Prelude.{◌≡◌, ◌==◌, ◌++◌, suc, map, position, MatchOption, None, IfOk, IfErr, OnOk};
 ghost use Rattle.tag.specs.declared.refusal.Refusal.TheVariants.{NoMemory};
-ghost use Rattle.bank_requests.specs.Requests.{requests_to};
+ghost use Rattle.object_letters.specs.Requests.{requests_to};
 ghost use Rattle.local_object.specs.Distinct.{IsPlaceAt};
 ghost use Rattle.local_object.specs.Events.{next_in_request};
 ghost use Rattle.local_object.specs.Local.{heard_place, layout_in};
 ghost use Rattle.object_letters.specs.Letters.{letter_to, letters_as, place_letters};
 
+use crate::requests_of;
 use bank::{Bank, Request, Status};
-use bank_requests::requests_of;
 use layout::Layout;
 use local_object::{Letter, LocalObject, Place};
 use mail::{Body, Message};

@@ -1,12 +1,18 @@
-//! The letters that lead a node's new object to one that it keeps.
+//! The letters that lead a node's new object to one that it keeps, and the requests that lead a newly opened bank to a
+//! given bank.
 //!
-//! A node that writes its log anew writes down these letters in the place of all that it has ever served.
+//! A node that writes its log anew writes down these letters, and the requests in them, in the place of all that the
+//! object and its banks have ever served.
 #![tactic(auto)]
 
+pub use bank_laws::{newly_opened_is_reached, requests_lead_there, serving_reaches};
 pub use laws::{letters_lead_back, new_is_blank, new_is_rebuildable, stays_rebuildable};
 pub use leading::can_be_led_to;
 pub use letters::letters_of;
+pub use requests::requests_of;
 
+mod bank_laws;
 mod laws;
 mod leading;
 mod letters;
+mod requests;

@@ -2,7 +2,7 @@
 use Rattle.std.proofs.Common.{◌≡◌, ℕ, suc, ◌<◌, ◌^◌, cond, List, [], ◌∷◌}
 use Rattle.std.proofs.Common.{refl, sym, subst, ap, ◌∙◌}
 use Rattle.std.proofs.lemmas.Bool.{lt-ltb}
-use Rattle.call_ids.specs.CallId.{CallIds, with_next_epoch}
+use Rattle.deeds.specs.CallId.{CallIds, with_next_epoch}
 use Rattle.encoder.specs.Fragment.{fragment}
 use Rattle.local_object.specs.Doing.{give_up_events, serve_events}
 use Rattle.local_object.specs.Events.{LocalEvent, all_done}

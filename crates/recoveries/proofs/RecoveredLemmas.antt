@@ -1,6 +1,6 @@
 -- What is carried out again twice in a row.
 use Rattle.std.proofs.Common.{ℕ, suc, ◌<◌, ◌^◌, cond, List, [], ◌∷◌, sym, subst, ap, ap₂, ◌∙◌}
-use Rattle.call_ids.specs.CallId.{CallIds}
+use Rattle.deeds.specs.CallId.{CallIds}
 use Rattle.local_object.specs.Doing.{IsDone, is_taken, serve_events}
 use Rattle.local_object.specs.Events.{LocalEvent}
 use Rattle.local_object.specs.Local.{LocalObject}

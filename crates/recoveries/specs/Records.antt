@@ -2,7 +2,7 @@
 -- What the log of a node records, and what the node keeps after it has carried the records out again.
 use Rattle.std.specs.Prelude.{◌≡◌, ◌<◌, ◌^◌, ℕ, suc, List, [], ◌∷◌}
 use Rattle.layout.specs.Layout.{Layout}
-use Rattle.call_ids.specs.CallId.{with_next_epoch}
+use Rattle.deeds.specs.CallId.{with_next_epoch}
 use Rattle.local_object.specs.declared.letter.Letter.{Letter}
 use Rattle.local_object.specs.declared.progress.Ended.{Ended}
 use Rattle.local_object.specs.Doing.{IsDone, is_taken, serve_events}

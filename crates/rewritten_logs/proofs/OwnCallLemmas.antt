@@ -3,7 +3,7 @@ use Rattle.std.proofs.Common.{◌≡◌, ◌<◌, ◌≤◌, ◌⊎◌, inl, inr
 use Rattle.std.proofs.Common.{Option, None, Some, refl, sym, subst, ◌∙◌, arith}
 use Rattle.std.specs.List.{AllByRecursion, filter}
 use Rattle.bank.specs.declared.kind.Kind.{Kind}
-use Rattle.call_ids.specs.CallId.{CallIds, HasRanges, after_given}
+use Rattle.deeds.specs.CallId.{CallIds, HasRanges, after_given}
 use Rattle.deeds.specs.Deeds.{Deed, after_deed, after_deeds}
 use Rattle.deeds.specs.Ids.{HaveNextIds, IsGiven, IsLater, IsNextId, begun_id, deed_id}
 use Rattle.deeds.specs.Named.{is_same_name}

@@ -2,7 +2,7 @@
 use Rattle.std.proofs.Common.{◌≡◌, ◌^◌, ℕ, zero, suc, Bool, true, false, cond, nat_lt, List, [], ◌∷◌, ◌++◌, Option, None, Some}
 use Rattle.std.proofs.Common.{slice_get, refl, sym, subst, ap, ◌∙◌}
 use Rattle.std.specs.List.{AllByRecursion}
-use Rattle.call_ids.specs.CallId.{CallIds, after_given}
+use Rattle.deeds.specs.CallId.{CallIds, after_given}
 use Rattle.deeds.specs.Deeds.{Deed, after_deed, after_deeds}
 use Rattle.deeds.specs.Ids.{HaveNextIds, IsGiven, deed_id}
 use Rattle.deeds.specs.Kept.{FileOfNames}

@@ -3,7 +3,7 @@
 use Rattle.std.specs.Prelude.{◌≡◌, ℕ, List, Some}
 use Rattle.std.specs.List.{AllByRecursion}
 use Rattle.encoder.specs.Fragment.{fragment}
-use Rattle.call_ids.specs.CallId.{CallIds, HasRanges, after_given, next_given_id}
+use Rattle.deeds.specs.CallId.{CallIds, HasRanges, after_given, next_given_id}
 use Rattle.network.specs.Worlds.{NodeCall}
 use Rattle.refinement.specs.WellFormed.{NodeCallsDiffer}
 use Rattle.deeds.specs.Deeds.{Notice}

@@ -2,7 +2,7 @@
 ghost use Rattle.std.specs.Prelude.{◌≡◌, ◌∷◌, [], true, IfErr, IfOk, OnOk};
 ghost use Rattle.local_object.specs.Doing.{serve_events};
 ghost use Rattle.local_object.specs.Events.{LocalEvent};
-ghost use Rattle.node_objects.specs.Objects.{objects_of};
+ghost use Rattle.node_keeper.specs.Objects.{objects_of};
 ghost use Rattle.node_effects.specs.declared.error.NodeError.TheVariants.{NoMemory};
 ghost use Rattle.node_effects.specs.declared.error.RecoveryError.TheVariants.{Stopped};
 ghost use Rattle.node_strings.specs.declared.record.Record.TheVariants as record_of;

@@ -1,10 +1,10 @@
 //! Calls that begin, calls whose requests are sent again, and calls that are given up.
 ghost use Rattle.std.specs.Prelude.{◌≡◌, ◌≢◌, ◌<◌, ◌^◌, ◌∷◌, [], ℕ, suc, IfErr, IfOk, OnOk, Some};
 ghost use Rattle.tag.specs.declared.refusal.Refusal.TheVariants.{NoMemory};
-ghost use Rattle.call_ids.specs.CallId.{with_next_epoch};
+ghost use Rattle.deeds.specs.CallId.{with_next_epoch};
 ghost use Rattle.local_object.specs.Doing.{give_up_events, gives_up};
-ghost use Rattle.node_objects.specs.Doing.{IsDoneAt};
-ghost use Rattle.node_objects.specs.Objects.{objects_of};
+ghost use Rattle.node_keeper.specs.Doing.{IsDoneAt};
+ghost use Rattle.node_keeper.specs.Objects.{objects_of};
 ghost use Rattle.node_effects.specs.Errors.{WritesOrFails};
 ghost use Rattle.node_effects.specs.Work.{IsGrown, one_entry};
 ghost use Rattle.node_effects.specs.declared.error.NodeError.TheVariants.{NoMemory as NoMoreMemory};

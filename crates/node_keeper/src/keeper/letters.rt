@@ -3,7 +3,7 @@ ghost use Rattle.std.specs.Prelude.{◌≡◌, ◌∷◌, [], ℕ, true, false, 
 ghost use Rattle.std.specs.List.{AllByRecursion};
 ghost use Rattle.layout.specs.Layout.{IsLawful};
 ghost use Rattle.local_object.specs.Changing.{IsUnchangedBy, is_changed_by};
-ghost use Rattle.node_objects.specs.Objects.{objects_of};
+ghost use Rattle.node_keeper.specs.Objects.{objects_of};
 ghost use Rattle.recoveries.specs.Copies.{IsHeeded};
 ghost use Rattle.mail.specs.Message.{is_request};
 ghost use Rattle.local_object.specs.declared.progress.Ended.{Ended as ToldCall};

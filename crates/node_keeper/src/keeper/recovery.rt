@@ -3,7 +3,7 @@ ghost use Rattle.std.specs.Prelude.{◌≡◌, ◌⊎◌, ◌∷◌, ◌^◌, []
 ghost use Rattle.std.specs.Prelude.{IfErr, IfOk, OnOk, option_to_list};
 ghost use Rattle.local_object.specs.Doing.{move_refusal, serve_events};
 ghost use Rattle.local_object.specs.Events.{LocalEvent};
-ghost use Rattle.node_objects.specs.Objects.{AreSame, objects_of};
+ghost use Rattle.node_keeper.specs.Objects.{AreSame, objects_of};
 ghost use Rattle.recoveries.specs.Records.{IsDoneTo, IsStarted, IsTakenBy};
 ghost use Rattle.node_effects.specs.Errors.{IsByRefusal};
 ghost use Rattle.node_effects.specs.declared.error.NodeError.TheVariants.{NoMemory};

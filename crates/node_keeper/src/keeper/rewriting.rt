@@ -7,7 +7,7 @@ ghost use Rattle.recoveries.specs.Records.{LogRecord};
 ghost use Rattle.rewritten_logs.specs.Records.{epoch_records};
 ghost use Rattle.rewritten_logs.specs.Sound.{AreHeardNames, CanBeWrittenAnew, HasOwnObjects};
 ghost use Rattle.node_effects.specs.Errors.{WritesOrFails};
-ghost use Rattle.node_objects.specs.Objects.{heard_names, objects_of};
+ghost use Rattle.node_keeper.specs.Objects.{heard_names, objects_of};
 ghost use Rattle.node_keeper.specs.Anew.{anew_records, name_records, object_records_of};
 ghost use Rattle.node_keeper.specs.Fitting.{IsLoggable};
 ghost use Rattle.node_keeper.specs.Keeping.{kept_of};

@@ -1,8 +1,8 @@
 //! The requests that lead to a bank, by hand, and the bank that they lead to.
 use super::checks::assert_prints;
 use bank::{Bank, Request, Status};
-use bank_requests::requests_of;
 use bytes::Bytes;
+use object_letters::requests_of;
 use piece::Piece;
 use std::alloc::Global;
 use std::process::Abort;

@@ -2,7 +2,7 @@
 use super::lone_node::{Act, Step, lone_node, play};
 use bytes::Bytes;
 use local_object::Letter;
-use node_objects::Objects;
+use node_keeper::Objects;
 use std::alloc::Global;
 use std::process::Abort;
 use tag::Refusal;

@@ -3,7 +3,7 @@ use super::checks::{assert_prints, is_request};
 use bytes::Bytes;
 use cluster_file::ClusterNodes;
 use local_object::{Ended, Letter};
-use node_objects::Objects;
+use node_keeper::Objects;
 use std::alloc::Global;
 use std::collections::VecDeque;
 use std::process::Abort;

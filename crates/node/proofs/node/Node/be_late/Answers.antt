@@ -1,7 +1,7 @@
 use Rattle.std.proofs.Common.{[], ◌++◌, ◌∙◌, ◌&&◌, not, refl, subst, sym, ap}
 use Rattle.std.proofs.lemmas.List.{append-nil}
 use Rattle.std.proofs.lemmas.Result.{on_ok_weaker}
-use Rattle.call_ids.specs.CallId.{CallIds}
+use Rattle.deeds.specs.CallId.{CallIds}
 use Rattle.node_keeper.proofs.ActLemmas.{acts_more}
 use Rattle.node.specs.Serving.{ServesLate}
 use Rattle.node.specs.declared.node.Node.{Node}

@@ -1,7 +1,7 @@
 use Rattle.std.proofs.Common.{◌++◌, ◌∷◌, [], List, map, ap, ◌∙◌}
 use Rattle.rewritten_logs.proofs.RewrittenLogLemmas.{rewritten_record}
 use Rattle.node_strings.specs.Strings.{Strings}
-use Rattle.node_objects.specs.Objects.{heard_names}
+use Rattle.node_keeper.specs.Objects.{heard_names}
 use Rattle.node_keeper.specs.Anew.{anew_records}
 use Rattle.node_keeper.specs.Keeping.{kept_of}
 use Rattle.node_keeper.specs.Logging.{log_entry_of}

@@ -1,5 +1,5 @@
 use Rattle.std.proofs.Common.{ℕ, List, length, min, ◌++◌, ◌-◌, ◌^◌, ◌∙◌, ap}
-use Rattle.node_objects.specs.Objects.{bytes_in_banks, heard_names}
+use Rattle.node_keeper.specs.Objects.{bytes_in_banks, heard_names}
 use Rattle.node.specs.AtOnce.{count_lines, name_lines, size_lines}
 use Rattle.indexmap.specs.IndexMap.{index_map_len}
 use Rattle.node.proofs.node.Node.info.Goals as goal

@@ -1,6 +1,6 @@
 use Rattle.std.proofs.Common.{[], inr, refl, subst, ◌∷◌}
 use Rattle.local_object.specs.Events.{LocalEvent}
-use Rattle.node_objects.specs.Doing.{IsDoneAt}
+use Rattle.node_keeper.specs.Doing.{IsDoneAt}
 use Rattle.node_effects.specs.declared.notice.Notice.TheVariants as notice
 use Rattle.recoveries.specs.Records.{LogRecord}
 use Rattle.node_keeper.specs.Beginning.{moving_call}

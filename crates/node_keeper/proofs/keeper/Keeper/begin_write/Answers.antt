@@ -2,8 +2,8 @@ use Rattle.std.proofs.Common.{None, [], ap, inl, refl, subst, ◌∷◌, ◌≡�
 use Rattle.deeds.specs.Deeds.{Notice as Seen}
 use Rattle.local_object.specs.Doing.{write_refusal}
 use Rattle.local_object.specs.Events.{LocalEvent}
-use Rattle.node_objects.specs.Objects.{objects_of}
-use Rattle.node_objects.specs.Doing.{IsDoneAt}
+use Rattle.node_keeper.specs.Objects.{objects_of}
+use Rattle.node_keeper.specs.Doing.{IsDoneAt}
 use Rattle.node_effects.specs.Work.{IsGrown}
 use Rattle.node_effects.specs.declared.notice.Notice.TheVariants as notice
 use Rattle.node_keeper.specs.Beginning.{opened_growth, writing_call}

@@ -1,7 +1,7 @@
 use Rattle.std.proofs.Common.{◌≡◌, ◌<◌, ℕ, List, [], Some, length, get_or, slice_get, arith}
 use Rattle.std.proofs.lemmas.Option.{slice_get-get_or}
 use Rattle.std.specs.List.{AllByRecursion}
-use Rattle.node_objects.specs.Objects.{heard_names}
+use Rattle.node_keeper.specs.Objects.{heard_names}
 use Rattle.node_keeper.specs.Anew.{name_records, object_records_of}
 use Rattle.node_keeper.specs.Fitting.{IsLoggable}
 use Rattle.node_keeper.specs.Keeping.{kept_of}

@@ -1,7 +1,7 @@
 use Rattle.std.proofs.Common.{rules, [], option_to_list, refl, subst, ◌∷◌}
 use Rattle.local_object.specs.Doing.{serve_events}
-use Rattle.node_objects.specs.Doing.{IsDoneAt}
-use Rattle.node_objects.specs.Objects.{objects_of}
+use Rattle.node_keeper.specs.Doing.{IsDoneAt}
+use Rattle.node_keeper.specs.Objects.{objects_of}
 use Rattle.node_effects.specs.Work.{IsGrown, no_growth}
 use Rattle.node_effects.specs.declared.letter.NamedLetter.{NamedLetter}
 use Rattle.node_effects.proofs.GrowthLemmas.{grown_none, grown_then}

@@ -1,6 +1,6 @@
 use Rattle.std.proofs.Common.{option_to_list, refl}
 use Rattle.local_object.specs.Doing.{serve_events}
-use Rattle.node_objects.specs.Objects.{objects_of}
+use Rattle.node_keeper.specs.Objects.{objects_of}
 use Rattle.node_keeper.proofs.DoneLemmas.{done_of}
 use Rattle.node_keeper.proofs.keeper.Keeper.serve_again.Goals as goal
 

@@ -1,5 +1,5 @@
 use Rattle.std.proofs.Common.{option_to_list, refl, subst}
-use Rattle.node_objects.specs.Doing.{IsTakenAt}
+use Rattle.node_keeper.specs.Doing.{IsTakenAt}
 use Rattle.node_effects.specs.Errors.{IsUnwritten}
 use Rattle.node_effects.specs.Work.{IsGrown}
 use Rattle.std.specs.List.{AllByRecursion}

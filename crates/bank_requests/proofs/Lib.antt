@@ -1,5 +1,0 @@
-pub mod LateDroppingLemmas
-pub mod RowsOfRequestsLemmas
-pub mod ReachedBankLemmas
-pub mod LeadingLemmas
-pub mod RequestSizeLemmas

@@ -1,0 +1,30 @@
+-- The contracts that docs/trusted.md lists do not depend on this file; other contracts and proofs do.
+-- What a node does with the object of a name.
+use Rattle.std.specs.Prelude.{ℕ, List}
+use Rattle.local_object.specs.declared.letter.Letter.{Letter}
+use Rattle.local_object.specs.declared.progress.Ended.{Ended}
+use Rattle.local_object.specs.Doing.{IsDone, is_taken}
+use Rattle.local_object.specs.Events.{LocalEvent}
+use Rattle.local_object.specs.Going.{HasDone}
+use Rattle.local_object.specs.Local.{LocalObject}
+use Rattle.local_object.specs.Taking.{IsTaken}
+use Rattle.node_keeper.specs.declared.objects.Objects.{Objects}
+use Rattle.node_keeper.specs.Objects.{IsChangedAt, objects_of}
+
+-- these events may happen at the object of the name; after them the node keeps `new` and has sent the letters `sent`,
+-- and every other object is as it was
+pub record IsDoneAt (old : Objects) (name : List ℕ) (events : List LocalEvent) (new : Objects)
+    (sent : List Letter) : Type 0 where
+  pub local : LocalObject
+  pub done : IsDone (objects_of old name) events local sent
+  pub changed : IsChangedAt old name local new
+
+-- what came of a letter that may be a reply to an open call of the object of the name: exactly the events of `IsTaken`,
+-- after which the node keeps `new`, has sent `letters`, and has answered the calls `ended`; every other object is as it
+-- was
+pub record IsTakenAt (old : Objects) (name : List ℕ) (letter : Letter) (new : Objects) (letters : List Letter)
+    (ended : List Ended) : Type 0 where
+  pub local : LocalObject
+  pub done : HasDone (objects_of old name) local letters ended
+  pub taken : IsTaken (is_taken (objects_of old name) letter) (objects_of old name) letter local letters ended
+  pub changed : IsChangedAt old name local new

@@ -1,0 +1,106 @@
+//! All objects of a node, by name.
+ghost use Rattle.std.specs.Prelude.{◌≡◌, ℕ, nat_eq, IfErr, IfOk, IsSome, List, None, OnErr, OnOk};
+ghost use Rattle.std.specs.Cmp.Lexicographic.{pointwise};
+ghost use Rattle.tag.specs.declared.refusal.Refusal.TheVariants.{NoMemory};
+ghost use Rattle.indexmap.specs.IndexMap.{get};
+ghost use Rattle.cluster_file.specs.Placement.{placed};
+ghost use Rattle.local_object.specs.Local.{new_local};
+ghost use Rattle.node_keeper.specs.Objects.{AreSame, new_of, objects_of};
+
+use bytes::Bytes;
+use cluster_file::ClusterNodes;
+use indexmap::IndexMap;
+use local_object::LocalObject;
+use std::alloc::Global;
+use tag::Refusal;
+
+mod begin;
+mod heard;
+mod questions;
+mod replies;
+mod requests;
+
+/// What a node keeps of all its objects, each under its name. Any bytes are a name. An object of which the node has not
+/// heard counts as a new one, with the layout that placement gives its name.
+///
+/// If a function is refused with `NoMemory`, its contract says nothing about the objects, because the node stops and
+/// starts again from its log. Every other refusal changes no object.
+pub struct Objects {
+    alloc: Global,
+    // The number of the node.
+    number: u8,
+    // How many finalized versions the banks keep beside the newest. None where they keep all.
+    delta: Option<u32>,
+    // The layout that the object of each name has before any move.
+    placement: ClusterNodes,
+    // The objects of which the node has heard.
+    by_name: IndexMap<Bytes, LocalObject>,
+}
+
+impl Drop for Objects {
+    fn drop(self) {
+        let Self {
+            alloc: _,
+            number: _,
+            delta: _,
+            placement: _,
+            by_name: _,
+        } = self;
+    }
+}
+
+impl Objects {
+    /// Makes what the node with this number keeps before it has heard of any object. It allocates no memory.
+    ///
+    /// `delta` is the number of finalized versions of which the node's banks keep pieces, besides the newest; without
+    /// it they keep all pieces. `placement` gives each name the layout that its object has before any move.
+    pub fn new(alloc: Global, number: u8, delta: Option<u32>, placement: ClusterNodes) -> Objects
+        ensures number { result.number ≡ number }
+        ensures delta { result.delta ≡ delta }
+        ensures placement { result.placement ≡ placement }
+        ensures objects { (name : List ℕ)
+            → objects_of result name ≡ new_local number delta (placed placement name) }
+    {
+        Objects {
+            alloc,
+            number,
+            delta,
+            placement,
+            by_name: IndexMap::new(alloc),
+        }
+    }
+
+    // The object of a name, as it is before the node has heard of it.
+    fn new_object(&self, name: &Bytes) -> Result<LocalObject, Refusal>
+        ensures new { IfOk result (λ local. local ≡ new_of self.now name.now) }
+        ensures refused { IfErr result (λ e. e ≡ NoMemory) }
+    {
+        LocalObject::new(self.alloc, self.number, self.delta, self.first_layout(name))
+    }
+
+    // The object of a name is in the map. Where it was not, it is a new one.
+    fn hear_of(&mut self, name: &Bytes) -> Result<(), Refusal>
+        ensures there { OnOk result (IsSome (get (pointwise nat_eq) self.new.by_name name.now)) }
+        ensures same { OnOk result (AreSame self.old self.new) }
+        ensures absent { OnErr result (get (pointwise nat_eq) self.old.by_name name.now ≡ None) }
+        ensures refused { IfErr result (λ e. e ≡ NoMemory) }
+    {
+        if self.by_name.contains_key(name) {
+            return Ok(());
+        }
+        let object = self.new_object(name)?;
+        self.add(name.clone()?, object)
+    }
+
+    // The object of a name that is not in the map is in it, as a new one.
+    fn add(&mut self, name: Bytes, object: LocalObject) -> Result<(), Refusal>
+        requires absent { get (pointwise nat_eq) self.old.by_name name ≡ None }
+        requires new { object ≡ new_of self.old name }
+        ensures there { OnOk result (IsSome (get (pointwise nat_eq) self.new.by_name name)) }
+        ensures same { OnOk result (AreSame self.old self.new) }
+        ensures refused { IfErr result (λ e. e ≡ NoMemory) }
+    {
+        self.by_name.insert(name, object)?;
+        Ok(())
+    }
+}

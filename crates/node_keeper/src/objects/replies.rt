@@ -1,0 +1,44 @@
+//! How calls take replies, and how calls end without an answer.
+ghost use Rattle.std.specs.Prelude.{◌≡◌, [], IfErr, IfOk, option_to_list};
+ghost use Rattle.tag.specs.declared.refusal.Refusal.TheVariants.{NoMemory};
+ghost use Rattle.local_object.specs.Doing.{give_up_events, gives_up};
+ghost use Rattle.node_keeper.specs.Doing.{IsDoneAt, IsTakenAt};
+ghost use Rattle.node_keeper.specs.Objects.{objects_of};
+
+use super::Objects;
+use bytes::Bytes;
+use local_object::{Letter, Progress};
+use tag::{CallId, Refusal};
+
+impl Objects {
+    /// Has a call of the object of a name take a reply and go on as far as it can: the call settles the value that it
+    /// fetched, and begins its next phase or is answered. No object changes if the letter is no reply to a call that is
+    /// open at this node, or if there is no number in 32 bits for the next position.
+    ///
+    /// `NoMemory` is the only refusal.
+    pub fn take(&mut self, name: &Bytes, letter: Letter) -> Result<Progress, Refusal>
+        ensures done { IfOk result (λ progress. IsTakenAt self.old name.now letter self.new
+            progress.letters.items (option_to_list progress.ended)) }
+
+        ensures refused { IfErr result (λ e. e ≡ NoMemory) }
+    {
+        self.hear_of(name)?;
+        match self.by_name.get_mut(name) {
+            Some(object) => object.take(letter),
+            None => unreachable!(),
+        }
+    }
+
+    /// Ends the read or the write with this id at the object of a name without an answer, if one is open there. A write
+    /// may still take effect. Returns whether a call was given up. A move goes on until it is answered. The function
+    /// allocates no memory.
+    pub fn give_up(&mut self, name: &Bytes, id: CallId) -> bool
+        ensures done { IsDoneAt self.old name.now (give_up_events (objects_of self.old name.now) id) self.new [] }
+        ensures given_up { result ≡ gives_up (objects_of self.old name.now) id }
+    {
+        match self.by_name.get_mut(name) {
+            Some(object) => object.give_up(id),
+            None => false,
+        }
+    }
+}

@@ -1,0 +1,54 @@
+//! Requests that are served, and requests that are sent again.
+ghost use Rattle.std.specs.Prelude.{◌≡◌, IfErr, IfOk, option_to_list};
+ghost use Rattle.std.specs.List.{AllByRecursion};
+ghost use Rattle.tag.specs.declared.refusal.Refusal.TheVariants.{NoMemory};
+ghost use Rattle.encoder.specs.Fragment.{fragment};
+ghost use Rattle.local_object.specs.Doing.{serve_events};
+ghost use Rattle.local_object.specs.Resent.{IsResent, letters_again};
+ghost use Rattle.node_keeper.specs.Doing.{IsDoneAt};
+ghost use Rattle.node_keeper.specs.Objects.{objects_of};
+
+use super::Objects;
+use bytes::Bytes;
+use local_object::Letter;
+use tag::{CallId, Refusal};
+
+impl Objects {
+    /// Serves a request about the object of a name, and returns the reply, which has to be sent to the node from which
+    /// the request came. Returns none, and changes no object, if the letter is no request, if there is no number in 32
+    /// bits for the next position, or if this node is not the member that the letter names.
+    ///
+    /// `NoMemory` is the only refusal.
+    pub fn serve(&mut self, name: &Bytes, letter: Letter) -> Result<Option<Letter>, Refusal>
+        ensures done { IfOk result (λ reply. IsDoneAt self.old name.now
+            (serve_events (objects_of self.old name.now) letter) self.new (option_to_list reply)) }
+
+        ensures refused { IfErr result (λ e. e ≡ NoMemory) }
+    {
+        self.hear_of(name)?;
+        match self.by_name.get_mut(name) {
+            Some(object) => object.serve(letter),
+            None => unreachable!(),
+        }
+    }
+
+    /// Returns the requests of the current phase of the call with this id at the object of a name, as they were sent,
+    /// to the members whose replies are not recorded, in the order of the members. Returns no letters if no call with
+    /// this id is open there.
+    ///
+    /// `NoMemory` is the only refusal.
+    pub fn resend(&self, name: &Bytes, id: CallId) -> Result<Vec<Letter>, Refusal>
+        ensures letters { IfOk result (λ letters.
+            letters.items ≡ letters_again fragment (objects_of self.now name.now) id) }
+
+        ensures resent { IfOk result (λ letters.
+            AllByRecursion (IsResent fragment (objects_of self.now name.now)) letters.items) }
+
+        ensures refused { IfErr result (λ e. e ≡ NoMemory) }
+    {
+        match self.by_name.get(name) {
+            Some(object) => object.resend(id),
+            None => Ok(Vec::new(self.alloc)),
+        }
+    }
+}

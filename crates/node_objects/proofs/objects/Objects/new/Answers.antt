@@ -1,5 +1,0 @@
-use Rattle.std.proofs.Common.{rules}
-use Rattle.node_objects.proofs.objects.Objects.new.Goals as goal
-
-pub returns-clause-delta : goal.returns-clause-delta
-returns-clause-delta c = search rules
