@@ -1,5 +1,10 @@
-pub mod Event
+pub mod CallLanes
 pub mod Clients
-pub mod Words
 pub mod Edn
+pub mod Event
 pub mod Json
+pub mod Lane
+pub mod Loss
+pub mod Plan
+pub mod Px
+pub mod Words

@@ -1,2 +1,4 @@
+pub mod CappedSumLemmas
+pub mod CostSumLemmas
 pub mod PlayedScriptLemmas
 pub mod ShownTextLemmas

@@ -1,5 +1,7 @@
+pub mod Cost
+pub mod CostLines
 pub mod Fault
-pub mod Request
 pub mod Played
-pub mod Shown
 pub mod Program
+pub mod Request
+pub mod Shown

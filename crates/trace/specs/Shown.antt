@@ -8,7 +8,7 @@ use Rattle.record.specs.Journals.{entries}
 use Rattle.register.specs.State.{State}
 use Rattle.cluster.specs.Causes.{object_cause}
 use Rattle.cluster.specs.Cluster.{Cluster, named}
-use Rattle.costs.specs.CostLines.{costs_text}
+use Rattle.trace.specs.CostLines.{costs_text}
 use Rattle.exports.specs.declared.event.Event.{Event}
 use Rattle.exports.specs.Event.{IsHistory}
 use Rattle.exports.specs.Edn.{edn_text}

@@ -2,11 +2,14 @@
 //! read, or as the costs of its calls.
 #![tactic(auto)]
 
+mod cost;
+mod cost_lines;
 mod fault;
 mod play;
 mod program;
 mod request;
 mod show;
+mod sums;
 mod viewed;
 
 use fault::Fault;

@@ -8,7 +8,7 @@ ghost use Rattle.trace.specs.declared.fault.Fault.TheVariants.{Refused};
 
 use crate::fault::Fault;
 use cluster::Cluster;
-use picture::Loss;
+use exports::Loss;
 use player::{End, play_line, read_script};
 use script::{Change, Command, Line, parse_line};
 use std::alloc::Global;

@@ -5,14 +5,13 @@ ghost use Rattle.record.specs.Journals.{entries};
 ghost use Rattle.exports.specs.Event.{IsHistory};
 ghost use Rattle.trace.specs.Shown.{IsLoss, ShowsObject, IsWant, Shows, behind};
 
+use crate::cost_lines::CostLines;
 use crate::fault::Fault;
 use crate::play::Played;
 use crate::request::{Form, Request};
 use crate::viewed::Viewed;
-use costs::CostLines;
-use exports::{EdnLines, Event, JsonLines, events};
+use exports::{EdnLines, Event, JsonLines, Loss, Picture, Plan, events};
 use history::sequence;
-use picture::{Loss, Picture, Plan};
 use record::Entry;
 use register::Register;
 use std::alloc::Global;

@@ -1,8 +1,8 @@
 //! An object of a cluster, as a picture reads it.
 use bank::Bank;
+use exports::ObjectView;
 use layout::Layout;
 use mail::Phase;
-use picture::ObjectView;
 use register::Register;
 use tag::{CallId, Stamp};
 

@@ -1,6 +1,6 @@
 use Rattle.std.proofs.Common.{List, ap, refl, ◌∙◌}
 use Rattle.record.specs.declared.call.Entry.{Entry}
-use Rattle.costs.specs.CostLines.{costs_text}
+use Rattle.trace.specs.CostLines.{costs_text}
 use Rattle.trace.proofs.ShownTextLemmas.{shown_as}
 use Rattle.trace.proofs.show.show_costs.Goals as goal
 

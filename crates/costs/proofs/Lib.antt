@@ -1,2 +1,0 @@
-pub mod CappedSumLemmas
-pub mod CostSumLemmas

@@ -1,2 +1,0 @@
-pub mod Cost
-pub mod CostLines
