@@ -1,8 +1,7 @@
 //! The sequence of an object that has only an open read.
 
 use crate::acts::{object, read_at};
-use certificates::check;
-use history::{atomic, sequence};
+use history::{atomic, check, sequence};
 use register::Register;
 use std::alloc::Global;
 use std::process::Abort;

@@ -1,1 +1,10 @@
+pub mod AnsweredCountLemmas
 pub mod CallEntryLemmas
+pub mod CallPlaceLemmas
+pub mod FilterMapLemmas
+pub mod LawfulEntryLemmas
+pub mod OrderPassLemmas
+pub mod PairwiseByPlaceLemmas
+pub mod RegisterPassLemmas
+pub mod SortedPlaceLemmas
+pub mod TagOrderLemmas

@@ -7,10 +7,10 @@ ghost use Rattle.tag.specs.declared.refusal.Refusal.TheVariants.{NoMemory};
 ghost use Rattle.atomicity.specs.Atomic.{IsAtomic, IsSequence};
 ghost use Rattle.record.specs.Journals.{entries};
 ghost use Rattle.atomicity.specs.Sequence.{IsTagSequence};
-ghost use Rattle.certificates.specs.Calls.{AreCallsOf};
+ghost use Rattle.history.specs.CallOrder.{AreCallsOf};
 ghost use Rattle.history.specs.Calls.{tagged_entry};
 
-use certificates::order_by_tags;
+use crate::order_by_tags;
 use record::{Entry, TaggedCall};
 use register::Register;
 use std::alloc::{AllocError, Global};

@@ -8,7 +8,7 @@ use Rattle.tag.specs.declared.refusal.Refusal.{Refusal}
 use Rattle.atomicity.specs.Atomic.{IsSequence}
 use Rattle.record.specs.Journals.{entries}
 use Rattle.atomicity.specs.Sequence.{IsTagSequence}
-use Rattle.certificates.specs.Check.{AreLawfulEntries}
+use Rattle.history.specs.Check.{AreLawfulEntries}
 use Rattle.register.specs.Causes.{call_at, number_cause}
 use Rattle.register.specs.State.{State}
 use Rattle.register.specs.View.{view_at, bank_there}

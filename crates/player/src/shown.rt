@@ -12,9 +12,8 @@ ghost use Rattle.player.specs.Shown.{ShowsAccount, ShowsHistory, ShowsSequence, 
 
 use crate::account_line::AccountLine;
 use crate::player::{Stop, print, print_line, refuse};
-use certificates::check;
 use cluster::Cluster;
-use history::sequence;
+use history::{check, sequence};
 use printing::{BankLine, CallLine, HistoryLines, MailLines, Outcome, SequenceLine};
 use register::{CallView, Register};
 use std::alloc::Global;

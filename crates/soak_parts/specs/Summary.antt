@@ -8,7 +8,7 @@ use Rattle.record.specs.declared.call.Entry.{Entry}
 use Rattle.record.specs.declared.call.Operation.{Operation}
 use Rattle.record.specs.declared.call.Operation.TheVariants as operation
 use Rattle.register.specs.State.{State}
-use Rattle.certificates.specs.Check.{must_stand}
+use Rattle.history.specs.Check.{must_stand}
 use Rattle.cluster.specs.Cluster.{Cluster, named}
 use Rattle.soak_parts.specs.Audit.{AreAccounted}
 use Rattle.soak_parts.specs.declared.summary.Summary.{Summary}

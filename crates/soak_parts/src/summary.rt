@@ -2,15 +2,14 @@
 ghost use Rattle.std.specs.Prelude.{◌≡◌, ◌<◌, ◌^◌, true, count_by, IfErr, IfOk};
 ghost use Rattle.tag.specs.declared.refusal.Refusal.TheVariants.{NoMemory};
 ghost use Rattle.record.specs.Journals.{entries};
-ghost use Rattle.certificates.specs.Check.{must_stand};
+ghost use Rattle.history.specs.Check.{must_stand};
 ghost use Rattle.soak_parts.specs.Audit.{missing_cause};
 ghost use Rattle.tag.specs.Refusal.{IsByCause};
 ghost use Rattle.soak_parts.specs.Summary.{IsSummaryOf, is_answered_move, exit_status_of_summary};
 
 use crate::audit::are_accounted;
-use certificates::{check, entries_are_lawful};
 use cluster::Cluster;
-use history::sequence;
+use history::{check, entries_are_lawful, sequence};
 use record::{Entry, Operation};
 use register::{Register, fragments_are_a_code};
 use std::alloc::Global;

@@ -2,7 +2,7 @@
 ghost use Rattle.std.specs.Prelude.{◌≡◌};
 
 use bytes::Bytes;
-use certificates::{check, order_by_tags};
+use history::{check, order_by_tags};
 use record::{Entry, Operation, TaggedCall};
 use std::alloc::Global;
 use std::process::Abort;

@@ -7,9 +7,9 @@ use Rattle.atomicity.specs.Sequence.{IsTagSequence}
 use Rattle.register.proofs.FragmentCodeLemmas.{fragments_determine}
 use Rattle.atomicity.proofs.Sequences.TagSequenceLemmas.{sequence_of_sound}
 use Rattle.record.specs.declared.call.TaggedCall.{TaggedCall}
-use Rattle.certificates.specs.Calls.{AreCallsOf}
+use Rattle.history.specs.CallOrder.{AreCallsOf}
 use Rattle.atomicity.specs.Sequence.{IsTagOrder}
-use Rattle.certificates.proofs.TagOrderLemmas.{turn_of, sequence_of_order}
+use Rattle.history.proofs.TagOrderLemmas.{turn_of, sequence_of_order}
 use Rattle.history.proofs.object.sequence.Goals as goal
 
 pub order_by_tags-requires : goal.order_by_tags-requires

@@ -1,7 +1,7 @@
 use Rattle.std.proofs.Common.{List, map, sym, ap, ◌∙◌, subst}
 use Rattle.record.specs.declared.call.Entry.{Entry}
 use Rattle.record.specs.declared.call.TaggedCall.{TaggedCall}
-use Rattle.certificates.specs.Calls.{AreCallsOf}
+use Rattle.history.specs.CallOrder.{AreCallsOf}
 use Rattle.history.specs.Calls.{tagged_entry}
 use Rattle.history.proofs.CallEntryLemmas.{calls_of_entries}
 use Rattle.history.proofs.object.tagged_calls.Goals as goal

@@ -4,7 +4,7 @@ use Rattle.std.specs.List.{list_all}
 use Rattle.register.specs.Causes.{call_at}
 use Rattle.record.specs.declared.call.Entry.{Entry}
 use Rattle.atomicity.specs.Atomic.{IsSequence}
-use Rattle.certificates.specs.Check.{AreLawfulEntries}
+use Rattle.history.specs.Check.{AreLawfulEntries}
 use Rattle.player.specs.Shown.{IsChecked}
 use Rattle.player.proofs.PrintedLineLemmas.{prints_as}
 use Rattle.player.proofs.MissingCallLemmas.{none_missing, none_missing-unknown}

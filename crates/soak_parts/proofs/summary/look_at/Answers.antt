@@ -2,7 +2,7 @@ use Rattle.std.proofs.Common.{◌≡◌, ◌∙◌, subst, sym}
 use Rattle.encoder.specs.Fragment.{fragment}
 use Rattle.atomicity.specs.Atomic.{IsSequence}
 use Rattle.record.specs.Journals.{entries}
-use Rattle.certificates.specs.Check.{AreLawfulEntries}
+use Rattle.history.specs.Check.{AreLawfulEntries}
 use Rattle.soak_parts.proofs.summary.look_at.Goals as goal
 
 pub returns-clause-check : goal.returns-clause-check

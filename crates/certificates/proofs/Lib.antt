@@ -1,9 +1,0 @@
-pub mod AnsweredCountLemmas
-pub mod CallPlaceLemmas
-pub mod FilterMapLemmas
-pub mod LawfulEntryLemmas
-pub mod OrderPassLemmas
-pub mod PairwiseByPlaceLemmas
-pub mod RegisterPassLemmas
-pub mod SortedPlaceLemmas
-pub mod TagOrderLemmas

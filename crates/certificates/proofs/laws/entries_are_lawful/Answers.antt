@@ -1,7 +1,0 @@
-use Rattle.soundness.proofs.Values.ReadValueLemmas.{reads_journaled}
-use Rattle.certificates.proofs.LawfulEntryLemmas.{lawful_entries}
-use Rattle.certificates.proofs.laws.entries_are_lawful.Goals as goal
-
-pub returns : goal.returns
-returns c = λ fragment object last code sound numbered.
-    lawful_entries object numbered (reads_journaled fragment object code.determines sound.legal sound.values sound.coded sound.settled)

@@ -1,3 +1,0 @@
-pub mod Calls
-pub mod Check
-pub mod Places
