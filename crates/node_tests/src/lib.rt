@@ -1,5 +1,5 @@
-//! Whole commands at nodes, and what nodes keep of objects. There are only tests. They stand in a crate of their own,
-//! so that the libraries are proved once and not twice.
+//! Tests of what a node reads and writes, of a node, and of what it keeps of objects. They stand in a crate of their
+//! own, since a crate with tests is proved twice.
 #![tactic(auto)]
 
 #[cfg(test)]
@@ -7,7 +7,17 @@ mod alone;
 #[cfg(test)]
 mod anew;
 #[cfg(test)]
+mod checks;
+#[cfg(test)]
+mod clients;
+#[cfg(test)]
 mod commands;
+#[cfg(test)]
+mod files;
+#[cfg(test)]
+mod log;
+#[cfg(test)]
+mod messages;
 #[cfg(test)]
 mod objects;
 #[cfg(test)]

@@ -1,0 +1,75 @@
+-- What banks that keep everything answer: their rows as lists, which compute.
+use Rattle.std.proofs.Common.{◌≡◌, ℕ, [], ◌∷◌, None, Some, refl, ap, ◌∙◌}
+use Rattle.std.specs.FinMap as finmap
+use Rattle.tag.specs.declared.tag.Tag.{Tag}
+use Rattle.tag.specs.Tag.{tag_cmp, opening_tag}
+use Rattle.bank.specs.Bank.{Bank, opened_bank, opening_row, pre_written, finalized}
+use Rattle.bank.specs.Bank.{empty_piece, piece_of, piece_of_row}
+use Rattle.bank.specs.Collect.{collected}
+use Rattle.bank.specs.Serve.{greatest_final}
+use Rattle.bank.proofs.EntryOrderLemmas.{Rows}
+use Rattle.example_tests.proofs.Examples.BankRowLemmas.{after_finalize, after_pre_write, finalized_entries, greatest_from}
+use Rattle.example_tests.proofs.Examples.BankRowLemmas.{opened_entries, pre_written_entries}
+use Rattle.example_tests.specs.Scripts.{letter_piece, write_tag}
+
+pub piece_from : (bank : Bank) (rows : Rows) (tag : Tag) → finmap.entries bank.rows ≡ rows →
+    piece_of bank tag ≡ piece_of_row (finmap.find tag_cmp tag rows)
+piece_from bank rows tag is =
+    ap piece_of_row (finmap.get-entries bank.rows tag) ∙ ap (λ (es : Rows). piece_of_row (finmap.find tag_cmp tag es)) is
+
+-- an opened bank knows the opening tag alone
+
+abbrev pub opened_rows : (point : ℕ) → Rows
+opened_rows point = (opening_tag, opening_row point 0) ∷ []
+
+pub opened_greatest : (point : ℕ) → greatest_final (opened_bank point None 0) ≡ opening_tag
+opened_greatest point = greatest_from (opened_bank point None 0) (opened_rows point) (opened_entries point None 0)
+
+pub opened_lacks : (point : ℕ) → piece_of (opened_bank point None 0) write_tag ≡ None
+opened_lacks point = piece_from (opened_bank point None 0) (opened_rows point) write_tag (opened_entries point None 0)
+
+pub opened_piece : (point : ℕ) → piece_of (opened_bank point None 0) opening_tag ≡ Some (empty_piece point)
+opened_piece point = piece_from (opened_bank point None 0) (opened_rows point) opening_tag (opened_entries point None 0)
+
+-- a bank that has been opened, keeps its piece of the value, and finalized the write's tag
+
+abbrev wrote_bank : (point : ℕ) → Bank
+wrote_bank point = collected (pre_written (opened_bank point None 0) write_tag (letter_piece point) 0)
+
+abbrev final_bank : (point : ℕ) → Bank
+final_bank point = collected (finalized (wrote_bank point) write_tag 0)
+
+abbrev wrote_rows : (point : ℕ) → Rows
+wrote_rows point = after_pre_write None (opened_rows point) write_tag (letter_piece point) 0
+
+abbrev final_rows : (point : ℕ) → Rows
+final_rows point = after_finalize None (wrote_rows point) write_tag 0
+
+final_bank_keeps : (point : ℕ) → finmap.entries (final_bank point).rows ≡ final_rows point
+final_bank_keeps point =
+    finalized_entries (wrote_bank point) (wrote_rows point) write_tag 0 refl
+    (pre_written_entries (opened_bank point None 0) (opened_rows point) write_tag (letter_piece point) 0 refl
+    (opened_entries point None 0))
+
+pub final_greatest : (point : ℕ) → greatest_final (final_bank point) ≡ write_tag
+final_greatest point = greatest_from (final_bank point) (final_rows point) (final_bank_keeps point)
+
+pub final_piece : (point : ℕ) → piece_of (final_bank point) write_tag ≡ Some (letter_piece point)
+final_piece point = piece_from (final_bank point) (final_rows point) write_tag (final_bank_keeps point)
+
+-- the same bank after it served the request to finalize the tag a second time
+
+abbrev twice_bank : (point : ℕ) → Bank
+twice_bank point = collected (finalized (final_bank point) write_tag 0)
+
+abbrev twice_rows : (point : ℕ) → Rows
+twice_rows point = after_finalize None (final_rows point) write_tag 0
+
+twice_bank_keeps : (point : ℕ) → finmap.entries (twice_bank point).rows ≡ twice_rows point
+twice_bank_keeps point = finalized_entries (final_bank point) (final_rows point) write_tag 0 refl (final_bank_keeps point)
+
+pub twice_greatest : (point : ℕ) → greatest_final (twice_bank point) ≡ write_tag
+twice_greatest point = greatest_from (twice_bank point) (twice_rows point) (twice_bank_keeps point)
+
+pub twice_piece : (point : ℕ) → piece_of (twice_bank point) write_tag ≡ Some (letter_piece point)
+twice_piece point = piece_from (twice_bank point) (twice_rows point) write_tag (twice_bank_keeps point)

@@ -1,0 +1,90 @@
+-- The read, part by part.
+use Rattle.std.proofs.Common.{[], ◌∷◌, ◌≤◌, inl, refl, sym, subst, ap, le_refl, arith}
+use Rattle.tag.specs.Tag.{opening_tag}
+use Rattle.layout.specs.Layout.{Layout}
+use Rattle.refinement.specs.Systems.{MayRunIn, System, system_run}
+use Rattle.example_tests.specs.RecordExamples.{whole}
+use Rattle.example_tests.proofs.EventRunLemmas.{one_distinct, ready, ready_settled}
+use Rattle.example_tests.proofs.KeptRowLemmas.{opened_greatest, opened_piece}
+use Rattle.example_tests.specs.RefinedExamples.{read_asked, read_begun, read_ended, read_settled, start}
+use Rattle.example_tests.proofs.RunLemmas.{knows, piece_told, tag_told}
+
+abbrev pub after_query : System
+after_query = system_run whole read_asked start
+
+abbrev pub after_fetch : System
+after_fetch = system_run whole read_settled after_query
+
+pub asks : MayRunIn whole read_asked start
+asks = (
+  (refl, tt),
+  (
+    (((_, refl), (_, refl, refl)), (0, refl)),
+    (
+      ((_, _, refl), (1, refl)),
+      (
+        ((_, refl, inl (ready _ refl refl, refl), knows ((system_run whole read_begun start).objects 1) _ _ refl refl), tt),
+        (
+          (((_, refl), (_, refl, refl)), (2, refl)),
+          (((_, _, refl), (3, ap (tag_told 3 2) (opened_greatest 0))), tt),
+        ),
+      ),
+    ),
+  ),
+)
+
+pub settles : MayRunIn whole read_settled after_query
+settles = (
+  ((_, refl, inl (ready _ refl refl, refl), knows (after_query.objects 1) _ _ refl refl), tt),
+  (
+    (((_, refl), (_, refl, refl)), (4, refl)),
+    (
+      ((_, _, refl), (5, ap (piece_told 3 3 opening_tag) (opened_piece 0))),
+      (
+        (
+          (
+            _,
+            refl,
+            record {
+              complete = refl;
+              fetch = (_, refl);
+              unsettled = refl;
+              enough = refl;
+              layout = _;
+              known = refl;
+              pieces = λ object same. record {
+                members = 0 ∷ [];
+                distinct = one_distinct 0;
+                enough = subst (λ (l : Layout). l.k ≤ 1) (sym same) (le_refl 1);
+                pieces = (
+                  record {
+                    place = 0;
+                    reply = _;
+                    within = refl;
+                    same_member = refl;
+                    piece = _;
+                    same_piece = refl;
+                    is_fragment = record { point = refl; len = refl; bytes = refl };
+                  },
+                  tt,
+                );
+              };
+              is_value = (tt, omega arith);
+            },
+          ),
+          tt,
+        ),
+        tt,
+      ),
+    ),
+  ),
+)
+
+pub ends : MayRunIn whole read_ended after_fetch
+ends = (
+  ((_, refl, inl (ready_settled _ refl refl, refl), knows (after_fetch.objects 1) _ _ refl refl), tt),
+  (
+    (((_, refl), (_, refl, refl)), (6, refl)),
+    (((_, _, refl), (7, refl)), (((_, refl, ready _ refl refl, refl), tt), tt)),
+  ),
+)

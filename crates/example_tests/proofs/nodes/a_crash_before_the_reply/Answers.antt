@@ -1,0 +1,9 @@
+use Rattle.std.proofs.Common.{refl}
+use Rattle.example_tests.proofs.CrashLemmas.{every_event}
+use Rattle.example_tests.proofs.nodes.a_crash_before_the_reply.Goals as goal
+
+pub returns-clause-may : goal.returns-clause-may
+returns-clause-may c = every_event
+
+pub returns-clause-gives : goal.returns-clause-gives
+returns-clause-gives c = refl

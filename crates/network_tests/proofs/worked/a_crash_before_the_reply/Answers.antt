@@ -1,9 +1,0 @@
-use Rattle.std.proofs.Common.{refl}
-use Rattle.network_tests.proofs.CrashLemmas.{every_event}
-use Rattle.network_tests.proofs.worked.a_crash_before_the_reply.Goals as goal
-
-pub returns-clause-may : goal.returns-clause-may
-returns-clause-may c = every_event
-
-pub returns-clause-gives : goal.returns-clause-gives
-returns-clause-gives c = refl

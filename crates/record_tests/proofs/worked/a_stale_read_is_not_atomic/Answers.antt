@@ -1,5 +1,0 @@
-use Rattle.record_tests.proofs.Examples.StaleReadLemmas.{stale_is_refused}
-use Rattle.record_tests.proofs.worked.a_stale_read_is_not_atomic.Goals as goal
-
-pub returns : goal.returns
-returns c = stale_is_refused

@@ -1,8 +1,0 @@
-use Rattle.record_tests.proofs.Examples.WriteMoveReadLemmas.{move_goes}
-use Rattle.record_tests.proofs.worked.a_write_a_move_and_a_read.Goals as goal
-
-pub returns-clause-may : goal.returns-clause-may
-returns-clause-may c = move_goes.may
-
-pub returns-clause-gives : goal.returns-clause-gives
-returns-clause-gives c = move_goes.gives

@@ -1,5 +1,0 @@
-use Rattle.record_tests.proofs.Examples.OneOverlapLemmas.{met_exactly}
-use Rattle.record_tests.proofs.worked.the_bound_is_met_exactly.Goals as goal
-
-pub returns : goal.returns
-returns c = met_exactly

@@ -1,4 +1,0 @@
-pub mod ReadLemmas
-pub mod RunLemmas
-pub mod WriteAndReadLemmas
-pub mod WriteLemmas
