@@ -1,4 +1,5 @@
 //! A node that is alone in its cluster.
+use crate::checks::assert_prints;
 use bytes::Bytes;
 use cluster_file::read_cluster_file;
 use frames::Frame;
@@ -6,7 +7,6 @@ use node::Node;
 use node_effects::{Effects, Machine};
 use node_log::Entry;
 use std::alloc::Global;
-use std::fmt::Debug;
 use std::process::Abort;
 
 /// A frame that comes to a node, and what the node does.
@@ -31,15 +31,6 @@ fn assert_step(rt: &impl Abort, alloc: Global, effects: &Effects, step: &Step) {
     assert_prints(rt, alloc, &effects.answers, step.answers);
     let count = effects.outputs.len();
     assert!(rt; step.outputs.unwrap_or(count) == count);
-}
-
-fn assert_text(rt: &impl Abort, text: &str, expected: &str) {
-    assert!(rt; text == expected, "{text}");
-}
-
-fn assert_prints<T: Debug>(rt: &impl Abort, alloc: Global, value: &T, expected: &str) {
-    let text = format!(in alloc; "{value:?}").expect(rt, "memory");
-    assert_text(rt, text.as_str(), expected);
 }
 
 /// Returns what a node wants done once this frame came.

@@ -1,6 +1,7 @@
-//! Strings and frames that are made, and comparisons with what is written by hand.
+//! Strings, frames and layouts that are made, and comparisons with what is written by hand.
 use bytes::Bytes;
 use frames::{Frame, read_frame};
+use layout::Layout;
 use std::alloc::Global;
 use std::fmt::Debug;
 use std::process::Abort;
@@ -19,6 +20,11 @@ pub(crate) fn strings<R: Abort>(rt: &R, alloc: Global, texts: &[&[u8]]) -> Vec<B
 pub(crate) fn frame_in<R: Abort>(rt: &R, alloc: Global, sent: &[u8]) -> Frame {
     let frame = read_frame(alloc, &mut &*sent).expect(rt, "no fault");
     frame.expect(rt, "a frame")
+}
+
+/// The layout of these members.
+pub(crate) fn layout<R: Abort>(rt: &R, k: u8, members: &[u8]) -> Layout {
+    Layout::new(k, members).expect(rt, "a layout")
 }
 
 fn are_equal(one: &[Bytes], other: &[Bytes]) -> bool {

@@ -1,4 +1,5 @@
 //! Messages that have no frame, and why.
+use crate::checks::layout;
 use bank::{Answer, Kind, Reply, Request, Status};
 use bytes::Bytes;
 use frames::LONGEST_STRING;
@@ -9,10 +10,6 @@ use piece::Piece;
 use std::alloc::Global;
 use std::process::Abort;
 use tag::Tag;
-
-fn layout<R: Abort>(rt: &R, k: u8, members: &[u8]) -> Layout {
-    Layout::new(k, members).expect(rt, "a layout")
-}
 
 /// A message about the object of this name to this member of four.
 fn message<R: Abort>(

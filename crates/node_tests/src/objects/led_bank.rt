@@ -1,5 +1,5 @@
 //! The requests that lead to a bank, by hand, and the bank that they lead to.
-use super::checks::assert_prints;
+use crate::checks::assert_prints;
 use bank::{Bank, Request, Status};
 use bytes::Bytes;
 use object_letters::requests_of;

@@ -1,4 +1,5 @@
 //! The letters that lead to an object, and the object that they lead to.
+use crate::checks::layout;
 use bank::{Request, Status};
 use bytes::Bytes;
 use layout::Layout;
@@ -14,13 +15,9 @@ const FIRST: Tag = Tag { number: 1, call: 7 };
 
 const SECOND: Tag = Tag { number: 2, call: 5 };
 
-fn layout(rt: &impl Abort, members: &[u8]) -> Layout {
-    Layout::new(2, members).expect(rt, "a layout")
-}
-
 // Node 4 with delta 0, which is member 1 of position 0.
 fn new_object(rt: &impl Abort, alloc: Global) -> LocalObject {
-    LocalObject::new(alloc, 4, Some(0), layout(rt, &[6, 4, 2])).expect(rt, "an object")
+    LocalObject::new(alloc, 4, Some(0), layout(rt, 2, &[6, 4, 2])).expect(rt, "an object")
 }
 
 // A request to member 1 of position 0, which has this layout.
@@ -40,7 +37,7 @@ fn letter(layout: Layout, next: Option<Layout>, request: Request) -> Letter {
 
 // Node 4 replies to the letter.
 fn serve(rt: &impl Abort, object: &mut LocalObject, next: Option<Layout>, request: Request) {
-    let first = layout(rt, &[6, 4, 2]);
+    let first = layout(rt, 2, &[6, 4, 2]);
     let reply = object
         .serve(letter(first, next, request))
         .expect(rt, "memory");
@@ -58,7 +55,7 @@ fn pre_write(tag: Tag) -> Request {
 
 // The layout of the members 1, 2 and 3 becomes the pending one.
 fn spread(rt: &impl Abort, object: &mut LocalObject) {
-    let next = layout(rt, &[1, 2, 3]);
+    let next = layout(rt, 2, &[1, 2, 3]);
     serve(rt, object, Some(next), Request::Spread(Status::Pending));
 }
 
@@ -124,6 +121,6 @@ fn read_spread_and_move(rt: &impl Abort, object: &mut LocalObject) {
     assert!(rt; can_be_led_to(object, true));
     spread(rt, object);
     assert!(rt; can_be_led_to(object, false) && !can_be_led_to(object, true));
-    assert!(rt; object.begin_move(2, layout(rt, &[3, 2, 1])).is_ok());
+    assert!(rt; object.begin_move(2, layout(rt, 2, &[3, 2, 1])).is_ok());
     assert!(rt; !can_be_led_to(object, false));
 }

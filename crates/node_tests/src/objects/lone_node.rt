@@ -1,5 +1,6 @@
 //! A node that is alone, and its letters to itself.
-use super::checks::{assert_prints, is_request};
+use super::nodes::is_request;
+use crate::checks::assert_prints;
 use bytes::Bytes;
 use cluster_file::ClusterNodes;
 use local_object::{Ended, Letter};

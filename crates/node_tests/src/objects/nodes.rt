@@ -1,8 +1,9 @@
 //! Nodes of one object, and the letters between them.
-use super::checks::{assert_prints, is_request};
+use crate::checks::{assert_prints, layout};
 use bytes::Bytes;
 use layout::Layout;
 use local_object::{Ended, Letter, LocalObject};
+use mail::Body;
 use std::alloc::Global;
 use std::collections::VecDeque;
 use std::process::Abort;
@@ -51,8 +52,11 @@ pub(crate) fn play(rt: &impl Abort, alloc: Global, steps: &[Step]) {
     }
 }
 
-fn layout(rt: &impl Abort, k: u8, members: &[u8]) -> Layout {
-    Layout::new(k, members).expect(rt, "a layout")
+pub(crate) fn is_request(letter: &Letter) -> bool {
+    match &letter.message.body {
+        Body::Request(_) => true,
+        Body::Reply { kind: _, reply: _ } => false,
+    }
 }
 
 fn four_nodes(rt: &impl Abort, alloc: Global) -> Nodes {
