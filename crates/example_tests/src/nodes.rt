@@ -1,4 +1,4 @@
-//! Worked examples, proved as theorems.
+//! Runs of separate nodes, proved as theorems.
 ghost use Rattle.std.specs.Prelude.{◌≡◌, Some};
 ghost use Rattle.bank.specs.Bank.{piece_of};
 ghost use Rattle.network.specs.Events.{world_after};

@@ -1,4 +1,4 @@
-//! Worked examples, proved as theorems.
+//! Runs of the record of one object, proved as theorems.
 ghost use Rattle.std.specs.Prelude.{◌≡◌, ◌++◌, None, Some};
 ghost use Rattle.atomicity.specs.Atomic.{IsAtomic};
 ghost use Rattle.example_tests.specs.RecordExamples.{move_entries, move_script, one_member};

@@ -1,4 +1,4 @@
-//! Runs of two nodes, event by event.
+//! Runs of two nodes that act by what they keep, event by event.
 ghost use Rattle.example_tests.specs.RefinedExamples.{AReadOfANewObject, AWriteAndARestart};
 
 /// A law: node 1 writes a value, which node 0 keeps, and node 0 stops and starts again. Each event may happen, and the
