@@ -8,7 +8,7 @@ use Rattle.std.proofs.lemmas.Bool.{cases_lt, cases_eq, true≢false}
 use Rattle.std.proofs.lemmas.List.{get_or_append_left, get_or-drop, get_or_push, take-append-le}
 use Rattle.std.proofs.lemmas.Slice.Eq.{bytes_eq-Decides}
 use Rattle.frames.specs.Frame.{IsFrame, header, line_end, string_bytes, frame_bytes}
-use Rattle.node_log.specs.Entry.{digest_of, head_of, log_entry_bytes, IsHead, length_in}
+use Rattle.node_log.specs.Entry.{digest_behind, form, form_in, head_of, log_entry_bytes, IsHead, length_in}
 use Rattle.node_log.specs.Reading.{HasLogEntry, body_length, IsEnd}
 use Rattle.node_log.specs.Laws.{CutIsEnd}
 use Rattle.node_log.proofs.HeadLemmas.{front, length-head, head_is_head, length_in_head}
@@ -48,16 +48,16 @@ has_bytes strings = omega arith
 
 -- ---- the first byte and the last one of a body
 
-first_byte : (bytes : List ℕ) (strings : List (List ℕ)) (rest : List ℕ) → IsFrame strings → bytes ≡ log_entry_bytes strings ++ rest
-    → get_or bytes 16 0 ≡ 42
-first_byte bytes strings rest lawful is =
-    let p = parts bytes strings rest lawful is in
+first_byte : (chain : ℕ) (bytes : List ℕ) (strings : List (List ℕ)) (rest : List ℕ) → IsFrame strings
+    → bytes ≡ log_entry_bytes chain strings ++ rest → get_or bytes 16 0 ≡ 42
+first_byte chain bytes strings rest lawful is =
+    let p = parts chain bytes strings rest lawful is in
     sym (get_or-drop 16 bytes 0 0) ∙ ap (λ (t : List ℕ). get_or t 0 0) p.behind
 
-last_byte : (bytes : List ℕ) (strings : List (List ℕ)) (rest : List ℕ) → IsFrame strings → bytes ≡ log_entry_bytes strings ++ rest
-    → get_or bytes (16 + (body_length bytes - 1)) 0 ≡ 10
-last_byte bytes strings rest lawful is =
-    let p = parts bytes strings rest lawful is in
+pub last_byte : (chain : ℕ) (bytes : List ℕ) (strings : List (List ℕ)) (rest : List ℕ) → IsFrame strings
+    → bytes ≡ log_entry_bytes chain strings ++ rest → get_or bytes (16 + (body_length bytes - 1)) 0 ≡ 10
+last_byte chain bytes strings rest lawful is =
+    let p = parts chain bytes strings rest lawful is in
     let body = frame_bytes strings in
     let last = body_length bytes - 1 in
     let some = has_bytes strings in
@@ -73,58 +73,66 @@ same_or_not : (xs ys : List ℕ) (test : Bool) → bytes_eq xs ys ≡ test → (
 same_or_not xs ys true e = inl ((bytes_eq-Decides xs ys).0 e)
 same_or_not xs ys false e = inr (λ same. true≢false (sym ((bytes_eq-Decides xs ys).1 same) ∙ e))
 
-head_or_not : (head : List ℕ) → IsHead head ⊎ (IsHead head → ⊥)
-head_or_not head =
+head_or_not : (chain : ℕ) (head : List ℕ) → IsHead chain head ⊎ (IsHead chain head → ⊥)
+head_or_not chain head =
+    let digest = digest_behind chain (take 12 head) in
     ⊎_elim
-    (λ whole. ⊎_elim (λ same. inl (record { whole = whole; digest = same })) (λ other. inr (λ is. other is.digest))
-    (same_or_not (digest_of (take 12 head)) (drop 12 head) (bytes_eq (digest_of (take 12 head)) (drop 12 head)) refl))
+    (λ whole. ⊎_elim
+    (λ has. ⊎_elim (λ same. inl (record { whole = whole; has_form = has; digest = same })) (λ other. inr (λ is. other is.digest))
+    (same_or_not digest (drop 12 head) (bytes_eq digest (drop 12 head)) refl))
+    (λ none. inr (λ is. none is.has_form))
+    (cases_eq (form_in head) form))
     (λ short. inr (λ is. short is.whole))
     (cases_eq (length head) 16)
 
 -- ---- a front of an entry, and zeros
 
-ends_in_head : (front : List ℕ) (n : ℕ) → length front < 16 → IsEnd (front ++ replicate n 0)
-ends_in_head front n short =
+ends_in_head : (chain : ℕ) (front : List ℕ) (n : ℕ) → length front < 16 → IsEnd chain (front ++ replicate n 0)
+ends_in_head chain front n short =
     let bytes = front ++ replicate n 0 in
-    let none : HasLogEntry (front ++ replicate n 0) → ⊥ =
-    λ (has : HasLogEntry (front ++ replicate n 0)).
-    let star = first_byte bytes has.0 has.1 has.2 has.3 in
+    let none : HasLogEntry chain (front ++ replicate n 0) → ⊥ =
+    λ (has : HasLogEntry chain (front ++ replicate n 0)).
+    let star = first_byte chain bytes has.0 has.1 has.2 has.3 in
     let zero = zeros_put_behind front n 16 (omega arith) 16 (omega arith) in omega arith in
     ⊎_elim (λ is. (none, inr (is, zeros_put_behind front n (16 + (body_length bytes - 1)) (omega arith))))
     (λ no. (none, inl (no, zeros_put_behind front n 15 (omega arith))))
-    (head_or_not (take 16 bytes))
+    (head_or_not chain (take 16 bytes))
 
-ends_in_body : (strings : List (List ℕ)) (begin back : List ℕ) (n : ℕ) → IsFrame strings → log_entry_bytes strings ≡ begin ++ back
-    → 0 < length back → 16 ≤ length begin → IsEnd (begin ++ replicate n 0)
-ends_in_body strings begin back n lawful is some long =
+ends_in_body : (chain : ℕ) (strings : List (List ℕ)) (begin back : List ℕ) (n : ℕ) → IsFrame strings
+    → log_entry_bytes chain strings ≡ begin ++ back → 0 < length back → 16 ≤ length begin → IsEnd chain (begin ++ replicate n 0)
+ends_in_body chain strings begin back n lawful is some long =
     let bytes = begin ++ replicate n 0 in
     let zeros : List ℕ = replicate n 0 in
     let body = frame_bytes strings in
-    let head = head_of (frame_bytes strings) in
-    let first : take 16 (begin ++ replicate n 0) ≡ head_of (frame_bytes strings) =
+    let small = frame_short strings lawful in
+    let head = head_of chain (frame_bytes strings) in
+    let first : take 16 (begin ++ replicate n 0) ≡ head_of chain (frame_bytes strings) =
     take-append-le 16 begin zeros long ∙ sym (take-append-le 16 begin back long) ∙ ap (take 16) (sym is)
-    ∙ front 16 head body (length-head body) in
+    ∙ front 16 head body (length-head chain body) in
     let says : body_length (begin ++ replicate n 0) ≡ length (frame_bytes strings) =
-    ap (λ (h : List ℕ). length_in h) first ∙ length_in_head body (frame_short strings lawful) in
+    ap (λ (h : List ℕ). length_in h) first ∙ length_in_head chain body small in
     let some_body = has_bytes strings in
     let fits : length begin ≤ 16 + (body_length (begin ++ replicate n 0) - 1) =
-    omega (arith, ap length is, length-append begin back, length-append head body, length-head body) in
-    let none : HasLogEntry (begin ++ replicate n 0) → ⊥ =
-    λ (has : HasLogEntry (begin ++ replicate n 0)).
-    let line = last_byte bytes has.0 has.1 has.2 has.3 in
+    omega (arith, ap length is, length-append begin back, length-append head body, length-head chain body) in
+    let none : HasLogEntry chain (begin ++ replicate n 0) → ⊥ =
+    λ (has : HasLogEntry chain (begin ++ replicate n 0)).
+    let line = last_byte chain bytes has.0 has.1 has.2 has.3 in
     let zero = zeros_put_behind begin n (16 + (body_length bytes - 1)) fits (16 + (body_length bytes - 1)) (omega arith) in
-    omega arith in
-    (none, inr (subst IsHead (sym first) (head_is_head body), zeros_put_behind begin n (16 + (body_length bytes - 1)) fits))
+    omega arith in (
+      none,
+      inr (subst (IsHead chain) (sym first) (head_is_head chain body small), zeros_put_behind begin n (16 + (body_length bytes - 1)) fits),
+    )
 
 some_bytes : (back : List ℕ) → (back ≡ [] → ⊥) → 0 < length back
 some_bytes [] some = absurd (some refl)
 some_bytes (x ∷ back) some = omega arith
 
 pub cut_entry : CutIsEnd
-cut_entry strings begin back n lawful is some =
-    ⊎_elim (λ short. ends_in_head begin n short)
-    (λ long. ends_in_body strings begin back n lawful is (some_bytes back some) long)
+cut_entry chain strings begin back n lawful is some =
+    ⊎_elim (λ short. ends_in_head chain begin n short)
+    (λ long. ends_in_body chain strings begin back n lawful is (some_bytes back some) long)
     (cases_lt (length begin) 16)
 
-pub no_end : (strings : List (List ℕ)) (rest : List ℕ) → IsFrame strings → IsEnd (log_entry_bytes strings ++ rest) → ⊥
-no_end strings rest lawful end = end.0 (strings, rest, lawful, refl)
+pub no_end : (chain : ℕ) (strings : List (List ℕ)) (rest : List ℕ) → IsFrame strings
+    → IsEnd chain (log_entry_bytes chain strings ++ rest) → ⊥
+no_end chain strings rest lawful end = end.0 (strings, rest, lawful, refl)

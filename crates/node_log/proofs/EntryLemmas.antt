@@ -40,7 +40,7 @@ strings_short [] all = omega arith
 strings_short (s ∷ strings) all =
     omega (arith, length-append (string_bytes s) (flat_map string_bytes strings), string_short s all.0, strings_short strings all.1)
 
-pub frame_short : (strings : List (List ℕ)) → IsFrame strings → length (frame_bytes strings) < 2 ^ 64
+pub frame_short : (strings : List (List ℕ)) → IsFrame strings → length (frame_bytes strings) < 2 ^ 56
 frame_short strings lawful =
     let n = length strings in
     let few = lawful.few in
@@ -54,64 +54,68 @@ frame_short strings lawful =
 
 -- ---- the parts of the bytes at whose front an entry stands
 
-pub record EntryParts (bytes : List ℕ) (strings : List (List ℕ)) (rest : List ℕ) : Type 0 where
-  pub head : take 16 bytes ≡ head_of (frame_bytes strings)
-  pub has_head : HasHead bytes
+pub record EntryParts (chain : ℕ) (bytes : List ℕ) (strings : List (List ℕ)) (rest : List ℕ) : Type 0 where
+  pub head : take 16 bytes ≡ head_of chain (frame_bytes strings)
+  pub has_head : HasHead chain bytes
   pub long : body_length bytes ≡ length (frame_bytes strings)
   pub digest : digest_in (take 16 bytes) ≡ digest_of (frame_bytes strings)
   pub behind : behind_head bytes ≡ frame_bytes strings ++ rest
   pub body : body_at bytes ≡ frame_bytes strings
 
-pub parts : (bytes : List ℕ) (strings : List (List ℕ)) (rest : List ℕ) → IsFrame strings → bytes ≡ log_entry_bytes strings ++ rest
-    → EntryParts bytes strings rest
-parts bytes strings rest lawful is =
+pub parts : (chain : ℕ) (bytes : List ℕ) (strings : List (List ℕ)) (rest : List ℕ) → IsFrame strings
+    → bytes ≡ log_entry_bytes chain strings ++ rest → EntryParts chain bytes strings rest
+parts chain bytes strings rest lawful is =
     let body = frame_bytes strings in
-    let head = head_of (frame_bytes strings) in
-    let whole : bytes ≡ head_of (frame_bytes strings) ++ (frame_bytes strings ++ rest) = is ∙ append_assoc head body rest in
-    let first : take 16 bytes ≡ head_of (frame_bytes strings) = ap (take 16) whole ∙ front 16 head (body ++ rest) (length-head body) in
-    let left : behind_head bytes ≡ frame_bytes strings ++ rest = ap (drop 16) whole ∙ behind 16 head (body ++ rest) (length-head body) in
+    let head = head_of chain (frame_bytes strings) in
+    let small = frame_short strings lawful in
+    let whole : bytes ≡ head_of chain (frame_bytes strings) ++ (frame_bytes strings ++ rest) = is ∙ append_assoc head body rest in
+    let first : take 16 bytes ≡ head_of chain (frame_bytes strings) =
+    ap (take 16) whole ∙ front 16 head (body ++ rest) (length-head chain body) in
+    let left : behind_head bytes ≡ frame_bytes strings ++ rest =
+    ap (drop 16) whole ∙ behind 16 head (body ++ rest) (length-head chain body) in
     let long : body_length bytes ≡ length (frame_bytes strings) =
-    ap (λ (h : List ℕ). Rattle.node_log.specs.Entry.length_in h) first ∙ length_in_head body (frame_short strings lawful) in
+    ap (λ (h : List ℕ). Rattle.node_log.specs.Entry.length_in h) first ∙ length_in_head chain body small in
     record {
       head = first;
-      has_head = subst IsHead (sym first) (head_is_head body);
+      has_head = subst (IsHead chain) (sym first) (head_is_head chain body small);
       long = long;
-      digest = ap digest_in first ∙ digest_in_head body;
+      digest = ap digest_in first ∙ digest_in_head chain body;
       behind = left;
       body = ap (λ (n : ℕ). take n (behind_head bytes)) long ∙ ap (take (length body)) left ∙ front (length body) body rest refl;
     }
 
 -- nothing is damaged where an entry stands
-pub not_damaged : (strings : List (List ℕ)) (rest : List ℕ) → IsFrame strings → (damage : Damage)
-    → IsDamaged (log_entry_bytes strings ++ rest) damage → ⊥
-not_damaged strings rest lawful WrongHead damaged = damaged.0 (parts _ strings rest lawful refl).has_head
-not_damaged strings rest lawful WrongDigest damaged =
-    let p = parts _ strings rest lawful refl in
+pub not_damaged : (chain : ℕ) (strings : List (List ℕ)) (rest : List ℕ) → IsFrame strings → (damage : Damage)
+    → IsDamaged chain (log_entry_bytes chain strings ++ rest) damage → ⊥
+not_damaged chain strings rest lawful WrongHead damaged = damaged.0 (parts chain _ strings rest lawful refl).has_head
+not_damaged chain strings rest lawful WrongDigest damaged =
+    let p = parts chain _ strings rest lawful refl in
     damaged.1 (ap digest_of p.body ∙ sym p.digest)
-not_damaged strings rest lawful NoFrame damaged =
-    let p = parts _ strings rest lawful refl in
+not_damaged chain strings rest lawful NoFrame damaged =
+    let p = parts chain _ strings rest lawful refl in
     damaged.2 strings lawful p.body
 
 pub one_entry : BeginsOneEntry
-one_entry e f x y is_e is_f same =
-    let p = parts _ e x is_e refl in
-    let q = parts _ f y is_f same in
+one_entry chain e f x y is_e is_f same =
+    let p = parts chain _ e x is_e refl in
+    let q = parts chain _ f y is_f same in
     one_frame e f x y is_e is_f (sym p.behind ∙ q.behind)
 
 -- where an entry stands, a head and the body stand too
-pub entry_is_whole : (bytes : List ℕ) → HasLogEntry bytes → HasHead bytes × (16 + body_length bytes ≤ length bytes)
-entry_is_whole bytes p =
+pub entry_is_whole : (chain : ℕ) (bytes : List ℕ) → HasLogEntry chain bytes
+    → HasHead chain bytes × (16 + body_length bytes ≤ length bytes)
+entry_is_whole chain bytes p =
     let (strings, rest, lawful, is) = p in
-    let q = parts bytes strings rest lawful is in
+    let q = parts chain bytes strings rest lawful is in
     let body = frame_bytes strings in (
       q.has_head,
       omega (
         arith,
         q.long,
         ap length is,
-        length-append (log_entry_bytes strings) rest,
-        length-append (head_of body) body,
-        length-head body,
+        length-append (log_entry_bytes chain strings) rest,
+        length-append (head_of chain body) body,
+        length-head chain body,
       ),
     )
 

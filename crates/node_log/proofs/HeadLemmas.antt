@@ -1,5 +1,5 @@
 -- The parts of a head.
-use Rattle.std.proofs.Common.{◌≡◌, ℕ, ◌<◌, ◌≤◌, ◌^◌, List, [], ◌∷◌, ◌++◌, length, take, drop, get_or, Bool, true, false}
+use Rattle.std.proofs.Common.{◌≡◌, ℕ, ◌+◌, ◌*◌, ◌/◌, ◌%◌, ◌<◌, ◌≤◌, ◌^◌, List, [], ◌∷◌, ◌++◌, length, take, drop, get_or, Bool, true, false}
 use Rattle.std.proofs.Common.{refl, sym, ap, ap₂, ◌∙◌, subst, append_assoc, arith, drop_at, length-append, length-drop}
 use Rattle.std.proofs.Common.{take-append-drop, take_all}
 use Rattle.std.proofs.Math.Seq.{take-add}
@@ -12,7 +12,7 @@ use Rattle.std.specs.Str.{bytes_eq}
 use Rattle.std.proofs.lemmas.Slice.Eq.{bytes_eq-Decides}
 use Rattle.std.proofs.lemmas.Bool.{true≢false}
 use Rattle.node_log.proofs.TableLemmas.{written_out}
-use Rattle.node_log.specs.Entry.{digest_of, described, head_of, IsHead, length_in, digest_in}
+use Rattle.node_log.specs.Entry.{digest_of, digest_behind, described, form, form_in, head_of, IsHead, IsOldHead, length_in, digest_in}
 
 pub front : (n : ℕ) (a b : List ℕ) → length a ≡ n → take n (a ++ b) ≡ a
 front n a b e = take-append-le n a b (omega arith) ∙ take_all n a (omega arith)
@@ -27,42 +27,69 @@ length-digest bytes = refl
 eight : (n : ℕ) → length (to_be_bytes w64 n) ≡ 8
 eight n = refl
 
-length-described : (body : List ℕ) → length (described body) ≡ 12
-length-described body =
-    let n = length body in
-    omega (arith, length-append (to_be_bytes w64 n) (digest_of body), eight n, length-digest body)
+length-digest_behind : (chain : ℕ) (bytes : List ℕ) → length (digest_behind chain bytes) ≡ 4
+unfolding digest_behind
+length-digest_behind chain bytes = refl
 
-pub length-head : (body : List ℕ) → length (head_of body) ≡ 16
-length-head body =
-    omega (arith, length-append (described body) (digest_of (described body)), length-described body, length-digest (described body))
+-- the number that the first eight bytes of a head write
+abbrev pub number_of : List ℕ → ℕ
+number_of body = form * 2 ^ 56 + length body
+
+pub length-described : (body : List ℕ) → length (described body) ≡ 12
+unfolding described
+length-described body =
+    omega (arith, length-append (to_be_bytes w64 (number_of body)) (digest_of body), eight (number_of body), length-digest body)
+
+pub length-head : (chain : ℕ) (body : List ℕ) → length (head_of chain body) ≡ 16
+length-head chain body =
+    let says = described body in
+    omega (arith, length-append says (digest_behind chain says), length-described body, length-digest_behind chain says)
+
+regrouped : (chain : ℕ) (body : List ℕ)
+    → head_of chain body ≡ to_be_bytes w64 (number_of body) ++ (digest_of body ++ digest_behind chain (described body))
+unfolding described
+regrouped chain body = append_assoc (to_be_bytes w64 (number_of body)) (digest_of body) (digest_behind chain (described body))
+
+number_in_head : (chain : ℕ) (body : List ℕ) → length body < 2 ^ 56
+    → from_be_bytes w64 (take 8 (head_of chain body)) ≡ number_of body
+number_in_head chain body small =
+    let n = number_of body in
+    let rest = digest_of body ++ digest_behind chain (described body) in
+    ap (from_be_bytes w64) (ap (take 8) (regrouped chain body) ∙ front 8 (to_be_bytes w64 n) rest (eight n))
+    ∙ from_be_bytes-to_be_bytes_8 n (omega arith)
+
+form_of_number : (n : ℕ) → n < 2 ^ 56 → (form * 2 ^ 56 + n) / 2 ^ 56 ≡ form
+form_of_number n small = omega arith
+
+length_of_number : (n : ℕ) → n < 2 ^ 56 → (form * 2 ^ 56 + n) % 2 ^ 56 ≡ n
+length_of_number n small = omega arith
+
+pub length_in_head : (chain : ℕ) (body : List ℕ) → length body < 2 ^ 56 → length_in (head_of chain body) ≡ length body
+length_in_head chain body small =
+    ap (λ (v : ℕ). v % 2 ^ 56) (number_in_head chain body small) ∙ length_of_number (length body) small
+
+-- what a head says, and its last bytes
+pub says_of_head : (chain : ℕ) (body : List ℕ) → take 12 (head_of chain body) ≡ described body
+says_of_head chain body = front 12 (described body) (digest_behind chain (described body)) (length-described body)
+
+pub last_of_head : (chain : ℕ) (body : List ℕ) → drop 12 (head_of chain body) ≡ digest_behind chain (described body)
+last_of_head chain body = behind 12 (described body) (digest_behind chain (described body)) (length-described body)
 
 -- the head of a body is a head
-pub head_is_head : (body : List ℕ) → IsHead (head_of body)
-head_is_head body =
-    let says = described body in
-    let digest = digest_of (described body) in
-    record {
-      whole = length-head body;
-      digest = ap digest_of (front 12 says digest (length-described body)) ∙ sym (behind 12 says digest (length-described body));
-    }
+pub head_is_head : (chain : ℕ) (body : List ℕ) → length body < 2 ^ 56 → IsHead chain (head_of chain body)
+head_is_head chain body small = record {
+  whole = length-head chain body;
+  has_form = ap (λ (v : ℕ). v / 2 ^ 56) (number_in_head chain body small) ∙ form_of_number (length body) small;
+  digest = ap (digest_behind chain) (says_of_head chain body) ∙ sym (last_of_head chain body);
+}
 
-regrouped : (body : List ℕ)
-    → head_of body ≡ to_be_bytes w64 (length body) ++ (digest_of body ++ digest_of (described body))
-regrouped body = append_assoc (to_be_bytes w64 (length body)) (digest_of body) (digest_of (described body))
-
-pub length_in_head : (body : List ℕ) → length body < 2 ^ 64 → length_in (head_of body) ≡ length body
-length_in_head body small =
-    let n = length body in
-    let rest = digest_of body ++ digest_of (described body) in
-    ap (from_be_bytes w64) (ap (take 8) (regrouped body) ∙ front 8 (to_be_bytes w64 n) rest (eight n))
-    ∙ from_be_bytes-to_be_bytes_8 n small
-
-pub digest_in_head : (body : List ℕ) → digest_in (head_of body) ≡ digest_of body
-digest_in_head body =
-    let n = length body in
-    let rest = digest_of body ++ digest_of (described body) in
-    ap (take 4) (ap (drop 8) (regrouped body) ∙ behind 8 (to_be_bytes w64 n) rest (eight n))
-    ∙ front 4 (digest_of body) (digest_of (described body)) (length-digest body)
+pub digest_in_head : (chain : ℕ) (body : List ℕ) → digest_in (head_of chain body) ≡ digest_of body
+digest_in_head chain body =
+    let n = number_of body in
+    let last = digest_behind chain (described body) in
+    let rest = digest_of body ++ digest_behind chain (described body) in
+    ap (take 4) (ap (drop 8) (regrouped chain body) ∙ behind 8 (to_be_bytes w64 n) rest (eight n))
+    ∙ front 4 (digest_of body) last (length-digest body)
 
 -- each of the first bytes is below 256
 front_bytes : (n : ℕ) (xs : List ℕ) → ((i : ℕ) → get_or xs i 0 < 256) → (i : ℕ) → get_or (take n xs) i 0 < 256
@@ -74,16 +101,26 @@ front_bytes n xs all i =
     beyond : n ≤ i → length (take n xs) ≤ i
     beyond high = omega (arith, length-take n xs)
 
--- a head that says of a body what is so is the head of that body
-pub head_is_of : (head body : List ℕ) → IsHead head → ((i : ℕ) → get_or head i 0 < 256) → length body ≡ length_in head
-    → digest_of body ≡ digest_in head → head ≡ head_of body
-head_is_of head body is bytes long same =
+number_again : (v n : ℕ) → v / 2 ^ 56 ≡ form → n ≡ v % 2 ^ 56 → form * 2 ^ 56 + n ≡ v
+number_again v n is_form is_length = omega arith
+
+-- a head that says of a body what is so says what the head of that body says
+pub says_of : (chain : ℕ) (head body : List ℕ) → IsHead chain head → ((i : ℕ) → get_or head i 0 < 256)
+    → length body ≡ length_in head → digest_of body ≡ digest_in head → take 12 head ≡ described body
+unfolding described
+says_of chain head body is bytes long same =
     let whole = is.whole in
     let len : length (take 8 head) ≡ 8 = length-take-le 8 head (omega arith) in
-    let says : take 12 head ≡ described body =
     take-add 8 4 head ∙ ap₂ (λ (a b : List ℕ). a ++ b)
-    (sym (be_bytes_8 (take 8 head) (length body) len (front_bytes 8 head bytes) long)) (sym same) in
-    sym (take-append-drop 12 head) ∙ ap₂ (λ (a b : List ℕ). a ++ b) says (sym is.digest ∙ ap digest_of says)
+    (sym (be_bytes_8 (take 8 head) (number_of body) len (front_bytes 8 head bytes)
+    (number_again (from_be_bytes w64 (take 8 head)) (length body) is.has_form long))) (sym same)
+
+-- it is the head of that body
+pub head_is_of : (chain : ℕ) (head body : List ℕ) → IsHead chain head → ((i : ℕ) → get_or head i 0 < 256)
+    → length body ≡ length_in head → digest_of body ≡ digest_in head → head ≡ head_of chain body
+head_is_of chain head body is bytes long same =
+    let says = says_of chain head body is bytes long same in
+    sym (take-append-drop 12 head) ∙ ap₂ (λ (a b : List ℕ). a ++ b) says (sym is.digest ∙ ap (digest_behind chain) says)
 
 -- ---- the bytes of a head, one by one
 
@@ -102,29 +139,78 @@ four (a ∷ []) is = absurd (omega arith)
 four (a ∷ b ∷ []) is = absurd (omega arith)
 four (a ∷ b ∷ c ∷ []) is = absurd (omega arith)
 
-pub assembled : (body length_bytes digest own : List ℕ) → length_bytes ≡ to_be_bytes w64 (length body) → digest ≡ digest_of body
-    → own ≡ digest_of (first_eight length_bytes ++ first_four digest)
-    → first_eight length_bytes ++ (first_four digest ++ first_four own) ≡ head_of body
-assembled body length_bytes digest own is_length is_digest is_own =
-    let long : first_eight length_bytes ≡ to_be_bytes w64 (length body) =
-    sym (written_out length_bytes (ap length is_length ∙ eight (length body))) ∙ is_length in
-    let short : first_four digest ≡ digest_of body = four digest (ap length is_digest ∙ length-digest body) ∙ is_digest in
-    let says : first_eight length_bytes ++ first_four digest ≡ described body = ap₂ (λ (a b : List ℕ). a ++ b) long short in
-    let last : first_four own ≡ digest_of (described body) =
-    four own (ap length is_own ∙ length-digest (first_eight length_bytes ++ first_four digest)) ∙ is_own ∙ ap digest_of says in
-    ap₂ (λ (a b : List ℕ). a ++ b) says last
+abbrev pub first_twelve : List ℕ → List ℕ
+first_twelve xs = get_or xs 0 0 ∷ get_or xs 1 0 ∷ get_or xs 2 0 ∷ get_or xs 3 0 ∷ get_or xs 4 0 ∷ get_or xs 5 0 ∷ get_or xs 6 0
+    ∷ get_or xs 7 0 ∷ get_or xs 8 0 ∷ get_or xs 9 0 ∷ get_or xs 10 0 ∷ get_or xs 11 0 ∷ []
+
+twelve : (xs : List ℕ) → length xs ≡ 12 → first_twelve xs ≡ xs
+twelve (a ∷ b ∷ c ∷ d ∷ e ∷ f ∷ g ∷ h ∷ xs) is =
+    ap (λ (t : List ℕ). a ∷ b ∷ c ∷ d ∷ e ∷ f ∷ g ∷ h ∷ t) (four xs (omega arith))
+twelve [] is = absurd (omega arith)
+twelve (a ∷ []) is = absurd (omega arith)
+twelve (a ∷ b ∷ []) is = absurd (omega arith)
+twelve (a ∷ b ∷ c ∷ []) is = absurd (omega arith)
+twelve (a ∷ b ∷ c ∷ d ∷ []) is = absurd (omega arith)
+twelve (a ∷ b ∷ c ∷ d ∷ e ∷ []) is = absurd (omega arith)
+twelve (a ∷ b ∷ c ∷ d ∷ e ∷ f ∷ []) is = absurd (omega arith)
+twelve (a ∷ b ∷ c ∷ d ∷ e ∷ f ∷ g ∷ []) is = absurd (omega arith)
+
+-- the bytes that describe a body
+pub described_is : (body number digest : List ℕ) → number ≡ to_be_bytes w64 (number_of body) → digest ≡ digest_of body
+    → first_eight number ++ first_four digest ≡ described body
+unfolding described
+described_is body number digest is_number is_digest =
+    ap₂ (λ (a b : List ℕ). a ++ b)
+    (sym (written_out number (ap length is_number ∙ eight (number_of body))) ∙ is_number)
+    (four digest (ap length is_digest ∙ length-digest body) ∙ is_digest)
+
+-- the bytes of a head, of what it says and of its digest
+pub assembled : (chain : ℕ) (says digest : List ℕ) → length says ≡ 12 → digest ≡ digest_behind chain says
+    → first_twelve says ++ first_four digest ≡ says ++ digest_behind chain says
+assembled chain says digest whole is =
+    ap₂ (λ (a b : List ℕ). a ++ b) (twelve says whole) (four digest (ap length is ∙ length-digest_behind chain says) ∙ is)
 
 -- ---- the test of a head's own digest
 
 tail_of : (head tail : List ℕ) → length head ≡ 16 → tail ≡ take 4 (drop 12 head) → tail ≡ drop 12 head
 tail_of head tail whole is = is ∙ take_all 4 (drop 12 head) (omega (arith, length-drop 12 head))
 
-pub is_head : (head digest tail : List ℕ) (test : Bool) → length head ≡ 16 → digest ≡ digest_of (take 12 head)
-    → tail ≡ take 4 (drop 12 head) → test ≡ bytes_eq digest tail → test ≡ true → IsHead head
-is_head head digest tail test whole computed is tested right =
-    record { whole = whole; digest = sym computed ∙ (bytes_eq-Decides digest tail).0 (sym tested ∙ right) ∙ tail_of head tail whole is }
+-- the digest that was computed is that of the last bytes
+right : (head digest wanted tail : List ℕ) (test : Bool) → length head ≡ 16 → digest ≡ wanted
+    → tail ≡ take 4 (drop 12 head) → test ≡ bytes_eq digest tail → test ≡ true → wanted ≡ drop 12 head
+right head digest wanted tail test whole computed is tested holds =
+    sym computed ∙ (bytes_eq-Decides digest tail).0 (sym tested ∙ holds) ∙ tail_of head tail whole is
 
-pub is_no_head : (head digest tail : List ℕ) (test : Bool) → length head ≡ 16 → digest ≡ digest_of (take 12 head)
-    → tail ≡ take 4 (drop 12 head) → test ≡ bytes_eq digest tail → test ≡ false → IsHead head → ⊥
-is_no_head head digest tail test whole computed is tested wrong head_is =
-    true≢false (sym ((bytes_eq-Decides digest tail).1 (computed ∙ head_is.digest ∙ sym (tail_of head tail whole is))) ∙ sym tested ∙ wrong)
+-- it is another one
+wrong : (head digest wanted tail : List ℕ) (test : Bool) → length head ≡ 16 → digest ≡ wanted
+    → tail ≡ take 4 (drop 12 head) → test ≡ bytes_eq digest tail → test ≡ false → wanted ≡ drop 12 head → ⊥
+wrong head digest wanted tail test whole computed is tested fails same =
+    true≢false (sym ((bytes_eq-Decides digest tail).1 (computed ∙ same ∙ sym (tail_of head tail whole is))) ∙ sym tested ∙ fails)
+
+pub is_head : (chain : ℕ) (head digest tail : List ℕ) (test : Bool) → length head ≡ 16 → form_in head ≡ form
+    → digest ≡ digest_behind chain (take 12 head) → tail ≡ take 4 (drop 12 head) → test ≡ bytes_eq digest tail → test ≡ true
+    → IsHead chain head
+is_head chain head digest tail test whole has computed is tested holds = record {
+  whole = whole;
+  has_form = has;
+  digest = right head digest (digest_behind chain (take 12 head)) tail test whole computed is tested holds;
+}
+
+pub is_no_head : (chain : ℕ) (head digest tail : List ℕ) (test : Bool) → length head ≡ 16
+    → digest ≡ digest_behind chain (take 12 head) → tail ≡ take 4 (drop 12 head) → test ≡ bytes_eq digest tail → test ≡ false
+    → IsHead chain head → ⊥
+is_no_head chain head digest tail test whole computed is tested fails head_is =
+    wrong head digest (digest_behind chain (take 12 head)) tail test whole computed is tested fails head_is.digest
+
+pub is_old : (head digest tail : List ℕ) (test : Bool) → length head ≡ 16 → form_in head ≡ 0 → digest ≡ digest_of (take 12 head)
+    → tail ≡ take 4 (drop 12 head) → test ≡ bytes_eq digest tail → test ≡ true → IsOldHead head
+is_old head digest tail test whole has computed is tested holds = record {
+  whole = whole;
+  has_form = has;
+  digest = right head digest (digest_of (take 12 head)) tail test whole computed is tested holds;
+}
+
+pub old_is_tested : (head digest tail : List ℕ) (test : Bool) → length head ≡ 16 → digest ≡ digest_of (take 12 head)
+    → tail ≡ take 4 (drop 12 head) → test ≡ bytes_eq digest tail → IsOldHead head → test ≡ true
+old_is_tested head digest tail test whole computed is tested old =
+    tested ∙ (bytes_eq-Decides digest tail).1 (computed ∙ old.digest ∙ sym (tail_of head tail whole is))

@@ -1,6 +1,7 @@
 pub mod CutEntryLemmas
 pub mod EntryLemmas
 pub mod HeadLemmas
+pub mod MovedLemmas
 pub mod ReadEntryLemmas
 pub mod ShiftLemmas
 pub mod StateLemmas

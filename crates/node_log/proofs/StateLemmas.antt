@@ -77,17 +77,17 @@ eight s s1 s2 s3 a b c d e f g h is1 is2 is3 is4 =
 
 -- ---- a changed byte
 
-by_bytes_zero : (n s : ℕ) → s < 2 ^ 32 → by_bytes n s ≡ 0 → s ≡ 0
+pub by_bytes_zero : (n s : ℕ) → s < 2 ^ 32 → by_bytes n s ≡ 0 → s ≡ 0
 by_bytes_zero zero s h e = e
 by_bytes_zero (suc n) s h e =
     shifted_by_zero 8 s h (by_bytes_zero n (shifted_by 8 s) (shifted_by_lt 8 s h) e)
 
 -- two sums with one term in common are equal only if the others are
-same_terms : (a b c : ℕ) → bit_xor a c ≡ bit_xor b c → a ≡ b
+pub same_terms : (a b c : ℕ) → bit_xor a c ≡ bit_xor b c → a ≡ b
 same_terms a b c e =
     sym (xor_cancel c a) ∙ ap (bit_xor c) (xor_comm c a ∙ e ∙ xor_comm b c) ∙ xor_cancel c b
 
-added_is_zero : (a b : ℕ) → a ≡ bit_xor a b → b ≡ 0
+pub added_is_zero : (a b : ℕ) → a ≡ bit_xor a b → b ≡ 0
 added_is_zero a b e = sym (xor_cancel a b) ∙ ap (bit_xor a) (sym e) ∙ xor_self a
 
 after_other : (s old new : ℕ) → after_byte s new ≡ bit_xor (after_byte s old) (shifted_by 8 (bit_xor old new))

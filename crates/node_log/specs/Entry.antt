@@ -1,8 +1,8 @@
 -- The contracts that docs/trusted.md lists do not depend on this file; other contracts and proofs do.
 -- Entries of a log, and the bytes of each: a head of 16 bytes, and a body.
-use Rattle.std.specs.Prelude.{◌≡◌, ◌++◌, ℕ, List, length, take, drop, ⊤}
+use Rattle.std.specs.Prelude.{◌≡◌, ◌+◌, ◌*◌, ◌/◌, ◌%◌, ◌^◌, ◌++◌, ℕ, List, [], ◌∷◌, length, take, drop, bit_xor, ⊤}
 use Rattle.std.specs.Int.{w32, w64, to_be_bytes, from_be_bytes}
-use Rattle.node_log.specs.Crc32c.{crc32c}
+use Rattle.node_log.specs.Crc32c.{crc32c, after_bytes, all_bits}
 use Rattle.frames.specs.Frame.{IsFrame, IsNoFrame, frame_bytes}
 use Rattle.frames.specs.declared.error.FrameError.{FrameError}
 use Rattle.frames.specs.declared.error.FrameError.TheVariants as errors
@@ -11,30 +11,63 @@ use Rattle.frames.specs.declared.error.FrameError.TheVariants as errors
 unfoldable pub digest_of : List ℕ → List ℕ
 digest_of bytes = to_be_bytes w32 (crc32c bytes)
 
--- what a head says of a body: its length, as eight bytes, high byte first, and its digest
-abbrev pub described : List ℕ → List ℕ
-described body = to_be_bytes w64 (length body) ++ digest_of body
+-- the same where the check goes on from a state, in place of beginning
+unfoldable pub digest_behind : ℕ → List ℕ → List ℕ
+digest_behind state bytes = to_be_bytes w32 (bit_xor (after_bytes state bytes) all_bits)
 
--- the head of a body: what it says of the body, and the digest of that
-abbrev pub head_of : List ℕ → List ℕ
-head_of body = described body ++ digest_of (described body)
+-- the form of entries, which is the first byte of each head; entries of the form before begin with 0
+abbrev pub form : ℕ
+form = 2
+
+-- what a head says of a body: the form and the length, as eight bytes, high byte first, and the digest
+unfoldable pub described : List ℕ → List ℕ
+described body = to_be_bytes w64 (form * 2 ^ 56 + length body) ++ digest_of body
+
+-- the chain at the beginning of a log: the state with which the check begins
+abbrev pub first_chain : ℕ
+first_chain = all_bits
+
+-- the chain after an entry: the state of the check after what the heads say of all bodies so far
+unfoldable pub chain_after : ℕ → List (List ℕ) → ℕ
+chain_after chain strings = after_bytes chain (described (frame_bytes strings))
+
+-- the same after some entries
+abbrev pub chain_behind : ℕ → List (List (List ℕ)) → ℕ
+chain_behind chain [] = chain
+chain_behind chain (entry ∷ entries) = chain_behind (chain_after chain entry) entries
+
+-- the head of a body: what it says of the body, and the digest of what all heads say up to this one
+abbrev pub head_of : ℕ → List ℕ → List ℕ
+head_of chain body = described body ++ digest_behind chain (described body)
 
 -- the bytes of an entry: the head of its body, and the body, which is the frame of its strings
-abbrev pub log_entry_bytes : List (List ℕ) → List ℕ
-log_entry_bytes strings = head_of (frame_bytes strings) ++ frame_bytes strings
+abbrev pub log_entry_bytes : ℕ → List (List ℕ) → List ℕ
+log_entry_bytes chain strings = head_of chain (frame_bytes strings) ++ frame_bytes strings
 
--- these are the bytes of a head: there are 16, and the last four are the digest of the others
-pub record IsHead (head : List ℕ) : Type 0 where
-  pub whole : length head ≡ 16
-  pub digest : digest_of (take 12 head) ≡ drop 12 head
+-- the form, as a head says
+abbrev pub form_in : List ℕ → ℕ
+form_in head = from_be_bytes w64 (take 8 head) / 2 ^ 56
 
 -- the length of the body, as a head says
 abbrev pub length_in : List ℕ → ℕ
-length_in head = from_be_bytes w64 (take 8 head)
+length_in head = from_be_bytes w64 (take 8 head) % 2 ^ 56
 
 -- the digest of the body, as a head says
 abbrev pub digest_in : List ℕ → List ℕ
 digest_in head = take 4 (drop 8 head)
+
+-- these are the bytes of a head behind this chain: there are 16, they are of this form, and the last four are the
+-- digest of the others, which goes on from the chain
+pub record IsHead (chain : ℕ) (head : List ℕ) : Type 0 where
+  pub whole : length head ≡ 16
+  pub has_form : form_in head ≡ form
+  pub digest : digest_behind chain (take 12 head) ≡ drop 12 head
+
+-- these are the bytes of a head of the form before, which began with a zero and whose digest began anew
+pub record IsOldHead (head : List ℕ) : Type 0 where
+  pub whole : length head ≡ 16
+  pub has_form : form_in head ≡ 0
+  pub digest : digest_of (take 12 head) ≡ drop 12 head
 
 -- strings become an entry exactly if they are those of a frame
 abbrev pub IsEntry : List (List ℕ) → Type 0

@@ -9,11 +9,11 @@ use Rattle.node_log.specs.declared.error.Damage.TheVariants.{WrongHead, WrongDig
 use Rattle.node_log.specs.declared.error.LogError.{LogError}
 use Rattle.node_log.specs.declared.error.LogError.TheVariants as errors
 
--- the body is the frame of these strings, and has this head
-pub record IsBodyOf (head body : List ℕ) (strings : List (List ℕ)) : Type 0 where
+-- the body is the frame of these strings, and has this head behind this chain
+pub record IsBodyOf (chain : ℕ) (head body : List ℕ) (strings : List (List ℕ)) : Type 0 where
   pub lawful : IsFrame strings
   pub is_frame : body ≡ frame_bytes strings
-  pub is_head : head ≡ head_of body
+  pub is_head : head ≡ head_of chain body
 
 -- the body behind this head is damaged in this way
 abbrev pub IsDamagedBody : List ℕ → List ℕ → Damage → Type 0
@@ -26,6 +26,12 @@ abbrev pub IsNoBodyFor : List ℕ → List ℕ → LogError → Type 0
 IsNoBodyFor head body (errors.Damaged damage) = IsDamagedBody head body damage
 IsNoBodyFor head body errors.NoMemory = ⊤
 IsNoBodyFor head body (errors.Failed error) = ⊤
+
+-- why bytes cannot be read: memory is refused, or the reader fails
+abbrev pub IsUnread : LogError → Type 0
+IsUnread (errors.Damaged damage) = ⊥
+IsUnread errors.NoMemory = ⊤
+IsUnread (errors.Failed error) = ⊤
 
 -- why bytes give no frame
 abbrev pub IsNoFrameFor : List ℕ → LogError → Type 0

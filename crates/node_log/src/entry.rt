@@ -1,31 +1,31 @@
 //! One entry of a log.
 ghost use Rattle.std.specs.Prelude.{◌≡◌, MatchResult, OnOk, length};
 ghost use Rattle.frames.specs.Frame.{IsFrame, frame_bytes};
-ghost use Rattle.node_log.specs.Entry.{head_of, log_entry_bytes, sealed, IsEntry, IsNoEntry};
+ghost use Rattle.node_log.specs.Entry.{described, sealed, IsEntry, IsNoEntry};
 
-use crate::head::{HEAD_LENGTH, head_of};
+use crate::head::{SAYS_LENGTH, described};
 use bytes::Bytes;
 use frames::{Frame, FrameError, write_frame};
 use std::alloc::Global;
 use std::marker::Model;
 
-/// Strings, and the head that stands before their frame in a log.
+/// Strings, and what the head says of their frame that stands before it in a log.
 #[derive(Debug, Drop)]
 pub struct Entry {
-    head: [u8; HEAD_LENGTH],
+    says: [u8; SAYS_LENGTH],
     frame: Frame,
 }
 
 impl Model for Entry {
     ghost use Rattle.std.specs.Prelude.{◌≡◌, ℕ, List};
     ghost use Rattle.frames.specs.Frame.{frame_bytes};
-    ghost use Rattle.node_log.specs.Entry.{head_of};
+    ghost use Rattle.node_log.specs.Entry.{described};
 
     ghost Value = { List (List ℕ) };
 
     ghost view = { λ entry. entry.frame };
 
-    ghost invariant = { λ entry. entry.head ≡ head_of (frame_bytes entry.frame) };
+    ghost invariant = { λ entry. entry.says ≡ described (frame_bytes entry.frame) };
 }
 
 impl Entry {
@@ -40,26 +40,26 @@ impl Entry {
         let mut body = Vec::new(alloc);
         match write_frame(&mut body, &frame) {
             Ok(()) => Ok(Entry {
-                head: head_of(&body),
+                says: described(&body),
                 frame,
             }),
             Err(_) => Err(FrameError::NoMemory),
         }
     }
 
-    /// The entry of a frame whose head is known.
-    pub(crate) fn of(head: [u8; HEAD_LENGTH], frame: Frame) -> Entry
-        requires { head ≡ head_of (frame_bytes frame) }
+    /// The entry of a frame of which it is known what its head says.
+    pub(crate) fn of(says: [u8; SAYS_LENGTH], frame: Frame) -> Entry
+        requires { says ≡ described (frame_bytes frame) }
         ensures { result ≡ frame }
     {
-        Entry { head, frame }
+        Entry { says, frame }
     }
 
-    /// What stands before the frame in a log.
-    pub(crate) fn head(&self) -> &[u8; HEAD_LENGTH]
-        ensures { result.now ≡ head_of (frame_bytes self.now) }
+    /// What the head says of the frame.
+    pub(crate) fn says(&self) -> &[u8; SAYS_LENGTH]
+        ensures { result.now ≡ described (frame_bytes self.now) }
     {
-        &self.head
+        &self.says
     }
 
     /// The strings as a frame.

@@ -6,8 +6,9 @@ use thiserror::Error;
 /// What is wrong with the bytes in an entry's place.
 #[derive(Clone, Copy, Debug, PartialEq, Eq, Error)]
 pub enum Damage {
-    /// The digest of the entry's head is wrong, so nobody knows where the entry ends.
-    #[error("wrong head")]
+    /// The digest of the entry's head is wrong, so nobody knows where the entry ends; or the entry does not belong
+    /// behind the one before it.
+    #[error("wrong head, or an entry that is not in its place")]
     WrongHead,
     /// The digest of the entry's body is wrong.
     #[error("wrong digest")]

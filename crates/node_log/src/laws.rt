@@ -1,5 +1,5 @@
 //! What holds for every entry.
-ghost use Rattle.node_log.specs.Laws.{EntryIsRead, CutIsEnd, BeginsOneEntry};
+ghost use Rattle.node_log.specs.Laws.{EntryIsRead, CutIsEnd, BeginsOneEntry, MovedIsDamaged};
 
 use frames::frames_are_read_back;
 
@@ -12,3 +12,8 @@ pub fn entries_are_read_back()
 {
     frames_are_read_back();
 }
+
+/// A law: an entry that was written behind another chain than the one behind which it stands is damage.
+pub fn moved_entries_are_noticed()
+    ensures { MovedIsDamaged }
+{}

@@ -6,42 +6,51 @@ ghost use Rattle.node_log.specs.Entry.{IsHead, length_in, log_entry_bytes};
 ghost use Rattle.node_log.specs.Reading.{ReadsEntry, ReadsThis};
 ghost use Rattle.node_log.specs.Parts.{IsBodyOf, IsNoBodyFor, IsNoFrameFor, EndsOrIsDamaged};
 
+use crate::chain::Chain;
 use crate::entry::Entry;
 use crate::error::{Damage, LogError};
-use crate::head::{HEAD_LENGTH, has_digest, length_in};
-use crate::input::{are_zeros, has_only_zeros};
+use crate::head::{HEAD_LENGTH, has_digest, length_in, said_in};
+use crate::input::{are_zeros, has_only_zeros, read_up_to};
 use frames::{Frame, FrameError, read_frame, read_full};
 use std::alloc::Global;
 use std::io::Read;
 
-/// The next entry, or none where the log ends: before the entry's first byte, or within the entry. An entry is cut
-/// short where its node stopped while it wrote it; nothing that depends on such an entry was sent. A file system may
-/// leave zeros in place of the bytes that are missing.
+/// The next entry behind a chain, or none where the log ends: before the entry's first byte, or within the entry. An
+/// entry is cut short where its node stopped while it wrote it; nothing that depends on such an entry was sent. A file
+/// system may leave zeros in place of the bytes that are missing.
 ///
 /// `Damaged` says what is wrong with any other bytes. It takes no byte behind an entry that it returns. In each other
 /// case the reader may have lost bytes.
-pub fn read_entry<R: Read>(alloc: Global, reader: &mut R) -> Result<Option<Entry>, LogError>
+pub fn read_entry<R: Read>(
+    alloc: Global,
+    reader: &mut R,
+    chain: Chain,
+) -> Result<Option<Entry>, LogError>
     // What is read stood at the front, and nothing else is taken; where nothing is read, which bytes stood there.
-    ensures read { ReadsEntry (R.remaining reader.old) (R.remaining reader.new) result }
+    ensures read { ReadsEntry chain.state (R.remaining reader.old) (R.remaining reader.new) result }
     // An entry that stands at the front is read, unless memory is refused or the reader fails.
     ensures only { (strings : List (List ℕ)) (rest : List ℕ) → IsFrame strings
-        → R.remaining reader.old ≡ Some (log_entry_bytes strings ++ rest)
+        → R.remaining reader.old ≡ Some (log_entry_bytes chain.state strings ++ rest)
         → ReadsThis strings rest (R.remaining reader.new) result }
 {
-    read_next(alloc, reader)
+    read_next(alloc, reader, chain)
 }
 
 // The same, by its first clause.
-fn read_next<R: Read>(alloc: Global, reader: &mut R) -> Result<Option<Entry>, LogError>
-    ensures { ReadsEntry (R.remaining reader.old) (R.remaining reader.new) result }
+fn read_next<R: Read>(
+    alloc: Global,
+    reader: &mut R,
+    chain: Chain,
+) -> Result<Option<Entry>, LogError>
+    ensures { ReadsEntry chain.state (R.remaining reader.old) (R.remaining reader.new) result }
 {
     let mut head = [0; HEAD_LENGTH];
     let count = read_full(reader, &mut head)?;
     if count < HEAD_LENGTH {
         return Ok(None);
     }
-    match length_in(&head) {
-        Some(length) => read_body(alloc, reader, &head, length),
+    match length_in(chain, &head) {
+        Some(length) => read_body(alloc, reader, chain, &head, length),
         None => end_or_damage(reader, &head, Damage::WrongHead),
     }
 }
@@ -50,19 +59,19 @@ fn read_next<R: Read>(alloc: Global, reader: &mut R) -> Result<Option<Entry>, Lo
 fn read_body<R: Read>(
     alloc: Global,
     reader: &mut R,
+    chain: Chain,
     head: &[u8; HEAD_LENGTH],
     length: u64,
 ) -> Result<Option<Entry>, LogError>
-    requires head { IsHead head.now }
+    requires head { IsHead chain.state head.now }
     requires length { length ≡ length_in head.now }
-    ensures { ReadsEntry (prepend_known head.now (R.remaining reader.old)) (R.remaining reader.new) result }
+    ensures { ReadsEntry chain.state (prepend_known head.now (R.remaining reader.old)) (R.remaining reader.new) result }
 {
-    let mut body = vec![in alloc; 0; length as usize]?;
-    let count = read_full(reader, &mut body)?;
-    if count < body.len() {
+    let body = read_up_to(alloc, reader, length)?;
+    if (body.len() as u64) < length {
         return Ok(None);
     }
-    match entry_of(alloc, head, &body) {
+    match entry_of(alloc, chain, head, &body) {
         Ok(entry) => Ok(Some(entry)),
         Err(LogError::Damaged(damage)) => end_or_damage(reader, &body, damage),
         Err(error) => Err(error),
@@ -70,16 +79,21 @@ fn read_body<R: Read>(
 }
 
 // The entry of a head and a whole body.
-fn entry_of(alloc: Global, head: &[u8; HEAD_LENGTH], body: &[u8]) -> Result<Entry, LogError>
-    requires head { IsHead head.now }
+fn entry_of(
+    alloc: Global,
+    chain: Chain,
+    head: &[u8; HEAD_LENGTH],
+    body: &[u8],
+) -> Result<Entry, LogError>
+    requires head { IsHead chain.state head.now }
     requires length { length body.now ≡ length_in head.now }
-    ensures { MatchResult result (IsBodyOf head.now body.now) (IsNoBodyFor head.now body.now) }
+    ensures { MatchResult result (IsBodyOf chain.state head.now body.now) (IsNoBodyFor head.now body.now) }
 {
     if !has_digest(head, body) {
         return Err(LogError::Damaged(Damage::WrongDigest));
     }
     let frame = frame_of(alloc, body)?;
-    Ok(Entry::of(*head, frame))
+    Ok(Entry::of(said_in(head), frame))
 }
 
 // The frame that the bytes are, with nothing behind it.

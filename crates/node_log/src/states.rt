@@ -12,8 +12,8 @@ pub fn checksum(bytes: &[u8]) -> u32
     after_bytes(u32::MAX, bytes) ^ u32::MAX
 }
 
-// The state after bytes.
-fn after_bytes(state: u32, bytes: &[u8]) -> u32
+/// The state after bytes.
+pub(crate) fn after_bytes(state: u32, bytes: &[u8]) -> u32
     ensures { result ≡ after_bytes state bytes.now }
 {
     let mut state = state;

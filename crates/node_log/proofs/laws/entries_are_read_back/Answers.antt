@@ -3,7 +3,7 @@ use Rattle.node_log.proofs.CutEntryLemmas.{cut_entry, no_end}
 use Rattle.node_log.proofs.laws.entries_are_read_back.Goals as goal
 
 pub returns-clause-written : goal.returns-clause-written
-returns-clause-written c strings rest lawful = (no_end strings rest lawful, not_damaged strings rest lawful)
+returns-clause-written c chain strings rest lawful = (no_end chain strings rest lawful, not_damaged chain strings rest lawful)
 
 pub returns-clause-cut : goal.returns-clause-cut
 returns-clause-cut c = cut_entry
