@@ -15,7 +15,7 @@ use Rattle.call.specs.Limits.{is_within_limits}
 use Rattle.call.specs.Next.{is_unsettled, leads_back, leads_to}
 use Rattle.network.specs.Events.{IsLacking, IsReady}
 use Rattle.local_object.specs.Codes.{at_node}
-use Rattle.local_object.specs.Going.{next_here, unless_unsettled}
+use Rattle.local_object.specs.Going.{next_here, unless_again, unless_unsettled}
 
 -- the phase that is due does not depend on where a first reading begins
 pub due_begun : (s : Stage) → due (begun_at s 0) ≡ due s
@@ -154,6 +154,32 @@ module _ (call : Machine) where
       go true true hx true hu false d hd e = absurd (cc)
       go true true hx false hu l None hd e = record { complete = hx; due = hd; settling = hu }
       go true true hx false hu l (Some a) hd e = absurd (cc)
+
+-- what a call does next, if it begins anew only if it may
+
+pub again_restart : (again : Bool) (n : Step) (k : Kind) (p : ℕ) → unless_again again n ≡ next.Restart k p → n ≡ next.Restart k p
+again_restart again next.Wait k p e = absurd (cc)
+again_restart again next.Settle k p e = absurd (cc)
+again_restart true (next.Restart kind position) k p e = e
+again_restart false (next.Restart kind position) k p e = absurd (cc)
+again_restart again (next.Begin kind position) k p e = absurd (cc)
+again_restart again next.Answer k p e = absurd (cc)
+
+pub again_begin : (again : Bool) (n : Step) (k : Kind) (p : ℕ) → unless_again again n ≡ next.Begin k p → n ≡ next.Begin k p
+again_begin again next.Wait k p e = absurd (cc)
+again_begin again next.Settle k p e = absurd (cc)
+again_begin true (next.Restart kind position) k p e = absurd (cc)
+again_begin false (next.Restart kind position) k p e = absurd (cc)
+again_begin again (next.Begin kind position) k p e = e
+again_begin again next.Answer k p e = absurd (cc)
+
+pub again_answer : (again : Bool) (n : Step) → unless_again again n ≡ next.Answer → n ≡ next.Answer
+again_answer again next.Wait e = absurd (cc)
+again_answer again next.Settle e = absurd (cc)
+again_answer true (next.Restart kind position) e = absurd (cc)
+again_answer false (next.Restart kind position) e = absurd (cc)
+again_answer again (next.Begin kind position) e = absurd (cc)
+again_answer again next.Answer e = refl
 
 -- fetches
 

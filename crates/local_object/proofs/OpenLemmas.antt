@@ -21,7 +21,7 @@ use Rattle.local_object.specs.Coding.{is_sendable}
 use Rattle.local_object.specs.Distinct.{HaveOtherIds, HaveDistinctIds, IsCallAt}
 use Rattle.local_object.specs.Ended.{told_if, told_of}
 use Rattle.local_object.specs.Events.{LocalEvent, Outcome, advanced_at, advanced_here, done_here, on_open_call, silent}
-use Rattle.local_object.specs.Going.{IsAdvancedIf, IsAdvanced, IsFetchedValue, next_here, settled_here, taken_here}
+use Rattle.local_object.specs.Going.{IsAdvancedIf, IsAdvanced, IsFetchedValue, next_here, next_if, settled_here, taken_here}
 use Rattle.local_object.specs.Taking.{CanSettle, HasDoneBy, call_events, can_begin, lead_events, machine_of, step_events}
 use Rattle.call.specs.declared.next.Next.{Next as Step}
 use Rattle.local_object.specs.Local.{LocalObject, Place, layout_in, heard_place}
@@ -32,6 +32,7 @@ use Rattle.local_object.proofs.BeginLemmas.{open_found}
 use Rattle.local_object.proofs.CarriedCallLemmas.{open_none, same_call, with_set, without_at}
 use Rattle.local_object.proofs.DoneLemmas.{by_none, by_one}
 use Rattle.local_object.proofs.FetchedLemmas.{may_settle_here}
+use Rattle.local_object.proofs.NextLemmas.{again_answer, again_begin, again_restart}
 use Rattle.local_object.proofs.NextLemmas.{answer_of, begin_of, due_begun, lacking_of, ready_of, restart_of}
 use Rattle.local_object.proofs.NextLemmas.{settle_of}
 
@@ -90,12 +91,14 @@ module _ (node : ℕ) (delta : Option ℕ) (places : List Place) where
       named_is = ap (λ (m : Machine). m.id) (sym read_is) ∙ at.named
 
       -- the events by which the call goes on
-      pub lead_is : (step : Step) → next_here call ≡ step → lead_events (object calls) id ≡ step_events places call step
-      lead_is step e = ap (call_events places) open_is ∙ ap (step_events places call) e
+      pub lead_is : (again : Bool) (step : Step) → next_if again call ≡ step
+          → lead_events again (object calls) id ≡ step_events places call step
+      lead_is again step e = ap (call_events again places) open_is ∙ ap (step_events places call) e
 
-      pub lead_waits : (next_here call ≡ next.Wait) ⊎ (next_here call ≡ next.Settle) → lead_events (object calls) id ≡ []
-      lead_waits (inl e) = lead_is next.Wait e
-      lead_waits (inr e) = lead_is next.Settle e
+      pub lead_waits : (again : Bool) → (next_if again call ≡ next.Wait) ⊎ (next_if again call ≡ next.Settle)
+          → lead_events again (object calls) id ≡ []
+      lead_waits again (inl e) = lead_is again next.Wait e
+      lead_waits again (inr e) = lead_is again next.Settle e
 
       pub can_settle : (value : List ℕ) → next_here call ≡ next.Settle → IsFetchedValue places call value
           → CanSettle (object calls) id value
@@ -136,13 +139,13 @@ module _ (node : ℕ) (delta : Option ℕ) (places : List Place) where
             → letters_again fragment (object calls) id ≡ missing_letters places call layout
         sent_again is = sent_if true is
 
-      pub answered_by : (new : List Machine) (letters : List Letter) (ended : List Ended) → next_here call ≡ next.Answer
-          → new ≡ remove calls index → letters ≡ [] → ended ≡ told_of (at_node node call) ∷ []
-          → HasDoneBy (object calls) (lead_events (object calls) id) (object new) letters ended
-      answered_by new letters ended step rest none tells =
-          let is = answer_of call step in
+      pub answered_by : (again : Bool) (new : List Machine) (letters : List Letter) (ended : List Ended)
+          → next_if again call ≡ next.Answer → new ≡ remove calls index → letters ≡ [] → ended ≡ told_of (at_node node call) ∷ []
+          → HasDoneBy (object calls) (lead_events again (object calls) id) (object new) letters ended
+      answered_by again new letters ended step rest none tells =
+          let is = answer_of call (again_answer again (next_here call) step) in
           subst (λ events. HasDoneBy (object calls) events (object new) letters ended)
-          (ap (λ n. LocalEvent.Answer n ∷ []) (sym named_is) ∙ sym (lead_is next.Answer step))
+          (ap (λ n. LocalEvent.Answer n ∷ []) (sym named_is) ∙ sym (lead_is again next.Answer step))
           (by_one (object calls) (LocalEvent.Answer id) (object new) letters ended
           (at_node node call, open_is, ready_of node call None is, due_begun (reached call) ∙ is.due)
           (ap (λ (cs : List NodeCall). record (object calls) { calls = cs })
@@ -185,13 +188,14 @@ module _ (node : ℕ) (delta : Option ℕ) (places : List Place) where
         begun_if true adv advanced = advanced adv
         begun_if false same advanced = by_none (object calls) (object new) letters [] (ap object same.0) same.1 refl
 
-        pub advanced_by : (next_here call ≡ next.Restart kind position) ⊎ (next_here call ≡ next.Begin kind position)
+        pub advanced_by : (again : Bool)
+            → (next_if again call ≡ next.Restart kind position) ⊎ (next_if again call ≡ next.Begin kind position)
             → IsAdvancedIf (can_begin places call kind position) places calls call index kind position new letters
-            → HasDoneBy (object calls) (lead_events (object calls) id) (object new) letters []
-        advanced_by (inl step) advances =
-            let both = restart_of call kind position step in
+            → HasDoneBy (object calls) (lead_events again (object calls) id) (object new) letters []
+        advanced_by again (inl step) advances =
+            let both = restart_of call kind position (again_restart again (next_here call) kind position step) in
             subst (λ events. HasDoneBy (object calls) events (object new) letters [])
-            (sym (lead_is (next.Restart kind position) step))
+            (sym (lead_is again (next.Restart kind position) step))
             (begun_if (can_begin places call kind position) advances
             (λ adv. begun kind position both.0.due new letters adv (
               at_node node call,
@@ -199,10 +203,10 @@ module _ (node : ℕ) (delta : Option ℕ) (places : List Place) where
               inr (lacking_of node call both.1),
               known_next kind position both.0.due adv.layout adv.known,
             )))
-        advanced_by (inr step) advances =
-            let is = begin_of call kind position step in
+        advanced_by again (inr step) advances =
+            let is = begin_of call kind position (again_begin again (next_here call) kind position step) in
             subst (λ events. HasDoneBy (object calls) events (object new) letters [])
-            (sym (lead_is (next.Begin kind position) step))
+            (sym (lead_is again (next.Begin kind position) step))
             (begun_if (can_begin places call kind position) advances
             (λ adv. begun kind position is.due new letters adv (
               at_node node call,
@@ -211,8 +215,8 @@ module _ (node : ℕ) (delta : Option ℕ) (places : List Place) where
               known_next kind position is.due adv.layout adv.known,
             )))
 
-  pub lead_none : (calls : List Machine) (id : ℕ) → HaveOtherIds id calls → lead_events (object calls) id ≡ []
-  lead_none calls id others = ap (call_events places) (open_none node calls id others)
+  pub lead_none : (again : Bool) (calls : List Machine) (id : ℕ) → HaveOtherIds id calls → lead_events again (object calls) id ≡ []
+  lead_none again calls id others = ap (call_events again places) (open_none node calls id others)
 
   pub none_to_settle : (calls : List Machine) (id : ℕ) → HaveOtherIds id calls → (value : List ℕ) → CanSettle (object calls) id value → ⊥
   none_to_settle calls id others value can =

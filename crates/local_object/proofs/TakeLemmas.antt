@@ -1,6 +1,7 @@
 -- Replies that calls take.
 use Rattle.std.proofs.Common.{◌≡◌, ◌+◌, ◌^◌, ◌&&◌, Bool, true, false, cond, ltb, is_some, [], refl, sym, ap, ◌∙◌}
 use Rattle.bank.specs.declared.kind.Kind.{Kind}
+use Rattle.encoder.specs.Fragment.{fragment}
 use Rattle.bank.specs.declared.reply.Reply.{Reply}
 use Rattle.mail.specs.declared.message.Body.{Body}
 use Rattle.mail.specs.declared.message.Body.TheVariants as body
@@ -11,9 +12,9 @@ use Rattle.local_object.specs.declared.letter.Letter.{Letter}
 use Rattle.local_object.specs.declared.progress.Ended.{Ended}
 use Rattle.local_object.specs.Doing.{is_taken}
 use Rattle.mail.specs.Message.{is_request}
-use Rattle.local_object.specs.Events.{LocalEvent, learnt_from}
+use Rattle.local_object.specs.Events.{LocalEvent, all_done, learnt_from}
 use Rattle.local_object.specs.Going.{taken_here}
-use Rattle.local_object.specs.Taking.{AreSettling, HasDoneBy, IsTaken, SettlesFetched, lead_events}
+use Rattle.local_object.specs.Taking.{AreSettling, HasDoneBy, IsTaken, SettlesFetched, lead_events, repeats}
 use Rattle.local_object.specs.Local.{LocalObject}
 use Rattle.local_object.proofs.DoneLemmas.{by_none, by_one, by_then}
 use Rattle.local_object.proofs.OpenLemmas.{silent_sent}
@@ -55,21 +56,25 @@ taken_none old letter new letters ended taken same sent tells =
 
 -- what was done after a reply was taken
 module _ {old mid settled new : LocalObject} {letter : Letter} {letters : List Letter} {ended : List Ended}
-    (first : HasDoneBy old (LocalEvent.Take letter ∷ []) mid [] []) (second : SettlesFetched mid letter.message.call settled)
-    (third : HasDoneBy settled (lead_events settled letter.message.call) new letters ended) where
+    (again : Bool) (first : HasDoneBy old (LocalEvent.Take letter ∷ []) mid [] []) (second : SettlesFetched mid letter.message.call settled)
+    (third : HasDoneBy settled (lead_events again settled letter.message.call) new letters ended) where
   both : HasDoneBy old (LocalEvent.Take letter ∷ second.events) settled [] []
   both = by_then old mid settled (LocalEvent.Take letter ∷ []) second.events [] [] [] [] first second.done
 
-  pub all_by : HasDoneBy old (LocalEvent.Take letter ∷ second.events ++ lead_events settled letter.message.call) new letters ended
-  all_by = by_then old settled new (LocalEvent.Take letter ∷ second.events) (lead_events settled letter.message.call) [] letters [] ended
+  pub all_by : HasDoneBy old (LocalEvent.Take letter ∷ second.events ++ lead_events again settled letter.message.call) new letters ended
+  all_by = by_then old settled new (LocalEvent.Take letter ∷ second.events) (lead_events again settled letter.message.call) [] letters []
+      ended
       both third
 
-  pub goes_on : is_taken old letter ≡ true → IsTaken (is_taken old letter) old letter new letters ended
-  goes_on taken =
+  pub goes_on : is_taken old letter ≡ true → again ≡ repeats old letter → IsTaken (is_taken old letter) old letter new letters ended
+  goes_on taken repeated =
       subst (λ b. IsTaken b old letter new letters ended) (sym taken) (record {
         settling = second.events;
         settles = subst (λ (l : LocalObject). AreSettling l letter.message.call second.events) first.done.local second.settles;
-        leads = subst (λ (l : LocalObject). HasDoneBy old
-            (LocalEvent.Take letter ∷ second.events ++ lead_events l letter.message.call) new letters ended)
-            both.done.local all_by;
+        leads = subst (λ (b : Bool). HasDoneBy old
+            (LocalEvent.Take letter ∷ second.events ++ lead_events b (all_done fragment old
+            (LocalEvent.Take letter ∷ second.events)).local letter.message.call) new letters ended) repeated
+            (subst (λ (l : LocalObject). HasDoneBy old
+            (LocalEvent.Take letter ∷ second.events ++ lead_events again l letter.message.call) new letters ended)
+            both.done.local all_by);
       })

@@ -36,6 +36,20 @@ unless_unsettled call step = step
 abbrev pub next_here : Machine → Next
 next_here call = if is_within_limits call then unless_unsettled call (next_of call) else next.Wait
 
+-- whether a call that does this next begins anew, since its complete fetch lacks pieces
+abbrev pub is_restart : Next → Bool
+is_restart (next.Restart kind position) = true
+is_restart _ = false
+
+-- a call that would begin anew waits, unless `again` is true
+abbrev pub unless_again : (again : Bool) → Next → Next
+unless_again again (next.Restart kind position) = if again then next.Restart kind position else next.Wait
+unless_again again step = step
+
+-- what a call does next here, if it begins anew only if `again` is true
+abbrev pub next_if : (again : Bool) → Machine → Next
+next_if again call = unless_again again (next_here call)
+
 -- this holds, if the call does anything but wait
 abbrev pub UnlessWaiting : Next → Type 0 → Type 0
 UnlessWaiting next.Wait fact = Unit {0}

@@ -9,7 +9,7 @@ use Rattle.local_object.specs.Coding.{is_sendable}
 use Rattle.local_object.specs.Local.{LocalObject, layout_here}
 use Rattle.local_object.specs.Events.{phase_letters, pieces_here}
 use Rattle.local_object.specs.May.{IsCarriedOut}
-use Rattle.local_object.specs.Sent.{unanswered}
+use Rattle.local_object.specs.Sent.{due_again}
 use Rattle.local_object.specs.Taking.{machine_of}
 
 -- the letters of a call's current phase, at a position with this layout
@@ -30,12 +30,13 @@ pub record IsResent (fragment : Code) (local : LocalObject) (letter : Letter) : 
   pub at : slice_get (current_letters fragment local call layout) place ≡ Some letter
 
 -- the letters that a call sends again at a position with this layout: those of its current phase to the members whose
--- replies are not recorded; none where the layout is not known, or the call's value is too long to be encoded
+-- replies are not recorded, or to all members if the phase is a complete fetch that lacks pieces; none where the layout
+-- is not known, or the call's value is too long to be encoded
 abbrev pub letters_again_at : Code → LocalObject → NodeCall → Option Layout → List Letter
 letters_again_at fragment local call None = []
 letters_again_at fragment local call (Some layout) =
     if is_sendable call.phase.kind (machine_of call)
-    then unanswered call.phase.replies (current_letters fragment local call layout) else []
+    then due_again (machine_of call) (current_letters fragment local call layout) else []
 
 -- the same of a call, if it is open, at the position of its current phase
 abbrev pub letters_again_of : Code → LocalObject → Option NodeCall → List Letter

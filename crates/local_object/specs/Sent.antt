@@ -1,6 +1,6 @@
 -- The contracts that docs/trusted.md lists do not depend on this file; other contracts and proofs do.
 -- The letters of a call's current phase.
-use Rattle.std.specs.Prelude.{not, List, map, filter}
+use Rattle.std.specs.Prelude.{not, if◌then◌else◌, List, map, filter}
 use Rattle.encoder.specs.Fragment.{fragment}
 use Rattle.layout.specs.Layout.{Layout}
 use Rattle.mail.specs.Phase.{has_taken}
@@ -9,6 +9,7 @@ use Rattle.record.specs.Sending.{fragment_piece, requests}
 use Rattle.call.specs.Call.{OpenCall as Machine}
 use Rattle.local_object.specs.declared.letter.Letter.{Letter}
 use Rattle.local_object.specs.Coding.{call_value}
+use Rattle.local_object.specs.Going.{is_restart, next_here}
 use Rattle.local_object.specs.Letters.{letter_in}
 use Rattle.local_object.specs.Local.{Place}
 
@@ -23,6 +24,12 @@ sent_letters places call layout =
 abbrev pub unanswered : List Taken → List Letter → List Letter
 unanswered replies letters = filter (λ letter. not (has_taken replies letter.message.member)) letters
 
--- the letters of the current phase of a call, to those members of a layout whose replies are not recorded
+-- those of the letters that a call sends again: all of them if it is to begin anew, and otherwise those to members
+-- whose replies are not recorded
+abbrev pub due_again : Machine → List Letter → List Letter
+due_again call letters =
+    if is_restart (next_here call) then letters else unanswered call.phase.replies letters
+
+-- the letters of the current phase of a call that it sends again to members of a layout
 abbrev pub missing_letters : List Place → Machine → Layout → List Letter
-missing_letters places call layout = unanswered call.phase.replies (sent_letters places call layout)
+missing_letters places call layout = due_again call (sent_letters places call layout)

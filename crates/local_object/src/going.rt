@@ -10,7 +10,8 @@ ghost use Rattle.call.specs.Call.{OpenCall as Machine};
 ghost use Rattle.call.specs.Limits.{IsWithinLimits};
 ghost use Rattle.call.specs.Next.{is_unsettled};
 ghost use Rattle.local_object.specs.Coding.{is_sendable, call_value};
-ghost use Rattle.local_object.specs.Going.{IsAdvancedIf, IsFetchedValue, IsOnlyValue, UnlessWaiting, next_here};
+ghost use Rattle.local_object.specs.Going.{IsAdvancedIf, IsFetchedValue, IsOnlyValue, UnlessWaiting};
+ghost use Rattle.local_object.specs.Going.{is_restart, next_here, next_if};
 ghost use Rattle.local_object.specs.Taking.{can_begin};
 
 use crate::calls::Calls;
@@ -46,6 +47,33 @@ pub(crate) fn next_here(call: &Call) -> Next
             }
         }
         next => next,
+    }
+}
+
+/// What a call does next here, if it begins anew only if `again` is true, and waits otherwise.
+pub(crate) fn next_if(call: &Call, again: bool) -> Next
+    ensures next { result ≡ next_if again call.now }
+    ensures limits { UnlessWaiting result (IsWithinLimits call.now) }
+{
+    match next_here(call) {
+        Next::Restart(kind, position) => {
+            if again {
+                Next::Restart(kind, position)
+            } else {
+                Next::Wait
+            }
+        }
+        next => next,
+    }
+}
+
+/// Whether a call is to begin anew, since its complete fetch lacks pieces.
+pub(crate) fn begins_anew(call: &Call) -> bool
+    ensures { result ≡ is_restart (next_here call.now) }
+{
+    match next_here(call) {
+        Next::Restart(_, _) => true,
+        _ => false,
     }
 }
 

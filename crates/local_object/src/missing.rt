@@ -1,12 +1,12 @@
-//! The requests of a call's current phase whose replies are not recorded.
+//! The requests of a call's current phase that are sent again.
 
 ghost use Rattle.std.specs.Prelude.{◌≡◌, true, IfOk, IfErr};
 ghost use Rattle.tag.specs.declared.refusal.Refusal.TheVariants.{NoMemory};
 ghost use Rattle.local_object.specs.Coding.{is_sendable};
-ghost use Rattle.local_object.specs.Sent.{missing_letters};
+ghost use Rattle.local_object.specs.Sent.{missing_letters, unanswered};
 
 use crate::Letter;
-use crate::going::coded_requests;
+use crate::going::{begins_anew, coded_requests};
 use crate::letters::letters_of;
 use crate::places::Places;
 use call::Call;
@@ -15,7 +15,7 @@ use std::alloc::Global;
 use tag::Refusal;
 
 /// The requests of the call's current phase to the members of this layout whose replies are not recorded, in the order
-/// of the members.
+/// of the members. If the phase is a complete fetch that lacks pieces, they are those to all members.
 ///
 /// `NoMemory` is the only refusal.
 pub(crate) fn missing(
@@ -30,7 +30,17 @@ pub(crate) fn missing(
 {
     let messages = coded_requests(alloc, call.ask(), call, layout)?;
     let mut letters = letters_of(alloc, places, layout, messages)?;
+    if begins_anew(call) {
+        return Ok(letters);
+    }
+    keep_unanswered(&mut letters, call);
+    Ok(letters)
+}
+
+// Keeps those of the letters that go to members whose replies are not recorded.
+fn keep_unanswered(letters: &mut Vec<Letter>, call: &Call)
+    ensures { letters.new.items ≡ unanswered call.now.phase.replies letters.old.items }
+{
     let phase = call.phase();
     letters.retain(|letter| !phase.has_taken(letter.message.member));
-    Ok(letters)
 }

@@ -13,10 +13,10 @@ use Rattle.local_object.specs.declared.progress.Ended.{Ended}
 use Rattle.local_object.specs.Doing.{IsDone, give_up_events, gives_up, is_served, serve_events}
 use Rattle.local_object.specs.Ended.{all_told}
 use Rattle.local_object.specs.Events.{LocalEvent, all_done}
-use Rattle.local_object.specs.Going.{next_here}
+use Rattle.local_object.specs.Going.{next_if}
 use Rattle.local_object.specs.Local.{LocalObject, Place}
 use Rattle.local_object.specs.Taking.{AreSettling, HasDoneBy, IsTaken, call_events, can_begin}
-use Rattle.local_object.specs.Taking.{lead_events, machine_of, step_events}
+use Rattle.local_object.specs.Taking.{lead_events, machine_of, repeats, step_events}
 use Rattle.deeds.specs.Deeds.{Notice as Seen}
 use Rattle.deeds.specs.Ids.{IsLater}
 use Rattle.deeds.specs.May.{IsEventFed}
@@ -122,9 +122,10 @@ module _ (got : List Named) (name : List ℕ) where
       if_all (IsQuiet got name) (LocalEvent.Advance call.id) (can_begin places call kind position) (tt, refl, tt)
   step_quiet places call next.Answer = ((tt, refl, tt), tt)
 
-  call_quiet : (places : List Place) (call : Option NodeCall) → AllByRecursion (IsQuiet got name) (call_events places call)
-  call_quiet places None = tt
-  call_quiet places (Some call) = step_quiet places (machine_of call) (next_here (machine_of call))
+  call_quiet : (again : Bool) (places : List Place) (call : Option NodeCall) →
+      AllByRecursion (IsQuiet got name) (call_events again places call)
+  call_quiet again places None = tt
+  call_quiet again places (Some call) = step_quiet places (machine_of call) (next_if again (machine_of call))
 
   settle_quiet : (local : LocalObject) (id : ℕ) (events : List LocalEvent) → AreSettling local id events →
       AllByRecursion (IsQuiet got name) events
@@ -162,14 +163,15 @@ taken_quietly name letter false old local letters ended by =
 taken_quietly name letter true old local letters ended goes =
     let got : List Named = record { name = name; letter = letter } ∷ [] in
     let first = LocalEvent.Take letter ∷ goes.settling in
-    let last = lead_events (all_done fragment old first).local letter.message.call in
+    let again = repeats old letter in
+    let last = lead_events again (all_done fragment old first).local letter.message.call in
     by_quietly got name old local letters ended (first ++ last) goes.leads
     (all_append (IsQuiet got name) first last (
       ((0, refl), refl, tt),
       settle_quiet got name (all_done fragment old (LocalEvent.Take letter ∷ [])).local letter.message.call
           goes.settling goes.settles,
     )
-    (call_quiet got name (all_done fragment old first).local.places
+    (call_quiet got name again (all_done fragment old first).local.places
     (open_call (all_done fragment old first).local.calls letter.message.call)))
 
 -- Giving up

@@ -15,10 +15,10 @@ use Rattle.local_object.specs.Agreement.{knows_all_of}
 use Rattle.local_object.specs.Doing.{is_move_call, has_move_open, is_taken}
 use Rattle.mail.specs.Message.{is_request}
 use Rattle.local_object.specs.Events.{LocalEvent, advanced_at, advanced_here, all_done, done_here, learnt_from}
-use Rattle.local_object.specs.Going.{next_here}
+use Rattle.local_object.specs.Going.{next_if}
 use Rattle.local_object.specs.Local.{LocalObject, layout_here}
 use Rattle.local_object.specs.Taking.{AreSettling, GoesOn, IsTaken, begin_events, call_events, can_begin, lead_events, machine_of}
-use Rattle.local_object.specs.Taking.{step_events}
+use Rattle.local_object.specs.Taking.{repeats, step_events}
 use Rattle.refinement.specs.WellFormed.{NodeCallsDiffer}
 use Rattle.refinement.proofs.LearntPartLemmas.{calls_learnt}
 use Rattle.recoveries.proofs.KeptPlaceLemmas.{letter_alone}
@@ -68,24 +68,25 @@ module _ (moves : Type 0) (local copy : LocalObject) (is : IsObjectCopy moves lo
   client_steps (next.Begin kind position) = client_begins kind position
   client_steps next.Answer = client_ends moves local copy is call.id call own client
 
-  client_leads : IsObjectCopy moves (all_done fragment local (lead_events local id)).local copy
-  client_leads =
-      subst (λ o. IsObjectCopy moves (all_done fragment local (call_events local.places o)).local copy) (sym found)
-      (client_steps (next_here (machine_of call)))
+  client_leads : (anew : Bool) → IsObjectCopy moves (all_done fragment local (lead_events anew local id)).local copy
+  client_leads anew =
+      subst (λ o. IsObjectCopy moves (all_done fragment local (call_events anew local.places o)).local copy) (sym found)
+      (client_steps (next_if anew (machine_of call)))
 
-client_goes_on : (moves : Type 0) (local copy : LocalObject) → IsObjectCopy moves local copy → (id : ℕ) (call : NodeCall) →
+client_goes_on : (anew : Bool) (moves : Type 0) (local copy : LocalObject) → IsObjectCopy moves local copy → (id : ℕ) (call : NodeCall) →
     open_call local.calls id ≡ Some call → moves_call call ≡ false → (es : List LocalEvent) → AreSettling local id es →
-    IsObjectCopy moves (gone_on local id es) copy
-client_goes_on moves local copy is id call found client es (inl none) =
-    subst (λ es. IsObjectCopy moves (gone_on local id es) copy) (sym none.0) (client_leads moves local copy is id call found client)
-client_goes_on moves local copy is id call found client es (inr some) =
+    IsObjectCopy moves (gone_on anew local id es) copy
+client_goes_on anew moves local copy is id call found client es (inl none) =
+    subst (λ es. IsObjectCopy moves (gone_on anew local id es) copy) (sym none.0)
+    (client_leads moves local copy is id call found client anew)
+client_goes_on anew moves local copy is id call found client es (inr some) =
     let new : NodeCall = record call { settled = Some some.0 } in
-    subst (λ es. IsObjectCopy moves (gone_on local id es) copy) (sym some.2)
+    subst (λ es. IsObjectCopy moves (gone_on anew local id es) copy) (sym some.2)
     (client_leads moves (done_here fragment local (LocalEvent.Settle id some.0)).local copy
     (client_settles moves local copy is id call found client some.0) id new
     (ap (λ (l : LocalObject). open_call l.calls id) (settled_is fragment local id some.0 call found)
     ∙ found_new local.calls id call new found refl)
-    client)
+    client anew)
 
 module _ (moves : Type 0) (local copy : LocalObject) (is : IsObjectCopy moves local copy) (letter : Letter)
     (knows : moves → knows_all_of local letter ≡ true) where
@@ -112,7 +113,8 @@ module _ (moves : Type 0) (local copy : LocalObject) (is : IsObjectCopy moves lo
         IsObjectCopy moves new copy
     client_taken new sent ended taken =
         subst (λ l. IsObjectCopy moves l copy) (sym (taken_to local letter new sent ended taken))
-        (client_goes_on moves (done_here fragment local (LocalEvent.Take letter)).local copy client_took letter.message.call
+        (client_goes_on (repeats local letter) moves (done_here fragment local (LocalEvent.Take letter)).local copy client_took
+        letter.message.call
         (taking_open letter.message call)
         (ap (λ (l : LocalObject). open_call l.calls letter.message.call) (taken_is fragment local letter call found)
         ∙ found_new (learnt_from local letter).calls letter.message.call call (taking_open letter.message call) learnt_found refl)

@@ -7,7 +7,7 @@ use Rattle.local_object.specs.declared.progress.Ended.{Ended}
 use Rattle.local_object.specs.Doing.{is_taken, serve_events}
 use Rattle.local_object.specs.Events.{LocalEvent, all_done, done_here}
 use Rattle.local_object.specs.Local.{LocalObject}
-use Rattle.local_object.specs.Taking.{IsTaken}
+use Rattle.local_object.specs.Taking.{IsTaken, repeats}
 use Rattle.refinement.specs.Refined.{IsKeptHere}
 use Rattle.deeds.specs.Kept.{KeptNode, new_node}
 use Rattle.deeds.specs.Named.{is_same_name, with_named}
@@ -61,7 +61,7 @@ one_taken true local letter new other sent more ended told first second =
     let taken = (done_here fragment local (LocalEvent.Take letter)).local in
     let id = letter.message.call in
     taken_to local letter other more told second
-    ∙ ap (gone_on taken id)
+    ∙ ap (gone_on (repeats local letter) taken id)
     (same_settling taken taken id refl (λ q. refl) second.settling first.settling second.settles first.settles)
     ∙ sym (taken_to local letter new sent ended first)
 

@@ -17,11 +17,11 @@ use Rattle.local_object.specs.Coding.{is_sendable}
 use Rattle.local_object.specs.Doing.{is_move_call, has_move_open, is_taken}
 use Rattle.mail.specs.Message.{is_request}
 use Rattle.local_object.specs.Events.{LocalEvent, all_done, done_here, learnt_from}
-use Rattle.local_object.specs.Going.{IsFetchedValue, next_here}
+use Rattle.local_object.specs.Going.{IsFetchedValue, next_if}
 use Rattle.local_object.specs.Local.{LocalObject, Place, layout_here, layout_in, heard_place}
 use Rattle.local_object.specs.Pieces.{first_pieces}
-use Rattle.local_object.specs.Taking.{AreSettling, CanSettle, GoesOn, IsTaken, begin_events, call_events, can_begin, lead_events}
-use Rattle.local_object.specs.Taking.{machine_of, step_events}
+use Rattle.local_object.specs.Taking.{AreSettling, CanSettle, GoesOn, IsTaken, begin_events, call_events, can_begin, is_repeated}
+use Rattle.local_object.specs.Taking.{lead_events, machine_of, repeats, step_events}
 use Rattle.refinement.proofs.LearntPartLemmas.{calls_learnt}
 use Rattle.recoveries.proofs.KeptPlaceLemmas.{layouts_kept}
 use Rattle.recoveries.proofs.KeptCallLemmas.{IsObjectCopy, found_copy, found_id, found_moves, moves_call}
@@ -98,11 +98,11 @@ same_step a b heard call (next.Restart kind position) = same_begin a.places b.pl
 same_step a b heard call (next.Begin kind position) = same_begin a.places b.places call kind position (heard position)
 same_step a b heard call next.Answer = refl
 
-same_lead : (a b : LocalObject) (id : ℕ) (call : NodeCall) → open_call a.calls id ≡ Some call → open_call b.calls id ≡ Some call →
-    ((q : ℕ) → layout_here b q ≡ layout_here a q) → lead_events b id ≡ lead_events a id
-same_lead a b id call found again heard =
-    ap (call_events b.places) again ∙ same_step a b heard (machine_of call) (next_here (machine_of call))
-    ∙ ap (call_events a.places) (sym found)
+same_lead : (anew : Bool) (a b : LocalObject) (id : ℕ) (call : NodeCall) → open_call a.calls id ≡ Some call →
+    open_call b.calls id ≡ Some call → ((q : ℕ) → layout_here b q ≡ layout_here a q) → lead_events anew b id ≡ lead_events anew a id
+same_lead anew a b id call found again heard =
+    ap (call_events anew b.places) again ∙ same_step a b heard (machine_of call) (next_if anew (machine_of call))
+    ∙ ap (call_events anew a.places) (sym found)
 
 module _ (moves : Type 0) (here : moves) (local copy : LocalObject) (is : IsObjectCopy moves local copy) (id : ℕ) (call : NodeCall)
     (found : open_call local.calls id ≡ Some call) (move : moves_call call ≡ true) where
@@ -133,47 +133,48 @@ module _ (moves : Type 0) (here : moves) (local copy : LocalObject) (is : IsObje
   step_both (next.Begin kind position) = begin_both kind position
   step_both next.Answer = both_answer fragment moves here local copy is call.id
 
-  lead_both : IsObjectCopy moves
-      (all_done fragment local (lead_events local id)).local (all_done fragment copy (lead_events copy id)).local
-  lead_both =
-      subst (λ es. IsObjectCopy moves (all_done fragment local (lead_events local id)).local (all_done fragment copy es).local)
-      (sym (same_lead local copy id call found again (layouts_kept moves local copy is.kept here)))
-      (subst (λ o. IsObjectCopy moves (all_done fragment local (call_events local.places o)).local
-      (all_done fragment copy (call_events local.places o)).local) (sym found) (step_both (next_here (machine_of call))))
+  lead_both : (anew : Bool) → IsObjectCopy moves
+      (all_done fragment local (lead_events anew local id)).local (all_done fragment copy (lead_events anew copy id)).local
+  lead_both anew =
+      subst (λ es. IsObjectCopy moves (all_done fragment local (lead_events anew local id)).local (all_done fragment copy es).local)
+      (sym (same_lead anew local copy id call found again (layouts_kept moves local copy is.kept here)))
+      (subst (λ o. IsObjectCopy moves (all_done fragment local (call_events anew local.places o)).local
+      (all_done fragment copy (call_events anew local.places o)).local) (sym found) (step_both (next_if anew (machine_of call))))
 
 -- the call settles what it fetched, if it can, and goes on
 
--- what the node keeps after the call goes on by these events and by those that are then due
-abbrev pub gone_on : LocalObject → (id : ℕ) → List LocalEvent → LocalObject
-gone_on local id es =
-    let settled = (all_done fragment local es).local in (all_done fragment settled (lead_events settled id)).local
+-- what the node keeps after the call goes on by these events and by those that are then due, if it begins anew only where
+-- `anew` is true
+abbrev pub gone_on : (anew : Bool) → LocalObject → (id : ℕ) → List LocalEvent → LocalObject
+gone_on anew local id es =
+    let settled = (all_done fragment local es).local in (all_done fragment settled (lead_events anew settled id)).local
 
-settle_both : (moves : Type 0) → moves → (local copy : LocalObject) → IsObjectCopy moves local copy → (id : ℕ) (call : NodeCall) →
-    open_call local.calls id ≡ Some call → moves_call call ≡ true → (es : List LocalEvent) → AreSettling local id es →
-    IsObjectCopy moves (gone_on local id es) (gone_on copy id es)
-settle_both moves here local copy is id call found move es (inl none) =
-    subst (λ es. IsObjectCopy moves (gone_on local id es) (gone_on copy id es)) (sym none.0)
-    (lead_both moves here local copy is id call found move)
-settle_both moves here local copy is id call found move es (inr some) =
+settle_both : (anew : Bool) (moves : Type 0) → moves → (local copy : LocalObject) → IsObjectCopy moves local copy →
+    (id : ℕ) (call : NodeCall) → open_call local.calls id ≡ Some call → moves_call call ≡ true → (es : List LocalEvent) →
+    AreSettling local id es → IsObjectCopy moves (gone_on anew local id es) (gone_on anew copy id es)
+settle_both anew moves here local copy is id call found move es (inl none) =
+    subst (λ es. IsObjectCopy moves (gone_on anew local id es) (gone_on anew copy id es)) (sym none.0)
+    (lead_both moves here local copy is id call found move anew)
+settle_both anew moves here local copy is id call found move es (inr some) =
     let new : NodeCall = record call { settled = Some some.0 } in
-    subst (λ es. IsObjectCopy moves (gone_on local id es) (gone_on copy id es)) (sym some.2)
+    subst (λ es. IsObjectCopy moves (gone_on anew local id es) (gone_on anew copy id es)) (sym some.2)
     (lead_both moves here
     (done_here fragment local (LocalEvent.Settle id some.0)).local (done_here fragment copy (LocalEvent.Settle id some.0)).local
     (both_settle fragment moves here local copy is id call found move (found_copy moves local copy is id call found move) some.0)
     id new
     (ap (λ (l : LocalObject). open_call l.calls id) (settled_is fragment local id some.0 call found)
     ∙ found_new local.calls id call new found refl)
-    move)
+    move anew)
 
 -- what it keeps after a reply was taken, and the call went on
 pub taken_to : (old : LocalObject) (letter : Letter) (new : LocalObject) (sent : List Letter) (ended : List Ended) →
     (taken : GoesOn old letter new sent ended) →
-    new ≡ gone_on (done_here fragment old (LocalEvent.Take letter)).local letter.message.call taken.settling
+    new ≡ gone_on (repeats old letter) (done_here fragment old (LocalEvent.Take letter)).local letter.message.call taken.settling
 taken_to old letter new sent ended taken =
     let first = (done_here fragment old (LocalEvent.Take letter)).local in
     taken.leads.done.local
     ∙ all_done_both first taken.settling
-    (lead_events (all_done fragment first taken.settling).local letter.message.call)
+    (lead_events (repeats old letter) (all_done fragment first taken.settling).local letter.message.call)
 
 module _ (moves : Type 0) (here : moves) (local copy : LocalObject) (is : IsObjectCopy moves local copy)
     (letter : Letter) (call : NodeCall) (found : open_call local.calls letter.message.call ≡ Some call)
@@ -200,16 +201,22 @@ module _ (moves : Type 0) (here : moves) (local copy : LocalObject) (is : IsObje
   found_second =
       found_copy moves first second took letter.message.call (taking_open letter.message call) found_first move
 
+  same_repeats : repeats copy letter ≡ repeats local letter
+  same_repeats = ap (λ o. is_repeated o letter.message) (there ∙ sym found)
+
   goes_on_both : (new copied : LocalObject) (sent more : List Letter) (ended told : List Ended) →
       GoesOn local letter new sent ended → GoesOn copy letter copied more told → IsObjectCopy moves new copied
   goes_on_both new copied sent more ended told taken retaken =
       let id = letter.message.call in
+      let anew = repeats local letter in
       let one = same_settling first second id (found_second ∙ sym found_first) (layouts_kept moves first second took.kept here)
       taken.settling retaken.settling taken.settles retaken.settles in
       subst (λ l. IsObjectCopy moves l copied) (sym (taken_to local letter new sent ended taken))
-      (subst (IsObjectCopy moves (gone_on first id taken.settling))
-      (ap (gone_on second id) one ∙ sym (taken_to copy letter copied more told retaken))
-      (settle_both moves here first second took id (taking_open letter.message call) found_first move
+      (subst (IsObjectCopy moves (gone_on anew first id taken.settling))
+      (ap (gone_on anew second id) one
+      ∙ ap (λ b. gone_on b second id retaken.settling) (sym same_repeats)
+      ∙ sym (taken_to copy letter copied more told retaken))
+      (settle_both anew moves here first second took id (taking_open letter.message call) found_first move
       taken.settling taken.settles))
 
   taken_by : (b : Bool) (new copied : LocalObject) (sent more : List Letter) (ended told : List Ended) →

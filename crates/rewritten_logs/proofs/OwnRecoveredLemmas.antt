@@ -11,9 +11,10 @@ use Rattle.local_object.specs.declared.letter.Letter.{Letter}
 use Rattle.local_object.specs.declared.progress.Ended.{Ended}
 use Rattle.local_object.specs.Doing.{is_served, is_taken, serve_events}
 use Rattle.local_object.specs.Events.{LocalEvent, all_done}
-use Rattle.local_object.specs.Going.{next_here}
+use Rattle.local_object.specs.Going.{next_if}
 use Rattle.local_object.specs.Local.{LocalObject, Place}
-use Rattle.local_object.specs.Taking.{AreSettling, IsTaken, call_events, can_begin, lead_events, machine_of, step_events}
+use Rattle.local_object.specs.Taking.{AreSettling, IsTaken, call_events, can_begin, lead_events, machine_of, repeats}
+use Rattle.local_object.specs.Taking.{step_events}
 use Rattle.network.specs.Worlds.{NodeCall, open_call}
 use Rattle.object_letters.specs.Rebuildable.{HasLawfulLayouts, IsFit}
 use Rattle.recoveries.specs.Records.{IsKeptUnder, LogRecord, RecoversOne}
@@ -40,12 +41,12 @@ step_fit places call (next.Restart kind position) = begin_fit (can_begin places 
 step_fit places call (next.Begin kind position) = begin_fit (can_begin places call kind position) call.id
 step_fit places call next.Answer = (tt, tt)
 
-call_fit : (places : List Place) (call : Option NodeCall) → AllByRecursion IsFit (call_events places call)
-call_fit places None = tt
-call_fit places (Some call) = step_fit places (machine_of call) (next_here (machine_of call))
+call_fit : (again : Bool) (places : List Place) (call : Option NodeCall) → AllByRecursion IsFit (call_events again places call)
+call_fit again places None = tt
+call_fit again places (Some call) = step_fit places (machine_of call) (next_if again (machine_of call))
 
-lead_fit : (local : LocalObject) (id : ℕ) → AllByRecursion IsFit (lead_events local id)
-lead_fit local id = call_fit local.places (open_call local.calls id)
+lead_fit : (again : Bool) (local : LocalObject) (id : ℕ) → AllByRecursion IsFit (lead_events again local id)
+lead_fit again local id = call_fit again local.places (open_call local.calls id)
 
 settling_fit : (local : LocalObject) (id : ℕ) (events : List LocalEvent) → AreSettling local id events → AllByRecursion IsFit events
 settling_fit local id events (inl none) = subst (λ (es : List LocalEvent). AllByRecursion IsFit es) (sym none.0) tt
@@ -60,12 +61,13 @@ take_own old new name letter local sent ended lawful put own true taken =
     let before = old.objects name in
     let id = letter.message.call in
     let first = LocalEvent.Take letter ∷ taken.settling in
-    let leads = lead_events (all_done fragment before first).local id in
+    let again = repeats before letter in
+    let leads = lead_events again (all_done fragment before first).local id in
     done_own old new name local (LocalEvent.Take letter ∷ taken.settling ++ leads) sent (
       lawful,
       all_append IsFit taken.settling leads
           (settling_fit (all_done fragment before (LocalEvent.Take letter ∷ [])).local id taken.settling taken.settles)
-          (lead_fit (all_done fragment before first).local id),
+          (lead_fit again (all_done fragment before first).local id),
     )
     taken.leads.done put own
 

@@ -5,7 +5,7 @@ ghost use Rattle.tag.specs.declared.refusal.Refusal.TheVariants.{NoMemory};
 ghost use Rattle.local_object.specs.Going.{settled_here};
 ghost use Rattle.local_object.specs.Taking.{CanSettle, HasDoneBy, SettlesFetched, lead_events};
 
-use crate::going::{advance, ended, fetched, next_here};
+use crate::going::{advance, ended, fetched, next_here, next_if};
 use crate::{LocalObject, Progress};
 use bytes::Bytes;
 use call::Next;
@@ -53,11 +53,12 @@ impl LocalObject {
         }
     }
 
-    /// The call with this id begins the phase that is due, or is answered if none is due. It waits if it cannot go on.
+    /// The call with this id begins the phase that is due, or is answered if none is due. It waits if it cannot go on,
+    /// and also if its complete fetch lacks pieces, unless `again` says that it is to begin anew.
     ///
     /// `NoMemory` is the only refusal.
-    pub(crate) fn lead(&mut self, id: CallId) -> Result<Progress, Refusal>
-        ensures done { IfOk result (λ progress. HasDoneBy self.old (lead_events self.old id) self.new
+    pub(crate) fn lead(&mut self, id: CallId, again: bool) -> Result<Progress, Refusal>
+        ensures done { IfOk result (λ progress. HasDoneBy self.old (lead_events again self.old id) self.new
             progress.letters.items (option_to_list progress.ended)) }
 
         ensures refused { IfErr result (λ e. e ≡ NoMemory) }
@@ -65,7 +66,7 @@ impl LocalObject {
         let Some(index) = self.calls.index_of(id) else {
             return Ok(Progress::none(self.alloc));
         };
-        match next_here(self.calls.at(index)) {
+        match next_if(self.calls.at(index), again) {
             Next::Wait | Next::Settle => Ok(Progress::none(self.alloc)),
             Next::Restart(kind, position) | Next::Begin(kind, position) => {
                 let letters = advance(

@@ -15,7 +15,9 @@ use tag::{CallId, Refusal};
 
 impl LocalObject {
     /// The requests of the current phase of the call with this id, as they were sent, to the members whose replies are
-    /// not recorded, in the order of the members. No letters where no call with this id is open here.
+    /// not recorded, in the order of the members. If the phase is a complete fetch that lacks pieces, they are those to
+    /// all members: the call begins anew once a member replies again. No letters where no call with this id is open
+    /// here.
     ///
     /// `NoMemory` is the only refusal.
     pub fn resend(&self, id: CallId) -> Result<Vec<Letter>, Refusal>

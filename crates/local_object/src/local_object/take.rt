@@ -5,10 +5,11 @@ ghost use Rattle.tag.specs.declared.refusal.Refusal.TheVariants.{NoMemory};
 ghost use Rattle.local_object.specs.Doing.{is_taken};
 ghost use Rattle.local_object.specs.Events.{LocalEvent};
 ghost use Rattle.local_object.specs.Going.{HasDone, taken_here};
-ghost use Rattle.local_object.specs.Taking.{HasDoneBy, IsTaken};
+ghost use Rattle.local_object.specs.Taking.{HasDoneBy, IsTaken, is_repeat_in, repeats};
 
 use super::has_next;
 use crate::{Letter, LocalObject, Progress};
+use call::Call;
 use mail::{Body, Message};
 use tag::Refusal;
 
@@ -16,6 +17,9 @@ impl LocalObject {
     /// A call of the node takes a reply and goes on as far as it can: it settles the value that it fetched, and begins
     /// its next phase or is answered. Nothing changes if the letter is no reply to a call that is open here, or if
     /// there is no number in 32 bits for the next position.
+    ///
+    /// If its complete fetch lacks pieces, the call does not begin anew at once. It waits until its requests are sent
+    /// again (`resend`), and begins anew when it takes a reply to this fetch from a member whose reply it had recorded.
     ///
     /// If the call cannot go on, it waits, and `give_up` ends it: the node has not heard of the layout that it needs,
     /// or there is no number for its next position, phase or tag, or the pieces that it fetched do not decode. This
@@ -35,9 +39,20 @@ impl LocalObject {
             return Ok(Progress::none(self.alloc));
         }
         let id = letter.message.call;
+        let again = self.repeats(&letter);
         self.take_reply(letter)?;
         self.settle(id)?;
-        self.lead(id)
+        self.lead(id, again)
+    }
+
+    // Whether the letter repeats a reply that the current phase of its call has recorded.
+    fn repeats(&self, letter: &Letter) -> bool
+        ensures { result ≡ repeats self.now letter.now }
+    {
+        match self.calls.index_of(letter.message.call) {
+            Some(index) => is_repeat_in(self.calls.at(index), &letter.message),
+            None => false,
+        }
     }
 
     // Whether the letter is a reply to a call that is open here, and its position has a next one.
@@ -81,4 +96,12 @@ impl LocalObject {
             None => (),
         }
     }
+}
+
+// Whether a message repeats a reply that the current phase of a call has recorded.
+fn is_repeat_in(call: &Call, message: &Message) -> bool
+    ensures { result ≡ is_repeat_in call.now.phase message.now }
+{
+    let phase = call.phase();
+    message.phase == phase.number() && phase.has_taken(message.member)
 }

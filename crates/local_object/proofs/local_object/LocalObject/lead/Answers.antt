@@ -17,9 +17,10 @@ returns-in_ok-ended-in-Answer-clause-done c =
     let o = c.self.inside in
     let call = c.at.result.now in
     let removed = same_call c.remove-call.result call (sym c.remove-call.ensures.call ∙ c.at.ensures) in
-    by_from (λ l. lead_events l c.args.id) c.self.view_is
-    (answered_by o.node o.delta o.places c.in-Some.ensures.distinct c.in-Some.ensures.index call c.at.ensures c.remove-call.new.self
-    c.answered.result.letters.items (option_to_list c.answered.result.ended) (sym c.next_here.ensures.next ∙ c.in-Answer.is)
+    by_from (λ l. lead_events c.args.again l c.args.id) c.self.view_is
+    (answered_by o.node o.delta o.places c.in-Some.ensures.distinct c.in-Some.ensures.index call c.at.ensures c.args.again
+    c.remove-call.new.self
+    c.answered.result.letters.items (option_to_list c.answered.result.ended) (sym c.next_if.ensures.next ∙ c.in-Answer.is)
     c.remove-call.ensures.rest c.answered.ensures.letters
     (ap option_to_list c.answered.ensures.ended
     ∙ ap (λ ended. ended ∷ []) (c.in_ok-ended-in-Answer.ensures.told ∙ ap (λ (m : Machine). told_of (at_node o.node m)) removed)))
@@ -31,14 +32,16 @@ returns-in_ok-letters-in-Restart-clause-done c =
     let kind = c.in-Restart.kind in
     let position = c.in-Restart.position in
     let new = object o.node o.delta o.places c.advance.new.calls in
-    let step = subst (λ s. (s ≡ next.Restart kind position) ⊎ (s ≡ next.Begin kind position)) c.next_here.ensures.next c.in-Restart.is in
-    subst (λ (ended : List Ended). HasDoneBy c.args.self.now (lead_events c.args.self.now c.args.id) new c.sent.result.letters.items ended)
+    let step = subst (λ s. (s ≡ next.Restart kind position) ⊎ (s ≡ next.Begin kind position)) c.next_if.ensures.next c.in-Restart.is in
+    subst (λ (ended : List Ended). HasDoneBy c.args.self.now (lead_events c.args.again c.args.self.now c.args.id) new
+    c.sent.result.letters.items ended)
     (sym (ap option_to_list c.sent.ensures.ended))
-    (subst (λ (letters : List Letter). HasDoneBy c.args.self.now (lead_events c.args.self.now c.args.id) new letters [])
+    (subst (λ (letters : List Letter). HasDoneBy c.args.self.now (lead_events c.args.again c.args.self.now c.args.id) new letters [])
     (sym c.sent.ensures.letters)
-    (by_from (λ l. lead_events l c.args.id) c.self.view_is
+    (by_from (λ l. lead_events c.args.again l c.args.id) c.self.view_is
     (advanced_by o.node o.delta o.places c.in-Some.ensures.distinct c.in-Some.ensures.index call c.at.ensures kind position
-    c.advance.new.calls c.in_ok-letters-in-Restart.letters.items step (c.in_ok-letters-in-Restart.ensures.advanced call c.at.ensures))))
+    c.advance.new.calls c.in_ok-letters-in-Restart.letters.items c.args.again step
+    (c.in_ok-letters-in-Restart.ensures.advanced call c.at.ensures))))
 
 pub returns-in_default-clause-done : goal.returns-in_default-clause-done
 returns-in_default-clause-done c =
@@ -47,8 +50,8 @@ returns-in_default-clause-done c =
     let letters = c.none.result.letters.items in
     let told = option_to_list c.none.result.ended in
     subst (λ events. HasDoneBy old events old letters told)
-    (sym (ap (λ l. lead_events l c.args.id) (sym c.self.view_is)
-    ∙ lead_none o.node o.delta o.places o.calls c.args.id c.in_default.ensures.index))
+    (sym (ap (λ l. lead_events c.args.again l c.args.id) (sym c.self.view_is)
+    ∙ lead_none o.node o.delta o.places c.args.again o.calls c.args.id c.in_default.ensures.index))
     (by_none old old letters told refl c.none.ensures.letters (ap option_to_list c.none.ensures.ended))
 
 pub returns-in-Wait-clause-done : goal.returns-in-Wait-clause-done
@@ -57,8 +60,8 @@ returns-in-Wait-clause-done c =
     let old = c.args.self.now in
     let letters = c.none-in-Wait.result.letters.items in
     let told = option_to_list c.none-in-Wait.result.ended in
-    let step = subst (λ s. (s ≡ next.Wait) ⊎ (s ≡ next.Settle)) c.next_here.ensures.next c.in-Wait.is in
+    let step = subst (λ s. (s ≡ next.Wait) ⊎ (s ≡ next.Settle)) c.next_if.ensures.next c.in-Wait.is in
     subst (λ events. HasDoneBy old events old letters told)
-    (sym (ap (λ l. lead_events l c.args.id) (sym c.self.view_is)
-    ∙ lead_waits o.node o.delta o.places c.in-Some.ensures.distinct c.in-Some.ensures.index c.at.result.now c.at.ensures step))
+    (sym (ap (λ l. lead_events c.args.again l c.args.id) (sym c.self.view_is)
+    ∙ lead_waits o.node o.delta o.places c.in-Some.ensures.distinct c.in-Some.ensures.index c.at.result.now c.at.ensures c.args.again step))
     (by_none old old letters told refl c.none-in-Wait.ensures.letters (ap option_to_list c.none-in-Wait.ensures.ended))
