@@ -5,3 +5,4 @@ pub mod Reading
 pub mod Gives
 pub mod Writing
 pub mod Laws
+pub mod Limits

@@ -3,6 +3,7 @@
 
 pub use error::{Fault, MessageError};
 pub use laws::{messages_are_read_back, short_pieces_have_frames};
+pub use limits::{MOST_TAG_NUMBER, has_low_tags};
 pub use message::NodeMessage;
 pub use reading::read_message;
 pub use writing::frame_of;
@@ -13,6 +14,7 @@ mod checks;
 mod error;
 mod fields;
 mod laws;
+mod limits;
 mod message;
 mod reading;
 mod strings;

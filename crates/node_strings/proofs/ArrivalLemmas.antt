@@ -10,7 +10,8 @@ use Rattle.node_strings.specs.Strings.{Strings}
 use Rattle.node_strings.specs.Parts.{then_read, rest_behind, number_or_none}
 use Rattle.node_strings.specs.declared.arrival.Arrival.{Arrival}
 use Rattle.node_strings.specs.declared.arrival.Arrival.TheVariants as came
-use Rattle.node_strings.specs.Arrival.{IsArrival, arrival_strings, is_empty, client_arrival, tick_arrival, if_behind, node_arrival}
+use Rattle.node_strings.specs.Arrival.{IsArrival, arrival_strings, client_arrival, tick_arrival, if_behind, node_arrival}
+use Rattle.node_strings.specs.Heard.{are_node_numbers, is_empty}
 use Rattle.node_strings.specs.Arrival.{arrival_from, arrival_at}
 use Rattle.node_strings.proofs.PartLemmas.{some_is, bind_some, chosen, number_ok, number_again, behind_ok}
 
@@ -39,12 +40,12 @@ client_ok address number rest it a e =
 
 tick_ok : (address : List ℕ) (rest : Strings) (it : Arrival) → tick_arrival address rest ≡ Some it → address ∷ rest ≡ arrival_strings it
 tick_ok address rest it e =
-    elim (chosen (bytes_eq address (codes "tick") && is_empty rest) (Some came.Tick) None it e) [
+    let tick : Arrival = came.Tick (record { numbers = rest }) in
+    elim (chosen (bytes_eq address (codes "tick") && are_node_numbers rest) (Some tick) None it e) [
       | inl h ↦
-          let p = and_parts (bytes_eq address (codes "tick")) (is_empty rest) h.0 in
-          subst (λ (i : Arrival). address ∷ rest ≡ arrival_strings i) (some_is came.Tick it h.1)
-          (ap (λ (s : List ℕ). s ∷ rest) ((bytes_eq-Decides address (codes "tick")).0 p.0)
-          ∙ ap (λ (r : Strings). codes "tick" ∷ r) (none_behind rest p.1))
+          let p = and_parts (bytes_eq address (codes "tick")) (are_node_numbers rest) h.0 in
+          subst (λ (i : Arrival). address ∷ rest ≡ arrival_strings i) (some_is tick it h.1)
+          (ap (λ (s : List ℕ). s ∷ rest) ((bytes_eq-Decides address (codes "tick")).0 p.0))
       | inr h ↦ absurd cc
     ]
 
@@ -77,7 +78,7 @@ arrival_again (came.Left client) is =
     rw (number_again (2 ^ 64 - 1) client (omega (arith, is)) (omega arith)) refl
 arrival_again (came.Message node frame) is =
     rw (number_again 255 node (omega (arith, is)) (omega arith)) refl
-arrival_again came.Tick is = refl
+arrival_again (came.Tick heard) is = rw (is) refl
 
 -- ---- for the function's contract
 

@@ -1,4 +1,5 @@
 pub mod Arrival
+pub mod Heard
 pub mod Laws
 pub mod Layouts
 pub mod Numbers

@@ -5,6 +5,7 @@ ghost use Rattle.node_strings.specs.Arrival.{IsArrival, arrival_strings, arrival
 ghost use Rattle.node_strings.specs.Arrival.{node_arrival, tick_arrival};
 
 use crate::address::ConnectionId;
+use crate::heard::{Heard, are_node_numbers};
 use crate::is_text;
 use crate::parts::{behind, number_of, split};
 use frames::Frame;
@@ -19,7 +20,7 @@ pub enum Arrival {
     /// A frame that the node with this number sent.
     Message(u8, Frame),
     /// Time has passed.
-    Tick,
+    Tick(Heard),
 }
 
 /// What has come, by the address at the front of the frame; none if the first string is no address. The function
@@ -69,12 +70,12 @@ fn read_other(address: &[u8], rest: Frame) -> Option<Arrival>
     }
 }
 
-// Time has passed, where the address says that and nothing stands behind it.
+// Time has passed, where the address says that and only numbers of nodes stand behind it.
 fn tick_of(address: &[u8], rest: Frame) -> Option<Arrival>
     ensures { result ≡ tick_arrival address.now rest }
 {
-    if is_text(address, b"tick") && rest.strings().is_empty() {
-        Some(Arrival::Tick)
+    if is_text(address, b"tick") && are_node_numbers(rest.strings()) {
+        Some(Arrival::Tick(Heard { numbers: rest }))
     } else {
         None
     }

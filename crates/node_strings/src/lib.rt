@@ -4,6 +4,7 @@
 
 pub use address::{ConnectionId, client_address, node_address};
 pub use arrival::{Arrival, read_arrival};
+pub use heard::Heard;
 pub use laws::strings_are_read_back;
 pub use layouts::{checked_layout, read_layout};
 pub use number::read_number;
@@ -15,6 +16,7 @@ pub use writing::record_strings;
 
 mod address;
 mod arrival;
+mod heard;
 mod laws;
 mod layouts;
 mod number;

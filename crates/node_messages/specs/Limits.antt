@@ -1,0 +1,37 @@
+-- The contracts that docs/trusted.md lists do not depend on this file; other contracts and proofs do.
+-- Which messages have only tags whose numbers are within the limit.
+use Rattle.std.specs.Prelude.{Bool, true, ◌&&◌, nat_le}
+use Rattle.tag.specs.declared.tag.Tag.{Tag}
+use Rattle.bank.specs.declared.kind.Kind.{Kind}
+use Rattle.bank.specs.declared.kind.Kind.TheVariants as kind
+use Rattle.bank.specs.declared.reply.Answer.{Answer}
+use Rattle.bank.specs.declared.reply.Answer.TheVariants as answer
+use Rattle.bank.specs.Serve.{kind_of}
+use Rattle.mail.specs.declared.message.Body.{Body}
+use Rattle.mail.specs.declared.message.Body.TheVariants as body
+use Rattle.node_messages.specs.declared.limits.TheConstants.{MOST_TAG_NUMBER}
+
+-- whether the number of a tag is within the limit
+abbrev pub is_low : Tag → Bool
+is_low tag = nat_le tag.number MOST_TAG_NUMBER
+
+-- whether a kind has no tag, or one whose number is within the limit
+abbrev pub has_low_kind : Kind → Bool
+has_low_kind kind.Next = true
+has_low_kind (kind.Spread found) = true
+has_low_kind kind.Query = true
+has_low_kind (kind.PreWrite tag) = is_low tag
+has_low_kind (kind.Finalize tag) = is_low tag
+has_low_kind (kind.Fetch tag) = is_low tag
+
+-- whether an answer has no tag, or one whose number is within the limit
+abbrev pub has_low_answer : Answer → Bool
+has_low_answer answer.Done = true
+has_low_answer (answer.Pointer found) = true
+has_low_answer (answer.Greatest tag) = is_low tag
+has_low_answer (answer.Piece piece) = true
+
+-- whether the body of a message has no tag whose number is above the limit
+abbrev pub has_low_tags : Body → Bool
+has_low_tags (body.Request q) = has_low_kind (kind_of q)
+has_low_tags (body.Reply k r) = has_low_kind k && has_low_answer r.answer
