@@ -1,25 +1,28 @@
 -- The strings of an answer are its bytes, and with an address in front they are a frame.
 use Rattle.std.proofs.Common.{◌≡◌, ℕ, ◌^◌, ◌<◌, ◌≤◌, List, [], ◌∷◌, ◌++◌, length, length-append, refl, ap, ◌∙◌, arith}
 use Rattle.std.specs.Fmt.{decimal}
+use Rattle.std.specs.Prelude.{codes}
 use Rattle.std.specs.List.{concat}
 use Rattle.std.proofs.lemmas.Fmt.{length-decimal-le}
 use Rattle.std.proofs.lemmas.List.{append-nil}
 use Rattle.std.proofs.lemmas.List.Folds.{concat-append}
 use Rattle.frames.specs.Frame.{IsShort, IsFrame, header, line_end}
 use Rattle.frames.specs.declared.limits.TheConstants.{MOST_STRINGS, LONGEST_STRING}
-use Rattle.client_commands.specs.Answers.{sent_bytes, sent_strings, error_line}
+use Rattle.client_commands.specs.Answers.{sent_bytes, sent_strings, error_line, greeting, greeting_rest}
 use Rattle.client_commands.specs.Laws.{AnswersHaveFrames}
-use Rattle.client_commands.specs.Texts.{error_text}
+use Rattle.client_commands.specs.Texts.{error_code, error_text}
 use Rattle.client_commands.specs.declared.answer.Answer.{Answer}
 use Rattle.client_commands.specs.declared.answer.Answer.TheVariants as answer
-use Rattle.client_commands.proofs.TextLemmas.{error_is_text}
+use Rattle.client_commands.proofs.TextLemmas.{code_is_short, error_is_text}
 
 joined : (a : Answer) → concat (sent_strings a) ≡ sent_bytes a
 joined answer.Ok = refl
 joined answer.Pong = refl
 joined (answer.Value value) = refl
+joined answer.Nil = refl
 joined (answer.Number n) = append-nil (sent_bytes (answer.Number n))
 joined answer.NoCommands = refl
+joined (answer.Greeting id) = append-nil (sent_bytes (answer.Greeting id))
 joined (answer.Error e) = append-nil (sent_bytes (answer.Error e))
 
 pub joined_behind : (old new : List (List ℕ)) (a : Answer) → new ≡ old ++ sent_strings a → concat new ≡ concat old ++ sent_bytes a
@@ -36,8 +39,25 @@ header_short mark n lt =
     let digits : length (decimal n) ≤ 20 = length-decimal-le 20 n (omega arith) (omega arith) lt in
     small (header mark n) (omega (arith, length-append (decimal n) line_end))
 
-line_short : (text : List ℕ) → length text ≤ 100 → IsShort (error_line text)
-line_short text le = small (error_line text) (omega (arith, length-append text line_end))
+all_short : (mark code space text end : List ℕ) → length mark ≤ 1 → length code ≤ 9 → length space ≤ 1 → length text ≤ 150
+    → length end ≤ 2 → length (mark ++ code ++ space ++ text ++ end) ≤ 200
+all_short mark code space text end a b c d e =
+    omega (
+      arith,
+      length-append (mark ++ code ++ space ++ text) end,
+      length-append (mark ++ code ++ space) text,
+      length-append (mark ++ code) space,
+      length-append mark code,
+    )
+
+line_short : (code text : List ℕ) → length code ≤ 9 → length text ≤ 150 → IsShort (error_line code text)
+line_short code text few le =
+    small (error_line code text) (all_short (codes "-") code (codes " ") text line_end (omega arith) few (omega arith) le (omega arith))
+
+greeting_short : (id : ℕ) → id < 2 ^ 64 → IsShort (greeting id)
+greeting_short id lt =
+    let digits : length (decimal id) ≤ 20 = length-decimal-le 20 id (omega arith) (omega arith) lt in
+    small (greeting id) (omega (arith, length-append (decimal id) greeting_rest))
 
 one : (address string : List ℕ) → IsShort address → IsShort string → IsFrame (address ∷ string ∷ [])
 one address string a s =
@@ -55,8 +75,11 @@ framed address answer.Pong a fits = one address (sent_bytes answer.Pong) a (smal
 framed address (answer.Value value) a fits =
     let limit : LONGEST_STRING ≡ 16842752 = refl in
     three address (header 36 (length value)) value a (header_short 36 (length value) (omega arith)) fits
+framed address answer.Nil a fits = one address (sent_bytes answer.Nil) a (small (sent_bytes answer.Nil) (omega arith))
+framed address (answer.Greeting id) a fits = one address (greeting id) a (greeting_short id fits)
 framed address (answer.Number n) a fits = one address (header 58 n) a (header_short 58 n fits)
 framed address answer.NoCommands a fits =
     one address (sent_bytes answer.NoCommands) a (small (sent_bytes answer.NoCommands) (omega arith))
 framed address (answer.Error e) a fits =
-    one address (error_line (error_text e)) a (line_short (error_text e) (error_is_text e).short)
+    one address (error_line (error_code e) (error_text e)) a
+    (line_short (error_code e) (error_text e) (code_is_short e) (error_is_text e fits).short)

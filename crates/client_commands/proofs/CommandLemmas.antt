@@ -1,25 +1,31 @@
 -- A frame asks for the command that is read, and a frame that asks for a command is read as that command.
-use Rattle.std.proofs.Common.{◌≡◌, ℕ, cond, eqb, List, [], ◌∷◌, length, get_or, Option, Some, None}
+use Rattle.std.proofs.Common.{◌≡◌, ℕ, Bool, true, false, cond, eqb, ltb, List, [], ◌∷◌, length, get_or, Option, Some, None}
 use Rattle.std.proofs.Common.{Result, Ok, Err, refl, sym, ap, subst, ◌∙◌, inl, inr}
 use Rattle.std.specs.Prelude.{codes, IsTrue, IfOk}
 use Rattle.std.specs.Str.{bytes_eq, str_to_ascii_lowercase}
 use Rattle.std.proofs.lemmas.Bool.{eqb-true}
+use Rattle.std.proofs.lemmas.Slice.Eq.{bytes_eq-Decides}
 use Rattle.layout.specs.Layout.{Layout}
 use Rattle.words.specs.Parts.{and_then}
 use Rattle.node_strings.specs.Strings.{Strings}
 use Rattle.client_commands.specs.Arguments.{checked_name, checked_value, only_argument, name_and_value}
-use Rattle.client_commands.specs.Command.{AreWordAndRest, Begins, SaysOfClient, IsShortName, IsShortValue, AskFor, layout_strings}
+use Rattle.client_commands.specs.Arguments.{hello_fault, login_fault}
+use Rattle.client_commands.specs.Command.{AreTwoWords, AreWordAnd, AreWordAndRest, Begins, counts_commands}
+use Rattle.client_commands.specs.Command.{SaysOfClient, IsShortName, IsShortValue, AskFor, layout_strings}
 use Rattle.client_commands.specs.Layouts.{layout_from}
-use Rattle.client_commands.specs.Reading.{Found, get_from, set_from, move_from, ping_from, echo_from, counted, subcommand_from}
+use Rattle.client_commands.specs.Reading.{exists_from, list_from, select_from, unless}
+use Rattle.client_commands.specs.Reading.{Found, read_from, set_from, move_from, ping_from, echo_from, counted, subcommand_from}
 use Rattle.client_commands.specs.Reading.{client_from, command_from, command_named, command_at}
-use Rattle.client_commands.specs.Words.{is_word, command_text, name_of_word}
+use Rattle.client_commands.specs.Words.{is_word, command_text, name_of_word, reading_word}
 use Rattle.client_commands.specs.declared.command.Command.{Command}
 use Rattle.client_commands.specs.declared.command.Command.TheVariants as ask
+use Rattle.client_commands.specs.declared.command.Wanted.{Wanted}
+use Rattle.client_commands.specs.declared.command.Wanted.TheVariants as wanted
 use Rattle.client_commands.specs.declared.command.CommandName.{CommandName}
 use Rattle.client_commands.specs.declared.command.CommandName.TheVariants as of
 use Rattle.client_commands.specs.declared.fault.CommandFault.{CommandFault}
-use Rattle.client_commands.specs.declared.fault.CommandFault.TheVariants.{UnknownSubcommand, WrongCount}
-use Rattle.words.proofs.PartLemmas.{bind_ok, guarded, chosen, ok_is}
+use Rattle.client_commands.specs.declared.fault.CommandFault.TheVariants.{NoDatabase, SeveralNames, UnknownSubcommand, WrongCount}
+use Rattle.words.proofs.PartLemmas.{bind_ok, guarded, guarded_above, chosen, ok_is}
 use Rattle.client_commands.proofs.WordLemmas.{named_ok, named_again, small_is}
 use Rattle.client_commands.proofs.ArgumentLemmas.{only_ok, both_ok, name_ok, value_ok, name_again, value_again}
 use Rattle.client_commands.proofs.MoveLemmas.{layout_from_ok, layout_from_again}
@@ -29,15 +35,68 @@ Read = Result (List ℕ) CommandFault
 
 -- ---- the frame asks for what is read
 
-get_ok : (word : List ℕ) (args : Strings) (c : Command) → IsTrue (is_word word (codes "get"))
-    → get_from args ≡ Ok c → AskFor (word ∷ args) c
-unfolding get_from
-get_ok word args c w e =
-    let a = bind_ok (only_argument of.Get args) (λ (name : List ℕ). and_then (checked_name name) (λ (n : List ℕ). Ok (ask.Get n))) c e in
-    let b = bind_ok (checked_name a.0) (λ (n : List ℕ). Ok (ask.Get n)) c a.2 in
+read_ok : (from : CommandName) (what : Wanted) (word : List ℕ) (args : Strings) (c : Command)
+    → IsTrue (is_word word (reading_word what)) → read_from from what args ≡ Ok c → AskFor (word ∷ args) c
+unfolding read_from
+read_ok from what word args c w e =
+    let a = bind_ok (only_argument from args)
+    (λ (name : List ℕ). and_then (checked_name name) (λ (n : List ℕ). Ok (ask.Read what n))) c e in
+    let b = bind_ok (checked_name a.0) (λ (n : List ℕ). Ok (ask.Read what n)) c a.2 in
     let name = name_ok a.0 b.0 b.1 in
-    subst (AskFor (word ∷ args)) (ok_is (ask.Get b.0) c b.2)
-    ((w, only_ok of.Get args a.0 a.1 ∙ ap (λ (n : List ℕ). n ∷ []) name.0), name.1)
+    subst (AskFor (word ∷ args)) (ok_is (ask.Read what b.0) c b.2)
+    ((w, only_ok from args a.0 a.1 ∙ ap (λ (n : List ℕ). n ∷ []) name.0), name.1)
+
+exists_ok : (word : List ℕ) (args : Strings) (c : Command) → IsTrue (is_word word (codes "exists"))
+    → exists_from args ≡ Ok c → AskFor (word ∷ args) c
+unfolding exists_from
+exists_ok word args c w e =
+    let a = guarded_above (ltb 1 (length args)) SeveralNames (read_from of.Exists wanted.Existence args) c e in
+    read_ok of.Exists wanted.Existence word args c w a.1
+
+select_ok : (word : List ℕ) (args : Strings) (c : Command) → IsTrue (is_word word (codes "select"))
+    → select_from args ≡ Ok c → AskFor (word ∷ args) c
+unfolding select_from
+select_ok word args c w e =
+    let a = bind_ok (only_argument of.Select args) (λ (i : List ℕ). cond (bytes_eq i (codes "0")) (Ok ask.Select) (Err NoDatabase)) c e in
+    let b = guarded (bytes_eq a.0 (codes "0")) (Ok ask.Select) NoDatabase c a.2 in
+    subst (AskFor (word ∷ args)) (ok_is ask.Select c b.1)
+    (w, only_ok of.Select args a.0 a.1 ∙ ap (λ (i : List ℕ). i ∷ []) ((bytes_eq-Decides a.0 (codes "0")).0 b.0))
+
+unless_ok : (fault : Option CommandFault) (command c : Command) → unless fault command ≡ Ok c → (fault ≡ None) × (command ≡ c)
+unless_ok None command c e = (refl, ok_is command c e)
+unless_ok (Some fault) command c e = absurd cc
+
+hello_ok : (word : List ℕ) (args : Strings) (c : Command) → IsTrue (is_word word (codes "hello"))
+    → unless (hello_fault args) ask.Hello ≡ Ok c → AskFor (word ∷ args) c
+hello_ok word args c w e =
+    let a = unless_ok (hello_fault args) ask.Hello c e in subst (AskFor (word ∷ args)) a.1 (w, a.0)
+
+login_ok : (word : List ℕ) (args : Strings) (c : Command) → IsTrue (is_word word (codes "auth"))
+    → unless (login_fault args) ask.Login ≡ Ok c → AskFor (word ∷ args) c
+login_ok word args c w e =
+    let a = unless_ok (login_fault args) ask.Login c e in subst (AskFor (word ∷ args)) a.1 (w, a.0)
+
+-- what COMMAND COUNT with these further words asks
+abbrev counted_list : Strings → Found
+counted_list rest = cond (eqb (length rest) 0) (Ok ask.CountCommands) (Err (WrongCount of.Command))
+
+list_ok : (word : List ℕ) (args : Strings) (c : Command) → IsTrue (is_word word (codes "command"))
+    → list_from args ≡ Ok c → AskFor (word ∷ args) c
+unfolding list_from
+list_ok word [] c w e = subst (AskFor (word ∷ [])) (ok_is ask.ListCommands c e) (w, refl)
+list_ok word (what ∷ more) c w e = go (is_word what (codes "count")) refl more e
+  where
+    counts : (rest : Strings) → is_word what (codes "count") ≡ true → counted_list rest ≡ Ok c → AskFor (word ∷ what ∷ rest) c
+    counts [] t f = subst (AskFor (word ∷ what ∷ [])) (ok_is ask.CountCommands c f) (w, t)
+    counts (other ∷ rest) t f =
+        let h = guarded (eqb (length (other ∷ rest)) 0) (Ok ask.CountCommands) (WrongCount of.Command) c f in
+        let none : length (other ∷ rest) ≡ 0 = eqb-true (length (other ∷ rest)) 0 h.0 in
+        absurd (cc)
+
+    go : (b : Bool) → is_word what (codes "count") ≡ b → (rest : Strings)
+        → cond b (counted_list rest) (Ok ask.ListCommands) ≡ Ok c → AskFor (word ∷ what ∷ rest) c
+    go true t rest f = counts rest t f
+    go false t rest f = subst (AskFor (word ∷ what ∷ rest)) (ok_is ask.ListCommands c f) (w, t)
 
 set_ok : (word : List ℕ) (args : Strings) (c : Command) → IsTrue (is_word word (codes "set"))
     → set_from args ≡ Ok c → AskFor (word ∷ args) c
@@ -80,9 +139,11 @@ counted_ok count wanted command c e =
     let a = guarded (eqb count wanted) (Ok command) (WrongCount of.Client) c e in
     (eqb-true count wanted a.0, ok_is command c a.1)
 
+abbrev after_info : List ℕ → ℕ → Found
+after_info what count = cond (is_word what (codes "getname")) (counted count 0 ask.ClientName) (Err UnknownSubcommand)
+
 abbrev after_name : List ℕ → ℕ → Found
-after_name what count =
-    cond (is_word what (codes "setinfo")) (counted count 2 ask.DescribeClient) (Err UnknownSubcommand)
+after_name what count = cond (is_word what (codes "setinfo")) (counted count 2 ask.DescribeClient) (after_info what count)
 
 abbrev after_id : List ℕ → ℕ → Found
 after_id what count = cond (is_word what (codes "setname")) (counted count 1 ask.DescribeClient) (after_name what count)
@@ -97,27 +158,35 @@ client_ok word (what ∷ rest) c w e =
       | inl h ↦ let k = counted_ok n 0 ask.ClientId c h.1 in subst (AskFor (word ∷ what ∷ rest)) k.1 (w, h.0, k.0)
       | inr f ↦ elim (chosen (is_word what (codes "setname")) (counted n 1 ask.DescribeClient) (after_name what n) c f) [
         | inl h ↦ let k = counted_ok n 1 ask.DescribeClient c h.1 in subst (AskFor (word ∷ what ∷ rest)) k.1 (inl (w, h.0, k.0))
-        | inr g ↦
-            let h = guarded (is_word what (codes "setinfo")) (counted n 2 ask.DescribeClient) UnknownSubcommand c g in
-            let k = counted_ok n 2 ask.DescribeClient c h.1 in
-            subst (AskFor (word ∷ what ∷ rest)) k.1 (inr (w, h.0, k.0))
+        | inr g ↦ elim (chosen (is_word what (codes "setinfo")) (counted n 2 ask.DescribeClient) (after_info what n) c g) [
+          | inl h ↦ let k = counted_ok n 2 ask.DescribeClient c h.1 in subst (AskFor (word ∷ what ∷ rest)) k.1 (inr (w, h.0, k.0))
+          | inr i ↦
+              let h = guarded (is_word what (codes "getname")) (counted n 0 ask.ClientName) UnknownSubcommand c i in
+              let k = counted_ok n 0 ask.ClientName c h.1 in
+              subst (AskFor (word ∷ what ∷ rest)) k.1 (w, h.0, k.0)
+        ]
       ]
     ]
 
 from_ok : (name : CommandName) (word : List ℕ) (args : Strings) (c : Command) → IsTrue (is_word word (command_text name))
     → command_from name args ≡ Ok c → AskFor (word ∷ args) c
-from_ok of.Get word args c w e = get_ok word args c w e
+from_ok of.Get word args c w e = read_ok of.Get wanted.Value word args c w e
 from_ok of.Set word args c w e = set_ok word args c w e
 from_ok of.Move word args c w e = move_ok word args c w e
 from_ok of.Info word args c w e = subst (AskFor (word ∷ args)) (ok_is ask.Info c e) w
 from_ok of.Ping word args c w e = ping_ok word args c w e
 from_ok of.Echo word args c w e = echo_ok word args c w e
-from_ok of.Command word args c w e = subst (AskFor (word ∷ args)) (ok_is ask.ListCommands c e) w
+from_ok of.Command word args c w e = list_ok word args c w e
 from_ok of.Client word args c w e = client_ok word args c w e
 from_ok of.Quit word args c w e = subst (AskFor (word ∷ args)) (ok_is ask.Quit c e) w
+from_ok of.Hello word args c w e = hello_ok word args c w e
+from_ok of.Select word args c w e = select_ok word args c w e
+from_ok of.Auth word args c w e = login_ok word args c w e
+from_ok of.Exists word args c w e = exists_ok word args c w e
+from_ok of.Strlen word args c w e = read_ok of.Strlen wanted.Length word args c w e
 
 named_case : (found : Option CommandName) (word : List ℕ) (args : Strings) (c : Command) → name_of_word word ≡ found
-    → command_named found args ≡ Ok c → AskFor (word ∷ args) c
+    → command_named word found args ≡ Ok c → AskFor (word ∷ args) c
 named_case None word args c w e = absurd cc
 named_case (Some name) word args c w e = from_ok name word args c (named_ok word name w) e
 
@@ -131,11 +200,39 @@ command_ok (word ∷ args) c e = named_case (name_of_word word) word args c refl
 by_name : (word : List ℕ) (args : Strings) (name : CommandName) → IsTrue (is_word word (command_text name))
     → command_at (word ∷ args) ≡ command_from name args
 unfolding command_at
-by_name word args name w = ap (λ (found : Option CommandName). command_named found args) (named_again word name w)
+by_name word args name w = ap (λ (found : Option CommandName). command_named word found args) (named_again word name w)
 
-get_again : (name : List ℕ) → IsShortName name → get_from (name ∷ []) ≡ Ok (ask.Get name)
-unfolding get_from
-get_again name h = ap (λ (r : Read). and_then r (λ (n : List ℕ). Ok (ask.Get n))) (name_again name h)
+read_again : (from : CommandName) (what : Wanted) (name : List ℕ) → IsShortName name
+    → read_from from what (name ∷ []) ≡ Ok (ask.Read what name)
+unfolding read_from
+read_again from what name h = ap (λ (r : Read). and_then r (λ (n : List ℕ). Ok (ask.Read what n))) (name_again name h)
+
+exists_again : (name : List ℕ) → IsShortName name → exists_from (name ∷ []) ≡ Ok (ask.Read wanted.Existence name)
+unfolding exists_from
+exists_again name h = read_again of.Exists wanted.Existence name h
+
+select_again : select_from (codes "0" ∷ []) ≡ Ok ask.Select
+unfolding select_from
+select_again = refl
+
+-- what COMMAND with further words asks, by the first of them in small letters
+abbrev list_by : List ℕ → Strings → Found
+list_by small more =
+    cond (bytes_eq small (str_to_ascii_lowercase (codes "count")))
+    (cond (eqb (length more) 0) (Ok ask.CountCommands) (Err (WrongCount of.Command))) (Ok ask.ListCommands)
+
+count_again : (what : List ℕ) → IsTrue (is_word what (codes "count")) → list_from (what ∷ []) ≡ Ok ask.CountCommands
+unfolding list_from
+count_again what w = ap (λ (small : List ℕ). list_by small []) (small_is what (codes "count") w)
+
+list_again : (what : List ℕ) (more : Strings) → is_word what (codes "count") ≡ false → list_from (what ∷ more) ≡ Ok ask.ListCommands
+unfolding list_from
+list_again what more f =
+    ap (λ b. cond b (cond (eqb (length more) 0) (Ok ask.CountCommands) (Err (WrongCount of.Command))) (Ok ask.ListCommands)) f
+
+no_word_again : list_from [] ≡ Ok ask.ListCommands
+unfolding list_from
+no_word_again = refl
 
 set_again : (name value : List ℕ) → IsShortName name → IsShortValue value → set_from (name ∷ value ∷ []) ≡ Ok (ask.Set name value)
 unfolding set_from
@@ -165,7 +262,8 @@ abbrev by_small : List ℕ → ℕ → Found
 by_small small count =
     cond (bytes_eq small (str_to_ascii_lowercase (codes "id"))) (counted count 0 ask.ClientId)
     (cond (bytes_eq small (str_to_ascii_lowercase (codes "setname"))) (counted count 1 ask.DescribeClient)
-    (cond (bytes_eq small (str_to_ascii_lowercase (codes "setinfo"))) (counted count 2 ask.DescribeClient) (Err UnknownSubcommand)))
+    (cond (bytes_eq small (str_to_ascii_lowercase (codes "setinfo"))) (counted count 2 ask.DescribeClient)
+    (cond (bytes_eq small (str_to_ascii_lowercase (codes "getname"))) (counted count 0 ask.ClientName) (Err UnknownSubcommand))))
 
 client_again : (what text : List ℕ) (rest : Strings) (count : ℕ) → IsTrue (is_word what text) → length rest ≡ count
     → client_from (what ∷ rest) ≡ by_small (str_to_ascii_lowercase text) count
@@ -189,13 +287,37 @@ says : (name : CommandName) (wanted strings : Strings) (c : Command) → AreWord
 says name wanted [] c h e = absurd h
 says name wanted (word ∷ args) c h e = by_name word args name h.0 ∙ ap (λ (s : Strings). command_from name s) h.1 ∙ e
 
+word_and : (name : CommandName) (Holds : Strings → Type 0) (strings : Strings) (c : Command)
+    → AreWordAnd (command_text name) Holds strings → ((args : Strings) → Holds args → command_from name args ≡ Ok c) → Answers strings c
+word_and name Holds [] c h e = absurd h
+word_and name Holds (word ∷ args) c h e = by_name word args name h.0 ∙ e args h.1
+
+lists : (strings : Strings) → Begins (codes "command") strings → counts_commands strings ≡ false → Answers strings ask.ListCommands
+lists [] h f = absurd h
+lists (word ∷ []) h f = by_name word [] of.Command h ∙ no_word_again
+lists (word ∷ what ∷ more) h f = by_name word (what ∷ more) of.Command h ∙ list_again what more f
+
+counts : (strings : Strings) → AreTwoWords (codes "command") (codes "count") strings → Answers strings ask.CountCommands
+counts [] h = absurd h
+counts (word ∷ []) h = absurd h
+counts (word ∷ what ∷ []) h = by_name word (what ∷ []) of.Command h.0 ∙ count_again what h.1
+counts (word ∷ what ∷ other ∷ more) h = absurd h
+
+reads : (what : Wanted) (name : List ℕ) (strings : Strings) → AreWordAndRest (reading_word what) (name ∷ []) strings
+    → IsShortName name → Answers strings (ask.Read what name)
+reads wanted.Value name strings h i = says of.Get (name ∷ []) strings (ask.Read wanted.Value name) h (read_again of.Get wanted.Value name i)
+reads wanted.Length name strings h i =
+    says of.Strlen (name ∷ []) strings (ask.Read wanted.Length name) h (read_again of.Strlen wanted.Length name i)
+reads wanted.Existence name strings h i =
+    says of.Exists (name ∷ []) strings (ask.Read wanted.Existence name) h (exists_again name i)
+
 begins : (name : CommandName) (strings : Strings) (c : Command) → Begins (command_text name) strings
     → ((args : Strings) → command_from name args ≡ Ok c) → Answers strings c
 begins name [] c h e = absurd h
 begins name (word ∷ args) c h e = by_name word args name h ∙ e args
 
 pub command_again : (strings : Strings) (c : Command) → AskFor strings c → command_at strings ≡ Ok c
-command_again strings (ask.Get name) h = says of.Get (name ∷ []) strings (ask.Get name) h.0 (get_again name h.1)
+command_again strings (ask.Read what name) h = reads what name strings h.0 h.1
 command_again strings (ask.Set name value) h =
     says of.Set (name ∷ value ∷ []) strings (ask.Set name value) h.0 (set_again name value h.1 h.2)
 command_again strings (ask.Move name l) h =
@@ -204,10 +326,17 @@ command_again strings ask.Info h = begins of.Info strings ask.Info h (λ args. r
 command_again strings (ask.Ping None) h = says of.Ping [] strings (ask.Ping None) h no_text_again
 command_again strings (ask.Ping (Some text)) h = says of.Ping (text ∷ []) strings (ask.Ping (Some text)) h (ping_again text)
 command_again strings (ask.Echo text) h = says of.Echo (text ∷ []) strings (ask.Echo text) h (echo_again text)
-command_again strings ask.ListCommands h = begins of.Command strings ask.ListCommands h (λ args. refl)
+command_again strings ask.ListCommands h = lists strings h.0 h.1
+command_again strings ask.CountCommands h = counts strings h
 command_again strings ask.ClientId h = client_answers (codes "id") 0 strings ask.ClientId h refl
 command_again strings ask.DescribeClient (inl h) = client_answers (codes "setname") 1 strings ask.DescribeClient h refl
 command_again strings ask.DescribeClient (inr h) = client_answers (codes "setinfo") 2 strings ask.DescribeClient h refl
+command_again strings ask.ClientName h = client_answers (codes "getname") 0 strings ask.ClientName h refl
+command_again strings ask.Hello h =
+    word_and of.Hello (λ words. hello_fault words ≡ None) strings ask.Hello h (λ args f. ap (λ fault. unless fault ask.Hello) f)
+command_again strings ask.Select h = says of.Select (codes "0" ∷ []) strings ask.Select h select_again
+command_again strings ask.Login h =
+    word_and of.Auth (λ words. login_fault words ≡ None) strings ask.Login h (λ args f. ap (λ fault. unless fault ask.Login) f)
 command_again strings ask.Quit h = begins of.Quit strings ask.Quit h (λ args. refl)
 
 -- ---- what was read

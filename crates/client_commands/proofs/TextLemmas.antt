@@ -12,8 +12,8 @@ use Rattle.std.proofs.lemmas.Str.Parse.{IsNumeralModel, numerals_by_value}
 use Rattle.tag.specs.Refusal.{number_of, name_of, refusal_text}
 use Rattle.tag.specs.declared.refusal.Refusal.{Refusal}
 use Rattle.tag.specs.declared.refusal.Refusal.TheVariants as refusal
-use Rattle.client_commands.specs.Laws.{is_printable, ErrorTextsArePrintable}
-use Rattle.client_commands.specs.Texts.{fault_text, error_text}
+use Rattle.client_commands.specs.Laws.{is_printable, HasNodeNumber, ErrorTextsArePrintable}
+use Rattle.client_commands.specs.Texts.{fault_code, fault_text, error_code, error_text}
 use Rattle.client_commands.specs.declared.answer.AnswerError.{AnswerError}
 use Rattle.client_commands.specs.declared.answer.AnswerError.TheVariants as error
 use Rattle.client_commands.specs.declared.command.CommandName.{CommandName}
@@ -24,15 +24,15 @@ use Rattle.client_commands.specs.declared.fault.CommandFault.TheVariants as faul
 abbrev IsPrintable : List ℕ → Type 0
 IsPrintable text = list_all is_printable text ≡ true
 
--- at most 100 bytes, all of them printable
+-- at most 150 bytes, all of them printable
 pub record IsText (text : List ℕ) : Type 0 where
   pub printable : IsPrintable text
-  pub short : length text ≤ 100
+  pub short : length text ≤ 150
 
-is_text : (text : List ℕ) → (list_all is_printable text && leb (length text) 100) ≡ true → IsText text
+is_text : (text : List ℕ) → (list_all is_printable text && leb (length text) 150) ≡ true → IsText text
 is_text text e =
-    let p = and_parts (list_all is_printable text) (leb (length text) 100) e in
-    record { printable = p.0; short = leb-true (length text) 100 p.1 }
+    let p = and_parts (list_all is_printable text) (leb (length text) 150) e in
+    record { printable = p.0; short = leb-true (length text) 150 p.1 }
 
 count_text : (name : CommandName) → IsText (fault_text (fault.WrongCount name))
 count_text of.Get = is_text _ refl
@@ -44,11 +44,23 @@ count_text of.Echo = is_text _ refl
 count_text of.Command = is_text _ refl
 count_text of.Client = is_text _ refl
 count_text of.Quit = is_text _ refl
+count_text of.Hello = is_text _ refl
+count_text of.Select = is_text _ refl
+count_text of.Auth = is_text _ refl
+count_text of.Exists = is_text _ refl
+count_text of.Strlen = is_text _ refl
 
 fault_is_text : (f : CommandFault) → IsText (fault_text f)
 fault_is_text fault.UnknownCommand = is_text _ refl
 fault_is_text fault.UnknownSubcommand = is_text _ refl
 fault_is_text (fault.WrongCount name) = count_text name
+fault_is_text fault.NoDatabase = is_text _ refl
+fault_is_text fault.NoProtocol = is_text _ refl
+fault_is_text fault.NoPassword = is_text _ refl
+fault_is_text fault.WrongUser = is_text _ refl
+fault_is_text fault.NoExpiry = is_text _ refl
+fault_is_text fault.NoCondition = is_text _ refl
+fault_is_text fault.SeveralNames = is_text _ refl
 fault_is_text fault.SyntaxError = is_text _ refl
 fault_is_text fault.NameTooLong = is_text _ refl
 fault_is_text fault.ValueTooLong = is_text _ refl
@@ -78,7 +90,7 @@ both_printable : (a b : List ℕ) → IsPrintable a → IsPrintable b → IsPrin
 both_printable a b e f = list_all-append is_printable a b ∙ and_from (list_all is_printable a) (list_all is_printable b) e f
 
 numbered : (r : Refusal) → number_of r < 100 → (list_all is_printable (32 ∷ name_of r) && leb (length (32 ∷ name_of r)) 50) ≡ true
-    → IsText (error_text (error.Refused r))
+    → IsText (codes "refused: " ++ refusal_text r)
 numbered r lt e =
     let n = number_of r in
     let p = and_parts (list_all is_printable (32 ∷ name_of r)) (leb (length (32 ∷ name_of r)) 50) e in
@@ -97,26 +109,85 @@ refusal_is_text refusal.NoMemory = numbered refusal.NoMemory (omega arith) refl
 refusal_is_text refusal.BadLayout = numbered refusal.BadLayout (omega arith) refl
 refusal_is_text refusal.NoObject = numbered refusal.NoObject (omega arith) refl
 refusal_is_text refusal.ObjectExists = numbered refusal.ObjectExists (omega arith) refl
-refusal_is_text refusal.TooLong = numbered refusal.TooLong (omega arith) refl
+refusal_is_text refusal.TooLong = is_text _ refl
 refusal_is_text refusal.NoCall = numbered refusal.NoCall (omega arith) refl
-refusal_is_text refusal.NotNow = numbered refusal.NotNow (omega arith) refl
+refusal_is_text refusal.NotNow = is_text _ refl
 refusal_is_text refusal.NoMessage = numbered refusal.NoMessage (omega arith) refl
 refusal_is_text refusal.Down = numbered refusal.Down (omega arith) refl
 refusal_is_text refusal.WrongCode = numbered refusal.WrongCode (omega arith) refl
-refusal_is_text refusal.MovePending = numbered refusal.MovePending (omega arith) refl
-refusal_is_text refusal.Full = numbered refusal.Full (omega arith) refl
+refusal_is_text refusal.MovePending = is_text _ refl
+refusal_is_text refusal.Full = is_text _ refl
 refusal_is_text refusal.Stuck = numbered refusal.Stuck (omega arith) refl
 refusal_is_text refusal.GaveUp = numbered refusal.GaveUp (omega arith) refl
 refusal_is_text refusal.BadPieces = numbered refusal.BadPieces (omega arith) refl
 refusal_is_text refusal.Collected = numbered refusal.Collected (omega arith) refl
 refusal_is_text refusal.Stranger = numbered refusal.Stranger (omega arith) refl
 
-pub error_is_text : (e : AnswerError) → IsText (error_text e)
-error_is_text (error.Fault f) = fault_is_text f
-error_is_text (error.Refused r) = refusal_is_text r
-error_is_text error.NoQuorum = is_text _ refl
-error_is_text error.NotMover = is_text _ refl
-error_is_text error.Protocol = is_text _ refl
+-- ---- the number of a node within a text
+
+-- a text with the number of a node between two others
+node_is_text : (front back : List ℕ) (node : ℕ) → node < 2 ^ 8 → (list_all is_printable front && leb (length front) 60) ≡ true
+    → (list_all is_printable back && leb (length back) 30) ≡ true → IsText (front ++ decimal node ++ back)
+node_is_text front back node lt f b =
+    let p = and_parts (list_all is_printable front) (leb (length front) 60) f in
+    let q = and_parts (list_all is_printable back) (leb (length back) 30) b in
+    let before : length front ≤ 60 = leb-true (length front) 60 p.1 in
+    let behind : length back ≤ 30 = leb-true (length back) 30 q.1 in
+    let small : node < 2 ^ 64 = omega (arith, lt) in
+    let digits : length (decimal node) ≤ 3 = length-decimal-le 3 node (omega arith) (omega (arith, lt)) small in
+    record {
+      printable = both_printable (front ++ decimal node) back
+          (both_printable front (decimal node) p.0 (digits_printable (decimal node) (digits_decimal numerals node small))) q.0;
+      short = omega (arith, length-append (front ++ decimal node) back, length-append front (decimal node));
+    }
+
+pub error_is_text : (e : AnswerError) → HasNodeNumber e → IsText (error_text e)
+error_is_text (error.Fault f) has = fault_is_text f
+error_is_text (error.Refused r) has = refusal_is_text r
+error_is_text error.NoQuorum has = is_text _ refl
+error_is_text error.NotMover has = is_text _ refl
+error_is_text (error.NoSuchNode node) has = node_is_text (codes "node ") (codes " is not in the cluster file") node has refl refl
+error_is_text (error.TooFewHeard node) has =
+    node_is_text (codes "fewer than a quorum of the new nodes answer: node ") (codes " is not heard") node has refl refl
+error_is_text error.Protocol has = is_text _ refl
+
+-- at most 9 bytes, all of them printable
+abbrev pub IsCode : List ℕ → Type 0
+IsCode code = (list_all is_printable code && leb (length code) 9) ≡ true
+
+fault_has_code : (f : CommandFault) → IsCode (fault_code f)
+fault_has_code fault.UnknownCommand = refl
+fault_has_code fault.UnknownSubcommand = refl
+fault_has_code (fault.WrongCount name) = refl
+fault_has_code fault.NoDatabase = refl
+fault_has_code fault.NoProtocol = refl
+fault_has_code fault.NoPassword = refl
+fault_has_code fault.WrongUser = refl
+fault_has_code fault.NoExpiry = refl
+fault_has_code fault.NoCondition = refl
+fault_has_code fault.SeveralNames = refl
+fault_has_code fault.SyntaxError = refl
+fault_has_code fault.NameTooLong = refl
+fault_has_code fault.ValueTooLong = refl
+fault_has_code fault.BadNumber = refl
+fault_has_code fault.OutOfRange = refl
+fault_has_code fault.BadLayout = refl
+
+has_code : (e : AnswerError) → IsCode (error_code e)
+has_code (error.Fault f) = fault_has_code f
+has_code (error.Refused r) = refl
+has_code error.NoQuorum = refl
+has_code error.NotMover = refl
+has_code (error.NoSuchNode node) = refl
+has_code (error.TooFewHeard node) = refl
+has_code error.Protocol = refl
+
+pub code_is_short : (e : AnswerError) → length (error_code e) ≤ 9
+code_is_short e =
+    leb-true (length (error_code e)) 9 (and_parts (list_all is_printable (error_code e)) (leb (length (error_code e)) 9) (has_code e)).1
 
 pub printable : ErrorTextsArePrintable
-printable e = (error_is_text e).printable
+printable e has = (
+  (and_parts (list_all is_printable (error_code e)) (leb (length (error_code e)) 9) (has_code e)).0,
+  (error_is_text e has).printable,
+)

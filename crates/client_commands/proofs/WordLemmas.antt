@@ -41,6 +41,11 @@ each_name of.Echo = refl
 each_name of.Command = refl
 each_name of.Client = refl
 each_name of.Quit = refl
+each_name of.Hello = refl
+each_name of.Select = refl
+each_name of.Auth = refl
+each_name of.Exists = refl
+each_name of.Strlen = refl
 
 by_small : (word : List ℕ) → name_of_word word ≡ named_by (str_to_ascii_lowercase word)
 unfolding name_of_word

@@ -1,12 +1,14 @@
 -- The contracts that docs/trusted.md lists do not depend on this file; other contracts and proofs do.
 -- Which strings ask for which command.
-use Rattle.std.specs.Prelude.{◌≡◌, ◌≤◌, ◌⊎◌, ℕ, List, [], ◌∷◌, map, length, Option, Some, None, IsTrue, codes}
+use Rattle.std.specs.Prelude.{◌≡◌, ◌≤◌, ◌⊎◌, ℕ, Bool, false, List, [], ◌∷◌, map, length, Option, Some, None}
+use Rattle.std.specs.Prelude.{IsTrue, codes}
 use Rattle.std.specs.List.{AllByRecursion}
 use Rattle.std.specs.Fmt.{decimal}
 use Rattle.tag.specs.declared.limits.TheConstants.{LONGEST_NAME, LONGEST_VALUE}
 use Rattle.layout.specs.Layout.{Layout, IsLawful}
 use Rattle.node_strings.specs.Strings.{Strings}
-use Rattle.client_commands.specs.Words.{is_word}
+use Rattle.client_commands.specs.Arguments.{hello_fault, login_fault}
+use Rattle.client_commands.specs.Words.{is_word, reading_word}
 use Rattle.client_commands.specs.declared.command.Command.{Command}
 use Rattle.client_commands.specs.declared.command.Command.TheVariants as ask
 
@@ -19,6 +21,21 @@ AreWordAndRest text rest (word ∷ strings) = IsTrue (is_word word text) × (str
 abbrev pub Begins : List ℕ → Strings → Type 0
 Begins text [] = ⊥
 Begins text (word ∷ strings) = IsTrue (is_word word text)
+
+-- the first string is this word, in capital or small letters, and this holds of the strings after it
+abbrev pub AreWordAnd : List ℕ → (Strings → Type 0) → Strings → Type 0
+AreWordAnd text Holds [] = ⊥
+AreWordAnd text Holds (word ∷ strings) = IsTrue (is_word word text) × Holds strings
+
+-- the strings are these two words, in capital or small letters
+abbrev pub AreTwoWords : (first second : List ℕ) → Strings → Type 0
+AreTwoWords first second (one ∷ two ∷ []) = IsTrue (is_word one first) × IsTrue (is_word two second)
+AreTwoWords first second strings = ⊥
+
+-- whether the second string is COUNT, in capital or small letters
+abbrev pub counts_commands : Strings → Bool
+counts_commands (word ∷ what ∷ strings) = is_word what (codes "count")
+counts_commands strings = false
 
 -- a name is within its limit
 abbrev pub IsShortName : List ℕ → Type 0
@@ -50,7 +67,8 @@ SaysOfClient text count (word ∷ what ∷ strings) =
 
 -- the strings ask for this command
 abbrev pub AskFor : Strings → Command → Type 0
-AskFor strings (ask.Get name) = AreWordAndRest (codes "get") (name ∷ []) strings × IsShortName name
+AskFor strings (ask.Read wanted name) =
+    AreWordAndRest (reading_word wanted) (name ∷ []) strings × IsShortName name
 AskFor strings (ask.Set name value) =
     AreWordAndRest (codes "set") (name ∷ value ∷ []) strings × IsShortName name × IsShortValue value
 AskFor strings (ask.Move name layout) =
@@ -59,7 +77,12 @@ AskFor strings (ask.Move name layout) =
 AskFor strings ask.Info = Begins (codes "info") strings
 AskFor strings (ask.Ping text) = AreWordAndRest (codes "ping") (text_strings text) strings
 AskFor strings (ask.Echo text) = AreWordAndRest (codes "echo") (text ∷ []) strings
-AskFor strings ask.ListCommands = Begins (codes "command") strings
+AskFor strings ask.ListCommands = Begins (codes "command") strings × (counts_commands strings ≡ false)
+AskFor strings ask.CountCommands = AreTwoWords (codes "command") (codes "count") strings
 AskFor strings ask.ClientId = SaysOfClient (codes "id") 0 strings
 AskFor strings ask.DescribeClient = SaysOfClient (codes "setname") 1 strings ⊎ SaysOfClient (codes "setinfo") 2 strings
+AskFor strings ask.ClientName = SaysOfClient (codes "getname") 0 strings
+AskFor strings ask.Hello = AreWordAnd (codes "hello") (λ words. hello_fault words ≡ None) strings
+AskFor strings ask.Select = AreWordAndRest (codes "select") (codes "0" ∷ []) strings
+AskFor strings ask.Login = AreWordAnd (codes "auth") (λ words. login_fault words ≡ None) strings
 AskFor strings ask.Quit = Begins (codes "quit") strings

@@ -1,5 +1,5 @@
 ghost use Rattle.std.specs.Prelude.{◌≡◌, Some};
-ghost use Rattle.client_commands.specs.Words.{command_text};
+ghost use Rattle.client_commands.specs.Words.{command_text, count_of_names};
 
 use bytes::Bytes;
 use layout::Layout;
@@ -8,8 +8,8 @@ use std::fmt;
 /// A client's command. The names, the values and the texts are strings of the frame, and no byte of them is copied.
 #[derive(Debug, PartialEq, Eq, Drop)]
 pub enum Command {
-    /// `GET name`: the value of a name.
-    Get(Bytes),
+    /// `GET name`, `STRLEN name` or `EXISTS name`: reads a name, and tells this of its value.
+    Read { wanted: Wanted, name: Bytes },
     /// `SET name value`: gives a name a value.
     Set { name: Bytes, value: Bytes },
     /// `MOVE name k node ..`: moves a name to the layout of this k and these nodes.
@@ -22,13 +22,34 @@ pub enum Command {
     Echo(Bytes),
     /// `COMMAND`: the list of commands, which is empty.
     ListCommands,
+    /// `COMMAND COUNT`: how many commands a node has.
+    CountCommands,
     /// `CLIENT ID`: the number of the connection.
     ClientId,
     /// `CLIENT SETNAME text` or `CLIENT SETINFO text text`: what the client tells about itself. A node does not keep
     /// it.
     DescribeClient,
+    /// `CLIENT GETNAME`: the name of the connection, which a node does not keep.
+    ClientName,
+    /// `HELLO` or `HELLO 2 ..`: what the node is, and that it speaks RESP2.
+    Hello,
+    /// `SELECT 0`: the only database.
+    Select,
+    /// `AUTH default password`: a node has no password, so any one is right.
+    Login,
     /// `QUIT`: the end of the connection.
     Quit,
+}
+
+/// What a client wants to know of a value that it reads.
+#[derive(Clone, Copy, Debug, PartialEq, Eq)]
+pub enum Wanted {
+    /// The value itself.
+    Value,
+    /// The number of its bytes.
+    Length,
+    /// Whether there is one: 1 if the name was ever written, and 0 otherwise.
+    Existence,
 }
 
 /// The first word of a command.
@@ -43,6 +64,11 @@ pub enum CommandName {
     Command,
     Client,
     Quit,
+    Hello,
+    Select,
+    Auth,
+    Exists,
+    Strlen,
 }
 
 impl CommandName {
@@ -60,8 +86,20 @@ impl CommandName {
             CommandName::Command => "command",
             CommandName::Client => "client",
             CommandName::Quit => "quit",
+            CommandName::Hello => "hello",
+            CommandName::Select => "select",
+            CommandName::Auth => "auth",
+            CommandName::Exists => "exists",
+            CommandName::Strlen => "strlen",
         }
     }
+}
+
+/// Returns how many names of commands there are.
+pub fn count_names() -> u64
+    ensures { result ≡ count_of_names }
+{
+    14
 }
 
 /// The name in small letters.

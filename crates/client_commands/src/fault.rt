@@ -1,5 +1,5 @@
-ghost use Rattle.std.specs.Prelude.{Some};
-ghost use Rattle.client_commands.specs.Texts.{fault_text};
+ghost use Rattle.std.specs.Prelude.{◌≡◌, Some};
+ghost use Rattle.client_commands.specs.Texts.{fault_code, fault_text};
 
 use crate::command::CommandName;
 use std::error::Error;
@@ -11,11 +11,25 @@ use std::fmt;
 pub enum CommandFault {
     /// The first string names no command, or there is none.
     UnknownCommand,
-    /// The string after `CLIENT` is not `ID`, `SETNAME` or `SETINFO`.
+    /// The string after `CLIENT` is not `ID`, `SETNAME`, `SETINFO` or `GETNAME`.
     UnknownSubcommand,
     /// The command of this name has another number of arguments.
     WrongCount(CommandName),
-    /// There are arguments after the value of a `SET`. Redis has options there, and a node has none.
+    /// `SELECT` with another word than `0`.
+    NoDatabase,
+    /// `HELLO` with another version of the protocol than 2.
+    NoProtocol,
+    /// `AUTH` with a password alone: a node has none.
+    NoPassword,
+    /// `AUTH`, or the `AUTH` of a `HELLO`, with another user than `default`.
+    WrongUser,
+    /// A command that gives a value a time to live, or an option of `SET` that does.
+    NoExpiry,
+    /// A command whose write depends on the value before it, or an option of `SET` that makes it so.
+    NoCondition,
+    /// A command on several names.
+    SeveralNames,
+    /// There are other words where a `SET`, a `HELLO` or an `AUTH` may have options.
     SyntaxError,
     /// The name is longer than `LONGEST_NAME`.
     NameTooLong,
@@ -40,6 +54,24 @@ impl fmt::Display for CommandFault {
             CommandFault::WrongCount(name) => {
                 write!(f, "wrong number of arguments for '{name}' command")
             }
+            CommandFault::NoDatabase => f.write_str("DB index is out of range"),
+            CommandFault::NoProtocol => f.write_str("unsupported protocol version"),
+            CommandFault::NoPassword => f.write_str(
+                "AUTH <password> called without any password configured for the default user. \
+                Are you sure your configuration is correct?",
+            ),
+            CommandFault::WrongUser => {
+                f.write_str("invalid username-password pair or user is disabled.")
+            }
+            CommandFault::NoExpiry => {
+                f.write_str("values do not expire in this store; nothing was changed")
+            }
+            CommandFault::NoCondition => f.write_str(
+                "a write does not depend on the value before it in this store; nothing was changed",
+            ),
+            CommandFault::SeveralNames => {
+                f.write_str("a command has one name in this store; nothing was done")
+            }
             CommandFault::SyntaxError => f.write_str("syntax error"),
             CommandFault::NameTooLong => f.write_str("name too long"),
             CommandFault::ValueTooLong => f.write_str("value too long"),
@@ -51,3 +83,16 @@ impl fmt::Display for CommandFault {
 }
 
 impl Error for CommandFault {}
+
+impl CommandFault {
+    /// Returns the word with which the line of the fault begins, as Redis has it.
+    pub fn code(self) -> &'static str
+        ensures { result.now ≡ fault_code self }
+    {
+        match self {
+            CommandFault::NoProtocol => "NOPROTO",
+            CommandFault::WrongUser => "WRONGPASS",
+            _ => "ERR",
+        }
+    }
+}

@@ -1,6 +1,6 @@
 ghost use Rattle.client_commands.specs.Laws.{ErrorTextsArePrintable, AnswersHaveFrames};
 
-/// A law: the text of an error consists of printable ASCII characters, so neither CR nor LF is in it.
+/// A law: the code and the text of an error consist of printable ASCII characters, so neither CR nor LF is in them.
 pub fn error_texts_are_printable()
     ensures { ErrorTextsArePrintable }
 {}

@@ -2,7 +2,7 @@
 #![tactic(auto)]
 
 pub use answer::{Answer, AnswerError};
-pub use command::{Command, CommandName};
+pub use command::{Command, CommandName, Wanted, count_names};
 pub use fault::CommandFault;
 pub use laws::{answers_have_frames, error_texts_are_printable};
 pub use reading::read_command;

@@ -5,7 +5,11 @@ ghost use Rattle.client_commands.specs.Command.{AskFor};
 ghost use Rattle.client_commands.specs.Reading.{
   command_at,
   command_from,
-  get_from,
+  read_from,
+  exists_from,
+  select_from,
+  list_from,
+  unless,
   set_from,
   move_from,
   ping_from,
@@ -15,11 +19,14 @@ ghost use Rattle.client_commands.specs.Reading.{
   counted,
 };
 
-use crate::arguments::{checked_name, checked_value, name_and_value, only_argument, take_first};
-use crate::command::{Command, CommandName};
+use crate::arguments::{
+    checked_name, checked_value, hello_fault, is_text, login_fault, name_and_value, only_argument,
+    take_first,
+};
+use crate::command::{Command, CommandName, Wanted};
 use crate::fault::CommandFault;
 use crate::layouts::read_layout;
-use crate::vocabulary::{is_word, name_of};
+use crate::vocabulary::{fault_of, is_word, name_of};
 use bytes::Bytes;
 use frames::Frame;
 
@@ -48,7 +55,7 @@ fn read_strings(mut strings: Vec<Bytes>) -> Result<Command, CommandFault>
     let word = take_first(&mut strings);
     match name_of(&word) {
         Some(name) => read_arguments(name, strings),
-        None => Err(CommandFault::UnknownCommand),
+        None => Err(fault_of(&word)),
     }
 }
 
@@ -57,25 +64,84 @@ fn read_arguments(name: CommandName, arguments: Vec<Bytes>) -> Result<Command, C
     ensures { result ≡ command_from name arguments.items }
 {
     match name {
-        CommandName::Get => read_get(arguments),
+        CommandName::Get => read_name(name, Wanted::Value, arguments),
         CommandName::Set => read_set(arguments),
         CommandName::Move => read_move(arguments),
         CommandName::Info => Ok(Command::Info),
         CommandName::Ping => read_ping(arguments),
         CommandName::Echo => read_echo(arguments),
-        CommandName::Command => Ok(Command::ListCommands),
+        CommandName::Command => read_list(&arguments),
         CommandName::Client => read_client(&arguments),
         CommandName::Quit => Ok(Command::Quit),
+        CommandName::Hello => unless(hello_fault(&arguments), Command::Hello),
+        CommandName::Select => read_select(arguments),
+        CommandName::Auth => unless(login_fault(&arguments), Command::Login),
+        CommandName::Exists => read_exists(arguments),
+        CommandName::Strlen => read_name(name, Wanted::Length, arguments),
     }
 }
 
-#[tactic(auto, unfolding(crate::specs::Reading::get_from))]
-fn read_get(arguments: Vec<Bytes>) -> Result<Command, CommandFault>
-    ensures { result ≡ get_from arguments.items }
+// A command of this word, with which a name is read.
+#[tactic(auto, unfolding(crate::specs::Reading::read_from))]
+fn read_name(
+    word: CommandName,
+    wanted: Wanted,
+    arguments: Vec<Bytes>,
+) -> Result<Command, CommandFault>
+    ensures { result ≡ read_from word wanted arguments.items }
 {
-    let name = only_argument(CommandName::Get, arguments)?;
+    let name = only_argument(word, arguments)?;
     let name = checked_name(name)?;
-    Ok(Command::Get(name))
+    Ok(Command::Read { wanted, name })
+}
+
+#[tactic(auto, unfolding(crate::specs::Reading::exists_from))]
+fn read_exists(arguments: Vec<Bytes>) -> Result<Command, CommandFault>
+    ensures { result ≡ exists_from arguments.items }
+{
+    if arguments.len() > 1 {
+        return Err(CommandFault::SeveralNames);
+    }
+    read_name(CommandName::Exists, Wanted::Existence, arguments)
+}
+
+#[tactic(auto, unfolding(crate::specs::Reading::select_from))]
+fn read_select(arguments: Vec<Bytes>) -> Result<Command, CommandFault>
+    ensures { result ≡ select_from arguments.items }
+{
+    let index = only_argument(CommandName::Select, arguments)?;
+    if !is_text(&index, b"0") {
+        return Err(CommandFault::NoDatabase);
+    }
+    Ok(Command::Select)
+}
+
+#[tactic(auto, unfolding(crate::specs::Reading::list_from))]
+fn read_list(arguments: &[Bytes]) -> Result<Command, CommandFault>
+    ensures { result ≡ list_from arguments.now }
+{
+    match arguments {
+        [] => Ok(Command::ListCommands),
+        [word, more @ ..] => {
+            if !is_word(word, b"count") {
+                return Ok(Command::ListCommands);
+            }
+            if !more.is_empty() {
+                return Err(CommandFault::WrongCount(CommandName::Command));
+            }
+            Ok(Command::CountCommands)
+        }
+    }
+}
+
+// This command, unless there is a fault.
+fn unless(fault: Option<CommandFault>, command: Command) -> Result<Command, CommandFault>
+    ensures { result ≡ unless fault command }
+{
+    match fault {
+        Some(fault) => Err(fault),
+        None => Ok(command),
+    }
 }
 
 #[tactic(auto, unfolding(crate::specs::Reading::set_from))]
@@ -137,6 +203,8 @@ fn read_subcommand(word: &[u8], count: usize) -> Result<Command, CommandFault>
         counted(count, 1, Command::DescribeClient)
     } else if is_word(word, b"setinfo") {
         counted(count, 2, Command::DescribeClient)
+    } else if is_word(word, b"getname") {
+        counted(count, 0, Command::ClientName)
     } else {
         Err(CommandFault::UnknownSubcommand)
     }

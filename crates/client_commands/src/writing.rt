@@ -2,8 +2,8 @@
 ghost use Rattle.std.specs.Prelude.{◌≡◌, ◌++◌, ◌∷◌, [], IfOk, OnOk, OnErr, length};
 ghost use Rattle.std.specs.List.{concat};
 ghost use Rattle.frames.specs.Frame.{header};
-ghost use Rattle.client_commands.specs.Texts.{error_text};
-ghost use Rattle.client_commands.specs.Answers.{sent_bytes, sent_strings, error_line};
+ghost use Rattle.client_commands.specs.Texts.{error_code, error_text};
+ghost use Rattle.client_commands.specs.Answers.{sent_bytes, sent_strings, error_line, greeting};
 
 use crate::answer::{Answer, AnswerError};
 use bytes::Bytes;
@@ -36,8 +36,10 @@ fn push_strings(alloc: Global, strings: &mut Vec<Bytes>, answer: Answer) -> Resu
         Answer::Ok => push_string(strings, Bytes::from_static(b"+OK\r\n")),
         Answer::Pong => push_string(strings, Bytes::from_static(b"+PONG\r\n")),
         Answer::Value(value) => push_value(strings, length_line(alloc, value.len())?, value),
+        Answer::Nil => push_string(strings, Bytes::from_static(b"$-1\r\n")),
         Answer::Number(number) => push_string(strings, number_line(alloc, number)?),
         Answer::NoCommands => push_string(strings, Bytes::from_static(b"*0\r\n")),
+        Answer::Greeting(id) => push_string(strings, greeting(alloc, id)?),
         Answer::Error(error) => push_string(strings, error_line(alloc, error)?),
     }
 }
@@ -76,9 +78,20 @@ fn number_line(alloc: Global, number: u64) -> Result<Bytes, AllocError>
     Bytes::from_string(format!(in alloc; ":{number}\r\n")?)
 }
 
+// What a `HELLO` on the connection of this number is answered.
+fn greeting(alloc: Global, id: u64) -> Result<Bytes, AllocError>
+    ensures { IfOk result (λ bytes. bytes ≡ greeting id) }
+{
+    Bytes::from_string(format!(in alloc;
+        "*14\r\n$6\r\nserver\r\n$4\r\ncasd\r\n$7\r\nversion\r\n$5\r\n1.0.0\r\n$5\r\nproto\r\n:2\r\n$2\r\nid\r\n:\
+        {id}\r\n$4\r\nmode\r\n$10\r\nstandalone\r\n$4\r\nrole\r\n$6\r\nmaster\r\n$7\r\nmodules\r\n*0\r\n"
+    )?)
+}
+
 // The line of an error.
 fn error_line(alloc: Global, error: AnswerError) -> Result<Bytes, AllocError>
-    ensures { IfOk result (λ line. line ≡ error_line (error_text error)) }
+    ensures { IfOk result (λ line. line ≡ error_line (error_code error) (error_text error)) }
 {
-    Bytes::from_string(format!(in alloc; "-ERR {error}\r\n")?)
+    let code = error.code();
+    Bytes::from_string(format!(in alloc; "-{code} {error}\r\n")?)
 }
