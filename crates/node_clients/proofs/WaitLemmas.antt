@@ -124,7 +124,7 @@ command_waits ticks a b client (Service.Quits other) due of done waits =
     (λ next. absurd (quit_gives_none (get nat_eq b.clients.by_number other) done.4.state next)) rest) waits
 command_waits ticks a b client (Service.Arrives other command) due of done waits = absurd of
 command_waits ticks a b client (Service.Leaves other) due of done waits = absurd of
-command_waits ticks a b client (Service.Ends name ended told) due of done waits = absurd of
+command_waits ticks a b client (Service.Ends name ended what told) due of done waits = absurd of
 command_waits ticks a b client (Service.Ages id) due of done waits = absurd of
 command_waits ticks a b client (Service.GivesUp id told) due of done waits = absurd of
 command_waits ticks a b client (Service.Releases id told) due of done waits = absurd of
@@ -152,9 +152,9 @@ service_waits ticks a b (Service.Replies client command answer) due none done wa
     command_waits ticks a b client (Service.Replies client command answer) due refl done (λ other apart next. waits other next)
 service_waits ticks a b (Service.Quits client) due none done waits =
     command_waits ticks a b client (Service.Quits client) due refl done (λ other apart next. waits other next)
-service_waits ticks a b (Service.Ends name ended told) due none done waits =
-    subst (λ n. NoneWaits b.clients (due ++ told_clients n)) (sym done.0.who)
-    (told_waits a b.clients (waiting_for a.calls ended.id) due done.0.idle waits)
+service_waits ticks a b (Service.Ends name ended what told) due none done waits =
+    subst (λ n. NoneWaits b.clients (due ++ told_clients n)) (sym done.1.who)
+    (told_waits a b.clients (waiting_for a.calls ended.id) due done.1.idle waits)
 service_waits ticks a b (Service.Ages id) due none done waits = same_waits a.clients b.clients due done.1.clients waits
 service_waits ticks a b (Service.GivesUp id told) due none done waits =
     let older = done.2 in

@@ -1,6 +1,6 @@
 -- The contracts that docs/trusted.md lists do not depend on this file; other contracts and proofs do.
 -- What the clients of a node are sent.
-use Rattle.std.specs.Prelude.{ℕ, Bool, if◌then◌else◌, List, [], ◌∷◌, Option}
+use Rattle.std.specs.Prelude.{ℕ, ◌==◌, Bool, if◌then◌else◌, List, [], ◌∷◌, length, Option}
 use Rattle.record.specs.Sending.{value_or_empty}
 use Rattle.record.specs.declared.call.Operation.{Operation}
 use Rattle.record.specs.declared.call.Operation.TheVariants as operation
@@ -8,6 +8,8 @@ use Rattle.local_object.specs.declared.progress.Ended.{Ended}
 use Rattle.client_commands.specs.Answers.{sent_strings}
 use Rattle.client_commands.specs.declared.answer.Answer.{Answer}
 use Rattle.client_commands.specs.declared.answer.Answer.TheVariants as answer
+use Rattle.client_commands.specs.declared.command.Wanted.{Wanted}
+use Rattle.client_commands.specs.declared.command.Wanted.TheVariants as wanted
 use Rattle.node_strings.specs.Arrival.{client_address}
 use Rattle.node_effects.specs.Work.{Growth, IsGrown, no_growth}
 use Rattle.node_effects.specs.declared.work.Work.{Work}
@@ -35,13 +37,20 @@ pub record TellsClients (before after : Work) : Type 0 where
   pub due : List ℕ
   pub grown : IsGrown before after (record no_growth { to_clients = frames; due = due })
 
--- the answer to a call of this kind with this value: for a read the value, or the empty one if nothing was ever
--- written; for a write and a move `OK`
-abbrev pub kind_answer : Operation → Option (List ℕ) → Answer
-kind_answer operation.Read value = answer.Value (value_or_empty value)
-kind_answer operation.Write value = answer.Ok
-kind_answer operation.Move value = answer.Ok
+-- What a client is told of a value that it reads. The empty value, with which each object begins, counts as none: it is
+-- told as nil, as the length 0, and as no existence.
+abbrev pub told_value : Wanted → List ℕ → Answer
+told_value wanted.Value value = if length value == 0 then answer.Nil else answer.Value value
+told_value wanted.Length value = answer.Number (length value)
+told_value wanted.Existence value = if length value == 0 then answer.Number 0 else answer.Number 1
 
--- the answer that the client of an answered call gets
-abbrev pub ended_answer : Ended → Answer
-ended_answer ended = kind_answer ended.kind ended.value
+-- the answer to a call of this kind with this value: for a read what is wanted of the value, which is the empty one if
+-- nothing was ever written; for a write and a move `OK`
+abbrev pub kind_answer : Wanted → Operation → Option (List ℕ) → Answer
+kind_answer what operation.Read value = told_value what (value_or_empty value)
+kind_answer what operation.Write value = answer.Ok
+kind_answer what operation.Move value = answer.Ok
+
+-- the answer that the client of an answered call gets, who wants this of the value of a read
+abbrev pub ended_answer : Wanted → Ended → Answer
+ended_answer what ended = kind_answer what ended.kind ended.value

@@ -3,6 +3,8 @@
 use Rattle.std.specs.Prelude.{ℕ, ◌+◌, ◌-◌, ◌%◌, ◌^◌, ◌==◌, ◌||◌, Bool, false, min, nat_eq, nat_lt}
 use Rattle.std.specs.Prelude.{Option, None, Some}
 use Rattle.indexmap.specs.IndexMap.{IndexMap, get}
+use Rattle.client_commands.specs.declared.command.Wanted.{Wanted}
+use Rattle.client_commands.specs.declared.command.Wanted.TheVariants as wanted
 use Rattle.node_clients.specs.declared.open_call.OpenCall.{OpenCall}
 use Rattle.node_clients.specs.declared.open_call.Aged.{Aged}
 
@@ -18,6 +20,11 @@ client_waiting (Some call) = call.client
 -- the client that waits for the answer to the call of this id, if one does
 abbrev pub waiting_for : {S : Type 0} → IndexMap ℕ OpenCall S → (id : ℕ) → Option ℕ
 waiting_for calls id = client_waiting (call_under calls id)
+
+-- what the client of a call is told of the value, if the call is a read; the value itself if there is no call
+abbrev pub wanted_by : Option OpenCall → Wanted
+wanted_by None = wanted.Value
+wanted_by (Some call) = call.wanted
 
 -- the same call, if there is one, but no client waits for it
 abbrev pub with_nobody : Option OpenCall → Option OpenCall

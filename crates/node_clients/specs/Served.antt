@@ -6,9 +6,11 @@ use Rattle.node_clients.specs.declared.connection.State.TheVariants.{Quit}
 use Rattle.client_commands.specs.Reading.{command_at}
 use Rattle.client_commands.specs.declared.command.Command.{Command}
 use Rattle.client_commands.specs.declared.command.Command.TheVariants as ask
+use Rattle.client_commands.specs.declared.command.Wanted.TheVariants as wanted
 use Rattle.node_strings.specs.Strings.{Strings}
 use Rattle.node_effects.specs.declared.work.Work.{Work}
-use Rattle.node_clients.specs.Calls.{becomes_late, call_under, is_move_open, older_call, waiting_for, with_nobody}
+use Rattle.node_clients.specs.Calls.{becomes_late, call_under, is_move_open, older_call, waiting_for}
+use Rattle.node_clients.specs.Calls.{wanted_by, with_nobody}
 use Rattle.node_clients.specs.Desk.{IsIdleAgain, IsIdleFor, connection_of, has_listener, listener}
 use Rattle.node_clients.specs.Desk.{with_drop, with_give_up, with_told}
 use Rattle.node_clients.specs.Services.{Service, all_dues, all_frames, all_notices}
@@ -50,9 +52,12 @@ pub record IsCommandTaken (old : Desk) (client : ℕ) (command : Strings) (new :
 
 -- the call that a command begins, for which its client waits, if it begins one
 abbrev pub call_begun : (client : ℕ) → Command → Option OpenCall
-call_begun client (ask.Get name) = Some (record { name = name; client = Some client; is_move = false; age = 0 })
-call_begun client (ask.Set name value) = Some (record { name = name; client = Some client; is_move = false; age = 0 })
-call_begun client (ask.Move name layout) = Some (record { name = name; client = Some client; is_move = true; age = 0 })
+call_begun client (ask.Read what name) =
+    Some (record { name = name; client = Some client; wanted = what; is_move = false; age = 0 })
+call_begun client (ask.Set name value) =
+    Some (record { name = name; client = Some client; wanted = wanted.Value; is_move = false; age = 0 })
+call_begun client (ask.Move name layout) =
+    Some (record { name = name; client = Some client; wanted = wanted.Value; is_move = true; age = 0 })
 call_begun client command = None
 
 -- a call was added to the open calls
@@ -117,7 +122,8 @@ IsServiceDone ticks old (Service.Replies client frame answer) new =
 IsServiceDone ticks old (Service.Quits client) new =
     (frame : Strings) × (command_at frame ≡ Ok ask.Quit) × (taken : Desk) × IsCommandTaken old client frame taken
     × HasQuit taken client new
-IsServiceDone ticks old (Service.Ends name ended told) new = IsCallClosed old ended.id told new
+IsServiceDone ticks old (Service.Ends name ended what told) new =
+    (what ≡ wanted_by (call_under old.calls ended.id)) × IsCallClosed old ended.id told new
     × (new.counts ≡ with_told (has_listener old (waiting_for old.calls ended.id)) old.counts)
 IsServiceDone ticks old (Service.Ages id) new =
     (becomes_late ticks (call_under old.calls id) ≡ false) × IsOlder old id new

@@ -4,6 +4,7 @@ ghost use Rattle.node_effects.specs.declared.error.NodeError.TheVariants.{NoMemo
 ghost use Rattle.node_clients.specs.Calls.{aged_of, asks_at, older_of};
 
 use bytes::Bytes;
+use client_commands::Wanted;
 use node_effects::NodeError;
 use node_strings::ConnectionId;
 
@@ -14,6 +15,8 @@ pub struct OpenCall {
     pub name: Bytes,
     /// The connection that waits for its answer, if one does.
     pub client: Option<ConnectionId>,
+    /// What its client is told of the value, if it is a read.
+    pub wanted: Wanted,
     /// Whether it is a move, which is never given up.
     pub is_move: bool,
     /// The number of ticks since it began, at most 2^32 - 1.
@@ -25,6 +28,7 @@ impl Drop for OpenCall {
         let Self {
             name: _,
             client: _,
+            wanted: _,
             is_move: _,
             age: _,
         } = self;

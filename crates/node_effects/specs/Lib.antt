@@ -1,3 +1,4 @@
 pub mod Work
 pub mod Errors
 pub mod Seen
+pub mod Report

@@ -7,6 +7,7 @@ pub use letter::NamedLetter;
 pub use machine::Machine;
 pub use notice::Notice;
 pub use output::Output;
+pub use report::Report;
 pub use work::Work;
 
 mod effects;
@@ -15,4 +16,5 @@ mod letter;
 mod machine;
 mod notice;
 mod output;
+mod report;
 mod work;

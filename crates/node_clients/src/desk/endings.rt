@@ -3,13 +3,13 @@ ghost use Rattle.std.specs.Prelude.{◌≡◌, ◌≢◌, ℕ, None, OnOk};
 ghost use Rattle.client_commands.specs.declared.answer.Answer.TheVariants as answers;
 ghost use Rattle.client_commands.specs.declared.answer.AnswerError.TheVariants.{NoQuorum};
 ghost use Rattle.node_effects.specs.Work.{IsGrown};
-ghost use Rattle.node_clients.specs.Answers.{TellsClients, ended_answer};
-ghost use Rattle.node_clients.specs.Calls.{call_under, waiting_for, with_nobody};
+ghost use Rattle.node_clients.specs.Answers.{TellsClients, ended_answer, told_value};
+ghost use Rattle.node_clients.specs.Calls.{call_under, waiting_for, wanted_by, with_nobody};
 ghost use Rattle.node_clients.specs.Desk.{IsIdleFor, growth_for, has_listener, with_told, with_give_up};
 
 use super::Desk;
 use bytes::Bytes;
-use client_commands::{Answer, AnswerError};
+use client_commands::{Answer, AnswerError, Wanted};
 use local_object::Ended;
 use node_effects::{NodeError, Work};
 use record::Operation;
@@ -20,7 +20,8 @@ impl Desk {
     /// still there. Fails only if `Work::answer` or `Work::make_due` fails.
     pub fn end(&mut self, ended: Ended, work: &mut Work) -> Result<(), NodeError>
         ensures told { OnOk result (IsGrown work.old work.new
-            (growth_for self.old (waiting_for self.old.calls ended.id) (ended_answer ended))) }
+            (growth_for self.old (waiting_for self.old.calls ended.id)
+            (ended_answer (wanted_by (call_under self.old.calls ended.id)) ended))) }
         ensures tells { OnOk result (TellsClients work.old work.new) }
         ensures gone { call_under self.new.calls ended.id ≡ None }
         ensures others { (other : ℕ) → other ≢ ended.id
@@ -30,7 +31,8 @@ impl Desk {
             ≡ with_told (has_listener self.old (waiting_for self.old.calls ended.id)) self.old.counts }
     {
         let id = ended.id;
-        self.close(id, ended_answer(ended), work)
+        let wanted = self.wanted_of(id);
+        self.close(id, ended_answer(wanted, ended), work)
     }
 
     /// Removes a call that was given up, and tells the client that waits for it that no quorum answered, if its
@@ -86,14 +88,37 @@ impl Desk {
 }
 
 // What the client of a call is told that was answered.
-fn ended_answer(ended: Ended) -> Answer
-    ensures { result ≡ ended_answer ended }
+fn ended_answer(wanted: Wanted, ended: Ended) -> Answer
+    ensures { result ≡ ended_answer wanted ended }
 {
     match ended.kind {
         Operation::Read => match ended.value {
-            Some(value) => Answer::Value(value),
-            None => Answer::Value(Bytes::new()),
+            Some(value) => told_value(wanted, value),
+            None => told_value(wanted, Bytes::new()),
         },
         Operation::Write | Operation::Move => Answer::Ok,
+    }
+}
+
+// What a client is told of a value that it reads.
+fn told_value(wanted: Wanted, value: Bytes) -> Answer
+    ensures { result ≡ told_value wanted value }
+{
+    match wanted {
+        Wanted::Value => {
+            if value.is_empty() {
+                Answer::Nil
+            } else {
+                Answer::Value(value)
+            }
+        }
+        Wanted::Length => Answer::Number(value.len() as u64),
+        Wanted::Existence => {
+            if value.is_empty() {
+                Answer::Number(0)
+            } else {
+                Answer::Number(1)
+            }
+        }
     }
 }
