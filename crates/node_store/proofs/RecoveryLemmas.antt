@@ -3,95 +3,111 @@ use Rattle.std.proofs.Common.{◌≡◌, ℕ, ◌+◌, ◌<◌, ◌≤◌, ◌^�
 use Rattle.std.proofs.Common.{sym, ap, subst, ◌∙◌, refl, arith, length-append}
 use Rattle.std.specs.List.{FoldsTo, AllByRecursion}
 use Rattle.std.specs.Io.KnownBytes.{Consumes}
-use Rattle.node_log.specs.Entry.{log_entry_bytes}
+use Rattle.node_log.specs.Entry.{chain_after, chain_behind, first_chain, log_entry_bytes}
 use Rattle.node_log.specs.Reading.{HadLeft, IsEnd}
-use Rattle.node_store.specs.Recovery.{IsWholeEntry, log_bytes, IsRefusedAt, IsEntryAt, StopsFor}
+use Rattle.node_store.specs.Recovery.{IsWholeEntry, log_bytes, IsPast, IsRefusedAt, IsEntryAt, StopsFor}
 use Rattle.node_store.specs.Recovery.{HasReadNext, HasRecovered}
 use Rattle.node_store.specs.declared.error.StoreError.{StoreError}
 use Rattle.node_store.specs.declared.error.StoreFault.{StoreFault}
 use Rattle.node_store.specs.declared.error.StoreFault.TheVariants as faults
-use Rattle.node_store.proofs.GrowthLemmas.{Known, consumes_then, consumes_none, left_behind, bytes_push, all_push, folds_then}
+use Rattle.node_store.specs.declared.end.LogEnd.{LogEnd}
+use Rattle.node_store.proofs.GrowthLemmas.{Known, consumes_then, consumes_none, left_behind, all_push, folds_then}
+use Rattle.node_store.proofs.LogBytesLemmas.{bytes_push, chain_push, has_bytes}
 
 -- an entry has a byte
-pub entry_has_bytes : (strings : List (List ℕ)) → 0 < length (log_entry_bytes strings)
-entry_has_bytes strings = omega arith
+pub entry_has_bytes : (chain : ℕ) (strings : List (List ℕ)) → 0 < length (log_entry_bytes chain strings)
+entry_has_bytes chain strings = has_bytes chain strings
 
 -- the entry stands at the front of what the reader had
-pub entry_at : (P : List (List ℕ) → Type 0) (entry : List (List ℕ)) (had left : Known) → IsWholeEntry entry → P entry
-    → Consumes had left (log_entry_bytes entry) → HadLeft (IsEntryAt P) had
-entry_at P entry None left whole holds took = tt
-entry_at P entry (Some xs) None whole holds took = absurd took
-entry_at P entry (Some xs) (Some ys) whole holds took = (entry, ys, whole, took, holds)
+pub entry_at : (chain : ℕ) (P : List (List ℕ) → Type 0) (entry : List (List ℕ)) (had left : Known) → IsWholeEntry entry
+    → P entry → Consumes had left (log_entry_bytes chain entry) → HadLeft (IsEntryAt chain P) had
+entry_at chain P entry None left whole holds took = tt
+entry_at chain P entry (Some xs) None whole holds took = absurd took
+entry_at chain P entry (Some xs) (Some ys) whole holds took = (entry, ys, whole, took, holds)
 
 -- an entry that is refused is why reading stops
-pub refused_stops : (at : ℕ) (fault : StoreFault) (entry : List (List ℕ)) (had left : Known) → IsWholeEntry entry
-    → IsRefusedAt at entry fault → Consumes had left (log_entry_bytes entry) → HadLeft (StopsFor at fault) had
+pub refused_stops : (at : LogEnd) (fault : StoreFault) (entry : List (List ℕ)) (had left : Known) → IsWholeEntry entry
+    → IsRefusedAt at entry fault → Consumes had left (log_entry_bytes at.chain.state entry)
+    → HadLeft (StopsFor at.length fault at.chain.state) had
 refused_stops at (faults.Damaged damage) entry had left whole refused took = absurd refused
 refused_stops at (faults.NotCarriedOut error) entry had left whole refused took =
-    entry_at (λ entry. Unit {0}) entry had left whole tt took
+    entry_at at.chain.state (λ entry. Unit {0}) entry had left whole tt took
 refused_stops at faults.TooLong entry had left whole refused took =
-    entry_at (λ entry. 2 ^ 64 ≤ at + length (log_entry_bytes entry)) entry had left whole refused took
+    entry_at at.chain.state (λ entry. 2 ^ 64 ≤ at.length + length (log_entry_bytes at.chain.state entry)) entry had left whole
+    refused took
 refused_stops at faults.NoMemory entry None left whole refused took = tt
 refused_stops at faults.NoMemory entry (Some xs) left whole refused took = tt
 refused_stops at (faults.Failed error) entry had left whole refused took = absurd refused
 
 module _ {M : Type 0} (carries_out : M → List (List ℕ) → M → Type 0) where
   -- the entries that the machine has carried out so far
-  abbrev pub IsSoFar : M → M → Known → Known → ℕ → Type 0
+  abbrev pub IsSoFar : M → M → Known → Known → LogEnd → Type 0
   IsSoFar old new had left at =
       (entries : List (List (List ℕ))) × AllByRecursion IsWholeEntry entries × FoldsTo carries_out old entries new
-      × (at ≡ length (log_bytes entries)) × Consumes had left (log_bytes entries)
+      × (at.length ≡ length (log_bytes first_chain entries)) × (at.chain.state ≡ chain_behind first_chain entries)
+      × Consumes had left (log_bytes first_chain entries)
 
-  pub so_far_none : (old : M) (had : Known) → IsSoFar old old had had 0
-  so_far_none old had = ([], tt, refl, refl, consumes_none had)
+  pub so_far_none : (old : M) (had : Known) (at : LogEnd) → at.length ≡ 0 → at.chain.state ≡ first_chain
+      → IsSoFar old old had had at
+  so_far_none old had at none begins = ([], tt, refl, none, begins, consumes_none had)
 
-  pub so_far_more : (old mid new : M) (had left next : Known) (at end : ℕ) → IsSoFar old mid had left at
+  pub so_far_more : (old mid new : M) (had left next : Known) (at end : LogEnd) → IsSoFar old mid had left at
       → HasReadNext carries_out at mid new left next (Ok (Some end)) → IsSoFar old new had next end
   so_far_more old mid new had left next at end p q =
-      let (entries, whole, folds, bytes, took) = p in
-      let (entry, is_whole, carried, took_more, ends) = q in
-      let push : log_bytes (entries ++ entry ∷ []) ≡ log_bytes entries ++ log_entry_bytes entry =
-      bytes_push log_entry_bytes entries entry in (
+      let (entries, whole, folds, bytes, chained, took) = p in
+      let (entry, is_whole, carried, took_more, past) = q in
+      let begun = chain_behind first_chain entries in
+      let push : log_bytes first_chain (entries ++ entry ∷ [])
+      ≡ log_bytes first_chain entries ++ log_entry_bytes (chain_behind first_chain entries) entry =
+      bytes_push first_chain entries entry in (
         entries ++ entry ∷ [],
         all_push IsWholeEntry entries entry whole is_whole,
         folds_then carries_out old entries mid (entry ∷ []) new folds (new, carried, refl),
-        ends ∙ ap (λ (n : ℕ). n + length (log_entry_bytes entry)) bytes
-            ∙ sym (length-append (log_bytes entries) (log_entry_bytes entry)) ∙ ap length (sym push),
+        past.long ∙ ap (λ (n : ℕ). n + length (log_entry_bytes at.chain.state entry)) bytes
+            ∙ ap (λ (c : ℕ). length (log_bytes first_chain entries) + length (log_entry_bytes c entry)) chained
+            ∙ sym (length-append (log_bytes first_chain entries) (log_entry_bytes begun entry)) ∙ ap length (sym push),
+        past.chained ∙ ap (λ (c : ℕ). chain_after c entry) chained ∙ sym (chain_push first_chain entries entry),
         subst (Consumes had next) (sym push)
-            (consumes_then had left next (log_bytes entries) (log_entry_bytes entry) took took_more),
+            (consumes_then had left next (log_bytes first_chain entries) (log_entry_bytes begun entry) took
+            (subst (λ (c : ℕ). Consumes left next (log_entry_bytes c entry)) chained took_more)),
       )
 
-  pub read_as : (at : ℕ) (old new : M) (had left : Known) (found end : Option ℕ) → found ≡ end
+  pub read_as : (at : LogEnd) (old new : M) (had left : Known) (found end : Option LogEnd) → found ≡ end
       → HasReadNext carries_out at old new had left (Ok found) → HasReadNext carries_out at old new had left (Ok end)
   read_as at old new had left found end same p =
-      subst (λ (o : Option ℕ). HasReadNext carries_out at old new had left (Ok o)) same p
+      subst (λ (o : Option LogEnd). HasReadNext carries_out at old new had left (Ok o)) same p
 
   -- behind the entries so far, the log ends
-  pub so_far_end : (old mid new : M) (had left next : Known) (at : ℕ) → IsSoFar old mid had left at
+  pub so_far_end : (old mid new : M) (had left next : Known) (at : LogEnd) → IsSoFar old mid had left at
       → HasReadNext carries_out at mid new left next (Ok None) → HasRecovered carries_out old new had (Ok at)
   so_far_end old mid new had left next at p q =
-      let (entries, whole, folds, bytes, took) = p in (
+      let (entries, whole, folds, bytes, chained, took) = p in (
         entries,
         (
           whole,
           subst (FoldsTo carries_out old entries) q.0 folds,
           bytes,
-          left_behind IsEnd had left (log_bytes entries) took q.1,
+          left_behind (IsEnd (chain_behind first_chain entries)) had left (log_bytes first_chain entries) took
+              (subst (λ (c : ℕ). HadLeft (IsEnd c) left) chained q.1),
         ),
+        chained,
       )
 
   -- behind the entries so far, reading stops
-  pub so_far_stop : (old mid new last : M) (had left next : Known) (at : ℕ) (error : StoreError) → IsSoFar old mid had left at
-      → HasReadNext carries_out at mid new left next (Err error) → HasRecovered carries_out old last had (Err error)
+  pub so_far_stop : (old mid new last : M) (had left next : Known) (at : LogEnd) (error : StoreError)
+      → IsSoFar old mid had left at → HasReadNext carries_out at mid new left next (Err error)
+      → HasRecovered carries_out old last had (Err error)
   so_far_stop old mid new last had left next at error p q =
-      let (entries, whole, folds, bytes, took) = p in (
+      let (entries, whole, folds, bytes, chained, took) = p in
+      let begun = chain_behind first_chain entries in (
         entries,
         mid,
         (
           whole,
           folds,
           q.0 ∙ bytes,
-          left_behind (StopsFor error.at error.fault) had left (log_bytes entries) took
-              (subst (λ (n : ℕ). HadLeft (StopsFor n error.fault) left) (sym q.0) q.1),
+          left_behind (StopsFor error.at error.fault begun) had left (log_bytes first_chain entries) took
+              (subst (λ (n : ℕ). HadLeft (StopsFor n error.fault begun) left) (sym q.0)
+              (subst (λ (c : ℕ). HadLeft (StopsFor at.length error.fault c) left) chained q.1)),
         ),
       )

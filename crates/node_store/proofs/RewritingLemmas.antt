@@ -2,9 +2,10 @@
 use Rattle.std.proofs.Common.{◌≡◌, ℕ, ◌+◌, ◌<◌, List, [], ◌++◌, length, get_or, take, refl, sym, ap, subst, ◌∙◌}
 use Rattle.std.proofs.Common.{append_assoc, append-nil, length-append}
 use Rattle.std.specs.Io.KnownBytes.{Appends, Keeps}
-use Rattle.node_log.specs.Entry.{log_entry_bytes}
+use Rattle.node_log.specs.Entry.{chain_behind, log_entry_bytes}
 use Rattle.node_store.specs.Recovery.{log_bytes}
-use Rattle.node_store.proofs.GrowthLemmas.{Known, appends_then, appends_none, appends_kept, bytes_more}
+use Rattle.node_store.proofs.GrowthLemmas.{Known, appends_then, appends_none, appends_kept}
+use Rattle.node_store.proofs.LogBytesLemmas.{bytes_more}
 
 -- of these bytes, so many were written, and the others are in the part that waits
 abbrev pub AreWritten : Known → Known → (part : List ℕ) → (count : ℕ) → List ℕ → Type 0
@@ -15,15 +16,17 @@ pub none_written : (log : Known) (part : List ℕ) → part ≡ [] → AreWritte
 none_written log part empty = ([], sym empty, appends_none log, refl)
 
 -- one more entry waits
-pub one_waits : (old new : Known) (part more : List ℕ) (count : ℕ) (entries : List (List (List ℕ))) (i : ℕ) (d entry : List (List ℕ))
-    → i < length entries → entry ≡ get_or entries i d → more ≡ part ++ log_entry_bytes entry
-    → AreWritten old new part count (log_bytes (take i entries))
-    → AreWritten old new more count (log_bytes (take (i + 1) entries))
-one_waits old new part more count entries i d entry below is grown (done, all, appends, counted) = (
+pub one_waits : (first chain : ℕ) (old new : Known) (part more : List ℕ) (count : ℕ) (entries : List (List (List ℕ))) (i : ℕ)
+    (d entry : List (List ℕ)) → i < length entries → entry ≡ get_or entries i d → chain ≡ chain_behind first (take i entries)
+    → more ≡ part ++ log_entry_bytes chain entry
+    → AreWritten old new part count (log_bytes first (take i entries))
+    → AreWritten old new more count (log_bytes first (take (i + 1) entries))
+one_waits first chain old new part more count entries i d entry below is chained grown (done, all, appends, counted) = (
   done,
-  bytes_more log_entry_bytes entries i d entry below is
-      ∙ ap (λ (t : List ℕ). t ++ log_entry_bytes entry) all
-      ∙ append_assoc done part (log_entry_bytes entry)
+  bytes_more first entries i d entry below is
+      ∙ ap (λ (c : ℕ). log_bytes first (take i entries) ++ log_entry_bytes c entry) (sym chained)
+      ∙ ap (λ (t : List ℕ). t ++ log_entry_bytes chain entry) all
+      ∙ append_assoc done part (log_entry_bytes chain entry)
       ∙ ap (λ (t : List ℕ). done ++ t) (sym grown),
   appends,
   counted,

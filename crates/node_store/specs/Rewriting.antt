@@ -2,6 +2,9 @@
 -- What a log has after it was written anew.
 use Rattle.std.specs.Prelude.{◌≡◌, ◌⊎◌, ◌+◌, ◌*◌, ◌≤◌, ℕ, List, length, Option, Some, None, Result, Ok, Err, ⊤}
 use Rattle.std.specs.Io.KnownBytes.{Keeps}
+use Rattle.node_log.specs.Entry.{chain_behind, first_chain}
+use Rattle.node_store.specs.Recovery.{log_bytes}
+use Rattle.node_store.specs.declared.end.LogEnd.{LogEnd}
 use Rattle.node_store.specs.declared.rewriting.Rewriting.{Rewriting}
 use Rattle.node_store.specs.declared.rewriting.Rewriting.TheVariants as ends
 
@@ -19,11 +22,19 @@ Becomes (Some bytes) new second = new ≡ second
 abbrev pub KeepsOrBecomes : Option (List ℕ) → Option (List ℕ) → Option (List ℕ) → Type 0
 KeepsOrBecomes old new second = Keeps old new ⊎ Becomes old new second
 
--- what the log keeps after it was to be written anew, of these bytes: these; or what it kept before; or one of the two
-abbrev pub HasRewritten : {E : Type 0} → (old new : Option (List ℕ)) → List ℕ → Result Rewriting E → Type 0
-HasRewritten old new bytes (Ok (ends.Done count)) = Becomes old new (Some bytes) × (count ≡ length bytes)
-HasRewritten old new bytes (Ok (ends.GivenUp error)) = Keeps old new
-HasRewritten old new bytes (Err error) = KeepsOrBecomes old new (Some bytes)
+-- a log with these entries alone ends here
+pub record IsEndOf (entries : List (List (List ℕ))) (end : LogEnd) : Type 0 where
+  pub long : end.length ≡ length (log_bytes first_chain entries)
+  pub chained : end.chain.state ≡ chain_behind first_chain entries
+
+-- what the log keeps after it was to be written anew, of these entries: these; or what it kept before; or one of the
+-- two
+abbrev pub HasRewritten : {E : Type 0} → (old new : Option (List ℕ)) → List (List (List ℕ)) → Result Rewriting E
+    → Type 0
+HasRewritten old new entries (Ok (ends.Done end)) =
+    Becomes old new (Some (log_bytes first_chain entries)) × IsEndOf entries end
+HasRewritten old new entries (Ok (ends.GivenUp error)) = Keeps old new
+HasRewritten old new entries (Err error) = KeepsOrBecomes old new (Some (log_bytes first_chain entries))
 
 -- a log of so many bytes has become one of so many bytes: at least twice as many, and at least 16 MiB more
 abbrev pub HasGrown : (before now : ℕ) → Type 0

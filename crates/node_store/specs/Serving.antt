@@ -9,8 +9,9 @@ use Rattle.frames.specs.declared.error.Fault.TheVariants.{UnexpectedEnd}
 use Rattle.node_log.specs.Reading.{HadLeft}
 use Rattle.node_effects.specs.declared.effects.Effects.{Effects}
 use Rattle.node_effects.specs.declared.output.Output.{Output}
-use Rattle.node_store.specs.Outputs.{Gathers, WritesAll, WritesFirst, effects_outputs}
+use Rattle.node_store.specs.Outputs.{Gathers, WritesAll, WritesFirst, chain_after_all, effects_outputs}
 use Rattle.node_store.specs.declared.batch.Batch.{Batch}
+use Rattle.node_store.specs.declared.end.LogEnd.{LogEnd}
 use Rattle.node_store.specs.declared.stop.ServeError.{ServeError}
 use Rattle.node_store.specs.declared.stop.ServeError.TheVariants as stops
 
@@ -57,11 +58,11 @@ StopsServing (stops.OutputLost error) bytes = ⊤
 StopsServing (stops.Stopped error) bytes = ⊤
 
 -- what was written of these outputs: all of them, or the first ones, for a reason of which nothing more is said
-abbrev pub WritesOutputs : (kept keeps held holds : Option (List ℕ)) → List Output → Result (Unit {0}) ServeError →
-    Type 0
-WritesOutputs kept keeps held holds outputs (Ok done) = WritesAll kept keeps held holds outputs
-WritesOutputs kept keeps held holds outputs (Err error) =
-    WritesFirst kept keeps held holds outputs × ((bytes : List ℕ) → StopsServing error bytes)
+abbrev pub WritesOutputs : (chain : ℕ) → (kept keeps held holds : Option (List ℕ)) → List Output
+    → Result (Unit {0}) ServeError → Type 0
+WritesOutputs chain kept keeps held holds outputs (Ok done) = WritesAll chain kept keeps held holds outputs
+WritesOutputs chain kept keeps held holds outputs (Err error) =
+    WritesFirst chain kept keeps held holds outputs × ((bytes : List ℕ) → StopsServing error bytes)
 
 -- `handles old frame effects new` says what a machine does with a frame, and `notes old bytes new` how it is told a
 -- length
@@ -93,28 +94,31 @@ module _ {M : Type 0} (handles : M → List (List ℕ) → Effects → M → Typ
 
   -- The loop stopped early, behind the frames of some events. Of what the machine wants done for them, the first
   -- outputs are done, and the others may be lost. A frame was written only if the log keeps all entries before it.
-  abbrev pub StopsEarly : M → (had : Option (List ℕ)) → (kept keeps : Option (List ℕ)) → (held holds : Option (List ℕ))
-      → ServeError → Type 0
-  StopsEarly old had kept keeps held holds error =
+  abbrev pub StopsEarly : (chain : ℕ) → M → (had : Option (List ℕ)) → (kept keeps : Option (List ℕ))
+      → (held holds : Option (List ℕ)) → ServeError → Type 0
+  StopsEarly chain old had kept keeps held holds error =
       (events : List LoopEvent) × (between : M) × FoldsTo Happens old events between
       × HadLeft (BeginsWithFrames events (StopsServing error)) had
-      × WritesFirst kept keeps held holds (all_outputs events)
+      × WritesFirst chain kept keeps held holds (all_outputs events)
 
-  -- The machine handled frames of the input, one after another. The log keeps all entries that it wanted there, and all
-  -- frames that it wanted sent were written. Or the loop stopped early.
-  abbrev pub ServesSome : M → M → (had left : Option (List ℕ)) → (kept keeps : Option (List ℕ))
+  -- The machine handled frames of the input, one after another. The log, which ended behind the one chain and then ends
+  -- behind the other, keeps all entries that it wanted there, and all frames that it wanted sent were written. Or the
+  -- loop stopped early.
+  abbrev pub ServesSome : (chain then : ℕ) → M → M → (had left : Option (List ℕ)) → (kept keeps : Option (List ℕ))
       → (held holds : Option (List ℕ)) → Result Bool ServeError → Type 0
-  ServesSome old new had left kept keeps held holds (Ok goes_on) =
+  ServesSome chain then old new had left kept keeps held holds (Ok goes_on) =
       (events : List LoopEvent) × FoldsTo Happens old events new × ReadsFrames had left events goes_on
-      × WritesAll kept keeps held holds (all_outputs events)
-  ServesSome old new had left kept keeps held holds (Err error) = StopsEarly old had kept keeps held holds error
+      × WritesAll chain kept keeps held holds (all_outputs events) × (then ≡ chain_after_all chain (all_outputs events))
+  ServesSome chain then old new had left kept keeps held holds (Err error) =
+      StopsEarly chain old had kept keeps held holds error
 
-  -- the same for all frames of the input, up to its end, if no length of the log is returned; or for the first ones, if
-  -- the log has grown to this length
-  abbrev pub ServesUntil : M → M → (had left : Option (List ℕ)) → (kept keeps : Option (List ℕ))
-      → (held holds : Option (List ℕ)) → Result (Option ℕ) ServeError → Type 0
-  ServesUntil old new had left kept keeps held holds (Ok None) =
-      ServesSome old new had left kept keeps held holds (Ok false)
-  ServesUntil old new had left kept keeps held holds (Ok (Some end)) =
-      ServesSome old new had left kept keeps held holds (Ok true)
-  ServesUntil old new had left kept keeps held holds (Err error) = StopsEarly old had kept keeps held holds error
+  -- the same for all frames of the input, up to its end, if no end of the log is returned; or for the first ones, if
+  -- the log has grown up to this end
+  abbrev pub ServesUntil : (chain : ℕ) → M → M → (had left : Option (List ℕ)) → (kept keeps : Option (List ℕ))
+      → (held holds : Option (List ℕ)) → Result (Option LogEnd) ServeError → Type 0
+  ServesUntil chain old new had left kept keeps held holds (Ok None) =
+      (then : ℕ) × ServesSome chain then old new had left kept keeps held holds (Ok false)
+  ServesUntil chain old new had left kept keeps held holds (Ok (Some end)) =
+      ServesSome chain end.chain.state old new had left kept keeps held holds (Ok true)
+  ServesUntil chain old new had left kept keeps held holds (Err error) =
+      StopsEarly chain old had kept keeps held holds error

@@ -1,12 +1,12 @@
 //! What a node wants done after the frames that have arrived.
-ghost use Rattle.std.specs.Prelude.{◌∷◌, [], OnOk};
+ghost use Rattle.std.specs.Prelude.{◌≡◌, ◌∷◌, [], OnOk};
 ghost use Rattle.node_effects.specs.Work.{send_all};
-ghost use Rattle.node_effects.specs.declared.output.Output.TheVariants.{Send};
+ghost use Rattle.node_effects.specs.declared.output.Output.TheVariants.{Log, Send};
 ghost use Rattle.node_store.specs.Outputs.{Gathers, HasGathered, effects_outputs};
 
 use frames::{Frame, write_frame};
 use node_effects::{Effects, Output};
-use node_log::write_entry;
+use node_log::{Chain, Entry, write_entry};
 use std::alloc::Global;
 use std::io;
 
@@ -14,11 +14,12 @@ use std::io;
 const MOST_BYTES: usize = 1_048_576;
 
 /// Bytes that wait to be written, in this order: frames that depend on none of the entries, entries for the log, and
-/// frames that may depend on entries.
+/// frames that may depend on entries; and the chain behind the entries.
 pub(crate) struct Batch {
     pub early: Vec<u8>,
     pub log: Vec<u8>,
     pub output: Vec<u8>,
+    pub chain: Chain,
 }
 
 impl Drop for Batch {
@@ -27,19 +28,22 @@ impl Drop for Batch {
             early: _,
             log: _,
             output: _,
+            chain: _,
         } = self;
     }
 }
 
 impl Batch {
-    /// Makes a batch without bytes.
-    pub fn new(alloc: Global) -> Batch
-        ensures { HasGathered result [] }
+    /// Makes a batch without bytes, for a log that ends behind this chain.
+    pub fn new(alloc: Global, chain: Chain) -> Batch
+        ensures empty { HasGathered result.chain.state result [] }
+        ensures chain { result.chain.state ≡ chain.state }
     {
         Batch {
             early: Vec::new(alloc),
             log: Vec::new(alloc),
             output: Vec::new(alloc),
+            chain,
         }
     }
 
@@ -80,9 +84,17 @@ impl Batch {
         ensures { OnOk result (Gathers self.old self.new (output.now ∷ [])) }
     {
         match output {
-            Output::Log(entry) => write_entry(&mut self.log, entry),
+            Output::Log(entry) => self.push_entry(entry),
             Output::Send(frame) => self.push_frame(frame),
         }
+    }
+
+    fn push_entry(&mut self, entry: &Entry) -> io::Result<()>
+        ensures { OnOk result (Gathers self.old self.new (Log entry.now ∷ [])) }
+    {
+        write_entry(&mut self.log, self.chain, entry)?;
+        self.chain.pass(entry);
+        Ok(())
     }
 
     // A frame that no entry precedes may go out at once. Any other frame waits until the log is synced.
@@ -98,7 +110,8 @@ impl Batch {
 
     /// Drops all bytes, after they were written.
     pub fn clear(&mut self)
-        ensures { HasGathered self.new [] }
+        ensures empty { HasGathered self.new.chain.state self.new [] }
+        ensures chain { self.new.chain.state ≡ self.old.chain.state }
     {
         self.early.clear();
         self.log.clear();

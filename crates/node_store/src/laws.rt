@@ -1,7 +1,7 @@
 //! What holds for every log.
-ghost use Rattle.node_store.specs.Laws.{CutLogIsFront, LogIsReadOnce};
+ghost use Rattle.node_store.specs.Laws.{CutLogIsFront, LogIsReadOnce, MovedIsNoticed};
 
-use node_log::entries_are_read_back;
+use node_log::{entries_are_read_back, moved_entries_are_noticed};
 
 /// A law: a log that is cut at any byte still gives back its first entries and ends after them, also if zeros follow
 /// the cut.
@@ -17,4 +17,13 @@ pub fn logs_are_read_once()
     ensures { LogIsReadOnce }
 {
     entries_are_read_back();
+}
+
+/// A law: an entry that was written behind another chain than the one behind which it stands is no entry there, so a
+/// log is read up to it and no further. That is what becomes of a log in which whole entries were dropped, doubled or
+/// put in another order, unless the chains are the same by chance: they are numbers of 32 bits.
+pub fn moved_entries_stop_reading()
+    ensures { MovedIsNoticed }
+{
+    moved_entries_are_noticed();
 }

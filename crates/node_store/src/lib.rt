@@ -2,8 +2,9 @@
 //! frames.
 #![tactic(auto)]
 
+pub use end::LogEnd;
 pub use error::{StoreError, StoreFault};
-pub use laws::{cut_logs_are_fronts, logs_are_read_once};
+pub use laws::{cut_logs_are_fronts, logs_are_read_once, moved_entries_stop_reading};
 pub use log::{Log, LogFile};
 pub use reading::recover_machine;
 pub use rewriting::{Rewriting, has_grown, is_worth_rewriting, rewrite_log};
@@ -13,6 +14,7 @@ pub use stop::ServeError;
 pub use writing::{append_bytes, append_entries, push_entries};
 
 mod batch;
+mod end;
 mod error;
 mod laws;
 mod log;

@@ -1,12 +1,14 @@
 //! Writing a log anew.
 ghost use Rattle.std.specs.Prelude.{◌≡◌, ◌↔◌, ◌+◌, ◌*◌, ◌≤◌, [], IsTrue, OnOk, IfOk, length, vec_len};
 ghost use Rattle.std.specs.Io.KnownBytes.{Appends};
+ghost use Rattle.node_log.specs.Entry.{first_chain};
 ghost use Rattle.node_store.specs.Recovery.{log_bytes};
-ghost use Rattle.node_store.specs.Rewriting.{HasGrown, HasRewritten, IsBeside};
+ghost use Rattle.node_store.specs.Rewriting.{HasGrown, HasRewritten, IsBeside, IsEndOf};
 
+use crate::end::LogEnd;
 use crate::log::Log;
 use crate::second::RewritableLog;
-use node_log::{Entry, write_entry};
+use node_log::{Chain, Entry, write_entry};
 use std::alloc::Global;
 use std::io;
 use std::io::ErrorKind;
@@ -20,8 +22,8 @@ const SPARED_BYTES: u64 = 16_777_216;
 /// What came of writing a log anew, where the log can still be used.
 #[derive(Debug, Drop)]
 pub enum Rewriting {
-    /// The log has the new entries, and so many bytes.
-    Done(u64),
+    /// The log has the new entries, and ends there.
+    Done(LogEnd),
     /// The log is as it was, because the second one could not be written.
     GivenUp(io::Error),
 }
@@ -44,8 +46,8 @@ pub fn has_grown(before: u64, now: u64) -> bool
     now >= SPARED_BYTES && now - SPARED_BYTES >= before && now / 2 >= before
 }
 
-/// Writes a log anew, so that it has these entries and no others. It writes them to a second log and syncs that, puts
-/// the second log in the place of the log, and syncs the place.
+/// Writes a log anew, so that it has these entries and no others. It writes them to a second log, whose chain begins
+/// anew, and syncs that, puts the second log in the place of the log, and syncs the place.
 ///
 /// If the second log cannot be written, the log stays as it was, and the result is `GivenUp`. If a later step fails,
 /// the log may keep what it had, or the new entries, and nothing may be appended to it.
@@ -55,37 +57,37 @@ pub fn rewrite_log<L: RewritableLog>(
     entries: &[Entry],
 ) -> io::Result<Rewriting>
     requires { L.kept log.old ≡ L.written log.old }
-    ensures kept { HasRewritten (L.kept log.old) (L.kept log.new) (log_bytes entries.now) result }
+    ensures kept { HasRewritten (L.kept log.old) (L.kept log.new) entries.now result }
     ensures synced { OnOk result (L.kept log.new ≡ L.written log.new) }
 {
     match write_second(alloc, log, entries) {
-        Ok((second, length)) => {
+        Ok((second, end)) => {
             log.put_second(second)?;
             log.sync_place()?;
-            Ok(Rewriting::Done(length))
+            Ok(Rewriting::Done(end))
         }
         Err(error) => Ok(Rewriting::GivenUp(error)),
     }
 }
 
-// Writes entries to a second log, which is then synced, and returns how many bytes they have. Where this fails, the
-// second log is removed. The log stays as it is.
+// Writes entries to a second log, which is then synced, and returns where it ends. Where this fails, the second log is
+// removed. The log stays as it is.
 fn write_second<L: RewritableLog>(
     alloc: Global,
     log: &mut L,
     entries: &[Entry],
-) -> io::Result<(L::Second, u64)>
+) -> io::Result<(L::Second, LogEnd)>
     ensures written { L.written log.new ≡ L.written log.old }
     ensures kept { L.kept log.new ≡ L.kept log.old }
     ensures second { IfOk result (λ done.
-        IsBeside (L.written log.old) (L.Second.written done.0) (log_bytes entries.now)) }
+        IsBeside (L.written log.old) (L.Second.written done.0) (log_bytes first_chain entries.now)) }
 
     ensures synced { IfOk result (λ done. L.Second.kept done.0 ≡ L.Second.written done.0) }
-    ensures length { IfOk result (λ done. done.1 ≡ length (log_bytes entries.now)) }
+    ensures end { IfOk result (λ done. IsEndOf entries.now done.1) }
 {
     let mut second = log.begin_second()?;
     match write_entries(alloc, &mut second, entries) {
-        Ok(length) => Ok((second, length)),
+        Ok(end) => Ok((second, end)),
         Err(error) => {
             let _ = log.remove_second();
             Err(error)
@@ -93,23 +95,26 @@ fn write_second<L: RewritableLog>(
     }
 }
 
-// Appends entries to a log, in parts, and syncs it. Returns how many bytes they have.
-fn write_entries<L: Log>(alloc: Global, log: &mut L, entries: &[Entry]) -> io::Result<u64>
-    ensures written { OnOk result (Appends (L.written log.old) (L.written log.new) (log_bytes entries.now)) }
+// Appends entries to a log that has none, in parts, and syncs it. Returns where it ends.
+fn write_entries<L: Log>(alloc: Global, log: &mut L, entries: &[Entry]) -> io::Result<LogEnd>
+    ensures written { OnOk result (Appends (L.written log.old) (L.written log.new)
+        (log_bytes first_chain entries.now)) }
     ensures synced { OnOk result (L.kept log.new ≡ L.written log.new) }
-    ensures length { IfOk result (λ bytes. bytes ≡ length (log_bytes entries.now)) }
+    ensures end { IfOk result (IsEndOf entries.now) }
 {
     let mut part = Vec::new(alloc);
     let mut length = 0u64;
+    let mut chain = Chain::new();
     for entry in entries {
-        write_entry(&mut part, entry)?;
+        write_entry(&mut part, chain, entry)?;
+        chain.pass(entry);
         if part.len() >= PART_BYTES {
             length = write_part(log, &mut part, length)?;
         }
     }
     length = write_part(log, &mut part, length)?;
     log.sync()?;
-    Ok(length)
+    Ok(LogEnd { length, chain })
 }
 
 // Appends these bytes to a log, and drops them. `length` is the number of bytes that were written before them, and the

@@ -1,5 +1,5 @@
 //! The loop of a node: frames in, entries to the log, frames out.
-ghost use Rattle.std.specs.Prelude.{◌≡◌, [], ⊤, List, MatchOption, OnOk, IfOk};
+ghost use Rattle.std.specs.Prelude.{◌≡◌, [], ⊤, ℕ, List, MatchOption, OnOk, IfOk};
 ghost use Rattle.std.specs.Io.Buffered.{reader_remaining};
 ghost use Rattle.frames.specs.Writing.{Writes};
 ghost use Rattle.node_effects.specs.declared.output.Output.{Output};
@@ -8,12 +8,13 @@ ghost use Rattle.node_store.specs.Rewriting.{HasGrown};
 ghost use Rattle.node_store.specs.Serving.{ServesUntil, ServesSome, HandlesArrived, IsFrameHandled, WritesOutputs};
 
 use crate::batch::Batch;
+use crate::end::LogEnd;
 use crate::log::Log;
 use crate::rewriting::has_grown;
 use crate::stop::ServeError;
 use crate::writing::append_bytes;
 use frames::{Fault, Frame, FrameError, read_frame, write_bytes};
-use node_effects::{Machine, NodeError};
+use node_effects::{Machine, NodeError, Report};
 use std::alloc::Global;
 use std::io;
 use std::io::{BufReader, ErrorKind, Read, Write};
@@ -26,39 +27,52 @@ const MOST_AT_ONCE: u16 = 1024;
 /// entry. After that the entries are appended to the log, which is synced once, and only then are the other frames
 /// written.
 ///
-/// `length` is the length of the log, which is synced. Returns none at the end of the input. Otherwise it returns the
-/// length that the log has then, which has grown as `has_grown` says; nothing waits to be written, and the log is
-/// synced. An input that ends within a frame counts as ended there. After 2^64 - 1 rounds the error is `NoInput` with
-/// `TimedOut`.
-pub fn serve_frames<M: Machine, I: Read + Drop, O: Write, L: Log>(
+/// `end` is where the log ends, which is synced. Returns none at the end of the input. Otherwise it returns where the
+/// log ends then, which has grown as `has_grown` says; nothing waits to be written, and the log is synced. An input
+/// that ends within a frame counts as ended there. After 2^64 - 1 rounds the error is `NoInput` with `TimedOut`.
+///
+/// What an operator should know is written to `err`. A write that fails there is ignored.
+pub fn serve_frames<M: Machine, I: Read + Drop, O: Write, L: Log, E: Write>(
     alloc: Global,
     machine: &mut M,
     input: &mut BufReader<I>,
     output: &mut O,
     log: &mut L,
-    length: u64,
-) -> Result<Option<u64>, ServeError>
+    end: LogEnd,
+    err: &mut E,
+) -> Result<Option<LogEnd>, ServeError>
     requires { L.kept log.old ≡ L.written log.old }
-    ensures serves { ServesUntil M.handles M.notes machine.old machine.new
+    ensures serves { ServesUntil M.handles M.notes end.chain.state machine.old machine.new
         (reader_remaining I.remaining input.old) (reader_remaining I.remaining input.new)
         (L.kept log.old) (L.kept log.new) (O.contents output.old) (O.contents output.new) result }
     ensures synced { OnOk result (L.kept log.new ≡ L.written log.new) }
-    ensures grown { IfOk result (λ end. MatchOption end ⊤ (HasGrown length)) }
+    ensures grown { IfOk result (λ now. MatchOption now ⊤ (λ now. HasGrown end.length now.length)) }
 {
-    let mut end = length;
-    let mut batch = Batch::new(alloc);
+    let mut length = end.length;
+    let mut batch = Batch::new(alloc, end.chain);
     for _ in 0..u64::MAX {
-        machine.note_log(end);
+        let report = machine.begin_round(length);
+        tell(err, report);
         if !serve_arrived(alloc, machine, input, output, log, &mut batch)? {
             return Ok(None);
         }
-        end = end.saturating_add(batch.log.len() as u64);
+        length = length.saturating_add(batch.log.len() as u64);
         batch.clear();
-        if has_grown(length, end) {
-            return Ok(Some(end));
+        if has_grown(end.length, length) {
+            return Ok(Some(LogEnd {
+                length,
+                chain: batch.chain,
+            }));
         }
     }
     Err(ServeError::NoInput(io::Error::from(ErrorKind::TimedOut)))
+}
+
+// Tells an operator something, if there is something to tell. A write that fails is ignored.
+fn tell<E: Write>(err: &mut E, report: Option<Report>) {
+    if let Some(report) = report {
+        let _ = writeln!(err, "casd: {report}");
+    }
 }
 
 // Serves the next frame, for which it waits, and those that have arrived behind it. Returns whether the input goes on.
@@ -70,9 +84,9 @@ fn serve_arrived<M: Machine, I: Read + Drop, O: Write, L: Log>(
     log: &mut L,
     batch: &mut Batch,
 ) -> Result<bool, ServeError>
-    requires empty { HasGathered batch.old [] }
+    requires empty { HasGathered batch.old.chain.state batch.old [] }
     requires synced { L.kept log.old ≡ L.written log.old }
-    ensures serves { ServesSome M.handles M.notes machine.old machine.new
+    ensures serves { ServesSome M.handles M.notes batch.old.chain.state batch.new.chain.state machine.old machine.new
         (reader_remaining I.remaining input.old) (reader_remaining I.remaining input.new)
         (L.kept log.old) (L.kept log.new) (O.contents output.old) (O.contents output.new) result }
     ensures synced { OnOk result (L.kept log.new ≡ L.written log.new) }
@@ -90,8 +104,9 @@ fn write_batch<O: Write, L: Log>(
     batch: &Batch,
 ) -> Result<(), ServeError>
     requires { L.kept log.old ≡ L.written log.old }
-    ensures writes { (outputs : List Output) → HasGathered batch.now outputs → WritesOutputs (L.kept log.old)
-        (L.kept log.new) (O.contents output.old) (O.contents output.new) outputs result }
+    ensures writes { (chain : ℕ) (outputs : List Output) → HasGathered chain batch.now outputs
+        → WritesOutputs chain (L.kept log.old) (L.kept log.new) (O.contents output.old) (O.contents output.new) outputs
+        result }
     ensures synced { OnOk result (L.kept log.new ≡ L.written log.new) }
 {
     if let Err(error) = write_out(output, &batch.early) {

@@ -1,20 +1,24 @@
 //! Appending to the log.
 ghost use Rattle.std.specs.Prelude.{◌≡◌, ◌++◌, IfOk, OnOk, length};
 ghost use Rattle.std.specs.Io.KnownBytes.{Appends};
+ghost use Rattle.node_log.specs.Entry.{chain_behind};
 ghost use Rattle.node_store.specs.Recovery.{log_bytes};
 ghost use Rattle.node_store.specs.Logs.{Grows};
 
 use crate::log::Log;
-use node_log::{Entry, write_entry};
+use node_log::{Chain, Entry, write_entry};
 use std::alloc::Global;
 use std::io;
 
-/// Appends the bytes of entries to bytes that wait to be written to the log. Fails only if memory is refused.
-pub fn push_entries(bytes: &mut Vec<u8>, entries: &[Entry]) -> io::Result<()>
-    ensures { OnOk result (bytes.new.items ≡ bytes.old.items ++ log_bytes entries.now) }
+/// Appends the bytes of entries to bytes that wait to be written to the log, and goes on with the chain behind them.
+/// Fails only if memory is refused.
+pub fn push_entries(bytes: &mut Vec<u8>, chain: &mut Chain, entries: &[Entry]) -> io::Result<()>
+    ensures bytes { OnOk result (bytes.new.items ≡ bytes.old.items ++ log_bytes chain.old.state entries.now) }
+    ensures chain { OnOk result (chain.new.state ≡ chain_behind chain.old.state entries.now) }
 {
     for entry in entries {
-        write_entry(bytes, entry)?;
+        write_entry(bytes, *chain, entry)?;
+        chain.pass(entry);
     }
     Ok(())
 }
@@ -34,16 +38,23 @@ pub fn append_bytes<L: Log>(log: &mut L, bytes: &[u8]) -> io::Result<()>
     log.sync()
 }
 
-/// Appends entries to a log that is synced, and syncs it again. Returns how many bytes they have. If it fails, also
-/// for want of memory, the log may keep some of the bytes.
-pub fn append_entries<L: Log>(alloc: Global, log: &mut L, entries: &[Entry]) -> io::Result<u64>
+/// Appends entries to a log that is synced and ends behind this chain, and syncs it again. Returns how many bytes they
+/// have, and goes on with the chain behind them. If it fails, also for want of memory, the log may keep some of the
+/// bytes.
+pub fn append_entries<L: Log>(
+    alloc: Global,
+    log: &mut L,
+    chain: &mut Chain,
+    entries: &[Entry],
+) -> io::Result<u64>
     requires { L.kept log.old ≡ L.written log.old }
-    ensures kept { IfOk result (λ bytes. Appends (L.kept log.old) (L.kept log.new) (log_bytes entries.now)
-        × (bytes ≡ length (log_bytes entries.now))) }
+    ensures kept { IfOk result (λ bytes. Appends (L.kept log.old) (L.kept log.new)
+        (log_bytes chain.old.state entries.now) × (bytes ≡ length (log_bytes chain.old.state entries.now))) }
+    ensures chain { OnOk result (chain.new.state ≡ chain_behind chain.old.state entries.now) }
     ensures synced { OnOk result (L.kept log.new ≡ L.written log.new) }
 {
     let mut bytes = Vec::new(alloc);
-    push_entries(&mut bytes, entries)?;
+    push_entries(&mut bytes, chain, entries)?;
     append_bytes(log, &bytes)?;
     Ok(bytes.len() as u64)
 }

@@ -1,21 +1,34 @@
 use Rattle.std.proofs.lemmas.Grind.{common_steps}
-use Rattle.std.proofs.Common.{rules, ap, ℕ, Vec, Global, arith}
+use Rattle.std.proofs.Common.{rules, ap, sym, ◌∙◌, ℕ, Vec, Global, arith}
+use Rattle.node_log.specs.Entry.{chain_after, first_chain}
+use Rattle.node_store.proofs.LogBytesLemmas.{chain_more}
 use Rattle.node_store.proofs.RewritingLemmas.{one_waits, part_written, same_written}
 use Rattle.node_store.proofs.rewriting.write_entries.Goals.{then-len-ge-PART_BYTES+in_ok-length, else-len-ge-PART_BYTES}
 use Rattle.node_store.proofs.rewriting.write_entries.Goals as goal
 
 pub loop-entry-preserved : goal.loop-entry-preserved
 loop-entry-preserved g c =
-    let waits = one_waits _ _ c.loop-entry.part.items c.write_entry.new.writer.items c.loop-entry.length c.args.entries.now
-    c.loop-entry.entry-index c.entry-item.result c.entry-item.result c.loop-entry-test.true c.entry-item.is
-    c.in_ok-write_entry.ensures c.loop-entry.invariant in
+    let entries = c.args.entries.now in
+    let index = c.loop-entry.entry-index in
+    let entry = c.entry-item.result in
+    let waits = one_waits first_chain c.loop-entry.chain.state _ _ c.loop-entry.part.items c.write_entry.new.writer.items
+    c.loop-entry.length entries index entry entry c.loop-entry-test.true c.entry-item.is c.loop-entry.invariant.1
+    c.in_ok-write_entry.ensures c.loop-entry.invariant.0 in
+    let chained = c.pass.ensures ∙ ap (λ (n : ℕ). chain_after n entry) c.loop-entry.invariant.1
+    ∙ sym (chain_more first_chain entries index entry entry c.loop-entry-test.true c.entry-item.is) in
     elim c.if-len-ge-PART_BYTES.branch [
-      | then-len-ge-PART_BYTES+in_ok-length w ↦ same_written _ _ _ _ _ _ _ _ (ap g.L.Log.written w.log-is)
-          (ap (λ (v : Vec ℕ Global). v.items) w.part-is) w.length-is
-          (part_written _ _ _ c.write_entry.new.writer.items _ _ _ _ waits w.in_ok-length.ensures.written w.in_ok-length.ensures.empty
-          (omega (arith, w.in_ok-length.ensures.length, c.write_entry.new.writer.ok.0)))
-      | else-len-ge-PART_BYTES w ↦ same_written _ _ _ _ _ _ _ _ (ap g.L.Log.written w.log-is)
-          (ap (λ (v : Vec ℕ Global). v.items) w.part-is) w.length-is waits
+      | then-len-ge-PART_BYTES+in_ok-length w ↦ (
+        same_written _ _ _ _ _ _ _ _ (ap g.L.Log.written w.log-is)
+            (ap (λ (v : Vec ℕ Global). v.items) w.part-is) w.length-is
+            (part_written _ _ _ c.write_entry.new.writer.items _ _ _ _ waits w.in_ok-length.ensures.written
+            w.in_ok-length.ensures.empty (omega (arith, w.in_ok-length.ensures.length, c.write_entry.new.writer.ok.0))),
+        chained,
+      )
+      | else-len-ge-PART_BYTES w ↦ (
+        same_written _ _ _ _ _ _ _ _ (ap g.L.Log.written w.log-is)
+            (ap (λ (v : Vec ℕ Global). v.items) w.part-is) w.length-is waits,
+        chained,
+      )
     ]
 
 pub returns-clause-synced : goal.returns-clause-synced
@@ -24,5 +37,5 @@ returns-clause-synced g c = search rules
 pub returns-clause-written : goal.returns-clause-written
 returns-clause-written g c = grind (arith, common_steps)
 
-pub returns-clause-length : goal.returns-clause-length
-returns-clause-length g c = grind (arith, common_steps)
+pub returns-clause-end : goal.returns-clause-end
+returns-clause-end g c = grind (arith, common_steps)

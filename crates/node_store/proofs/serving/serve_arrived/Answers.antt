@@ -6,7 +6,7 @@ use Rattle.node_store.proofs.serving.serve_arrived.Goals as goal
 pub returns-in_err-goes_on-clause-serves : goal.returns-in_err-goes_on-clause-serves
 returns-in_err-goes_on-clause-serves g c =
     let p = err_from_is_err_and c.from_residual.result c.from_residual.ensures.1 in
-    rw (p.1, p.2) (serves_unhandled g.M.Machine.handles g.M.Machine.notes c.args.machine.now
+    rw (p.1, p.2) (serves_unhandled g.M.Machine.handles g.M.Machine.notes c.args.batch.now.chain.state c.args.machine.now
     (reader_remaining g.I.Read.remaining c.args.input.now) (g.L.Log.kept c.args.log.now) (g.O.Write.contents c.args.output.now)
     c.in_err-goes_on.field-0.0 c.in_err-goes_on.ensures)
 
@@ -14,7 +14,8 @@ pub returns-in_err-write_batch-clause-serves : goal.returns-in_err-write_batch-c
 returns-in_err-write_batch-clause-serves g c =
     let p = err_from_is_err_and c.from_residual-in_err-write_batch.result c.from_residual-in_err-write_batch.ensures.1 in
     let known = reader_remaining g.I.Read.remaining in
-    rw (p.1, p.2) (serves_unwritten g.M.Machine.handles g.M.Machine.notes c.args.machine.now c.handle_arrived.new.machine
+    rw (p.1, p.2) (serves_unwritten g.M.Machine.handles g.M.Machine.notes c.args.batch.now.chain.state c.args.machine.now
+    c.handle_arrived.new.machine
     (known c.args.input.now) (known c.handle_arrived.new.input) c.args.batch.now c.handle_arrived.new.batch
     (g.L.Log.kept c.args.log.now) (g.L.Log.kept c.write_batch.new.log) (g.O.Write.contents c.args.output.now)
     (g.O.Write.contents c.write_batch.new.output) c.in_ok-goes_on.goes_on c.in_err-write_batch.field-0.0
@@ -23,7 +24,7 @@ returns-in_err-write_batch-clause-serves g c =
 pub returns-clause-serves : goal.returns-clause-serves
 returns-clause-serves g c =
     let known = reader_remaining g.I.Read.remaining in
-    serves_arrived g.M.Machine.handles g.M.Machine.notes c.args.machine.now c.handle_arrived.new.machine
+    serves_arrived g.M.Machine.handles g.M.Machine.notes c.args.batch.now.chain.state c.args.machine.now c.handle_arrived.new.machine
     (known c.args.input.now) (known c.handle_arrived.new.input) c.args.batch.now c.handle_arrived.new.batch
     (g.L.Log.kept c.args.log.now) (g.L.Log.kept c.write_batch.new.log) (g.O.Write.contents c.args.output.now)
     (g.O.Write.contents c.write_batch.new.output) c.in_ok-goes_on.goes_on

@@ -1,8 +1,8 @@
-use Rattle.std.proofs.Common.{rules, true, false, List, ℕ}
+use Rattle.std.proofs.Common.{rules, true, false, sym, List, ℕ}
 use Rattle.std.specs.Io.Buffered.{reader_remaining}
 use Rattle.std.proofs.lemmas.Result.{err_from_is_err_and}
 use Rattle.node_store.specs.declared.stop.ServeError.TheVariants.{NoInput}
-use Rattle.node_store.proofs.ServingLemmas.{serves_more, serves_as, serves_idle, going, stopped}
+use Rattle.node_store.proofs.ServingLemmas.{serves_none, serves_behind, serves_more, serves_as, serves_idle, going, stopped}
 use Rattle.node_store.proofs.serving.serve_frames.Goals as goal
 
 pub returns-in_err-serve_arrived-clause-serves : goal.returns-in_err-serve_arrived-clause-serves
@@ -12,45 +12,56 @@ returns-in_err-serve_arrived-clause-serves g c =
     let kept = g.L.Log.kept in
     let held = g.O.Write.contents in
     rw (p.1, p.2) (serves_more g.M.Machine.handles g.M.Machine.notes
-    c.args.machine.now c.loop.machine c.note_log.new.self c.serve_arrived.new.machine c.loop.end
+    c.args.end.chain.state c.loop.batch.chain.state c.serve_arrived.new.batch.chain.state
+    c.args.machine.now c.loop.machine c.begin_round-report.new.self c.serve_arrived.new.machine c.loop.length
     (known c.args.input.now) (known c.loop.input) (known c.serve_arrived.new.input)
     (kept c.args.log.now) (kept c.loop.log) (kept c.serve_arrived.new.log)
     (held c.args.output.now) (held c.loop.output) (held c.serve_arrived.new.output)
-    (stopped c.in_err-serve_arrived.field-0.0) c.loop.invariant.0 c.note_log.ensures c.in_err-serve_arrived.ensures.serves)
+    (stopped c.in_err-serve_arrived.field-0.0) c.loop.invariant.0 c.begin_round-report.ensures.noted c.in_err-serve_arrived.ensures.serves)
 
 pub returns-then-not-branch-clause-serves : goal.returns-then-not-branch-clause-serves
 returns-then-not-branch-clause-serves g c =
     let known = reader_remaining g.I.Read.remaining in
     let kept = g.L.Log.kept in
-    let held = g.O.Write.contents in
-    serves_more g.M.Machine.handles g.M.Machine.notes
-    c.args.machine.now c.loop.machine c.note_log.new.self c.serve_arrived.new.machine c.loop.end
-    (known c.args.input.now) (known c.loop.input) (known c.serve_arrived.new.input)
-    (kept c.args.log.now) (kept c.loop.log) (kept c.serve_arrived.new.log)
-    (held c.args.output.now) (held c.loop.output) (held c.serve_arrived.new.output)
-    (going false) c.loop.invariant.0 c.note_log.ensures
-    (serves_as g.M.Machine.handles g.M.Machine.notes c.note_log.new.self c.serve_arrived.new.machine
-    (known c.loop.input) (known c.serve_arrived.new.input) (kept c.loop.log) (kept c.serve_arrived.new.log)
-    (held c.loop.output) (held c.serve_arrived.new.output) c.in_ok-serve_arrived.field-0 false (search rules)
-    c.in_ok-serve_arrived.ensures.serves)
+    let held = g.O.Write.contents in (
+      c.serve_arrived.new.batch.chain.state,
+      serves_more g.M.Machine.handles g.M.Machine.notes
+          c.args.end.chain.state c.loop.batch.chain.state c.serve_arrived.new.batch.chain.state
+          c.args.machine.now c.loop.machine c.begin_round-report.new.self c.serve_arrived.new.machine c.loop.length
+          (known c.args.input.now) (known c.loop.input) (known c.serve_arrived.new.input)
+          (kept c.args.log.now) (kept c.loop.log) (kept c.serve_arrived.new.log)
+          (held c.args.output.now) (held c.loop.output) (held c.serve_arrived.new.output)
+          (going false) c.loop.invariant.0 c.begin_round-report.ensures.noted
+          (serves_as g.M.Machine.handles g.M.Machine.notes c.loop.batch.chain.state
+          c.serve_arrived.new.batch.chain.state c.begin_round-report.new.self c.serve_arrived.new.machine
+          (known c.loop.input) (known c.serve_arrived.new.input) (kept c.loop.log) (kept c.serve_arrived.new.log)
+          (held c.loop.output) (held c.serve_arrived.new.output) c.in_ok-serve_arrived.field-0 false (search rules)
+          c.in_ok-serve_arrived.ensures.serves),
+    )
 
 pub loop-preserved : goal.loop-preserved
 loop-preserved g c =
     let known = reader_remaining g.I.Read.remaining in
     let kept = g.L.Log.kept in
     let held = g.O.Write.contents in (
-      serves_more g.M.Machine.handles g.M.Machine.notes
-          c.args.machine.now c.loop.machine c.note_log.new.self c.serve_arrived.new.machine c.loop.end
+      serves_behind g.M.Machine.handles g.M.Machine.notes c.args.end.chain.state c.serve_arrived.new.batch.chain.state
+          c.clear.new.self.chain.state c.args.machine.now c.serve_arrived.new.machine
+          (known c.args.input.now) (known c.serve_arrived.new.input) (kept c.args.log.now) (kept c.serve_arrived.new.log)
+          (held c.args.output.now) (held c.serve_arrived.new.output) (going true) (sym c.clear.ensures.chain)
+          (serves_more g.M.Machine.handles g.M.Machine.notes
+          c.args.end.chain.state c.loop.batch.chain.state c.serve_arrived.new.batch.chain.state
+          c.args.machine.now c.loop.machine c.begin_round-report.new.self c.serve_arrived.new.machine c.loop.length
           (known c.args.input.now) (known c.loop.input) (known c.serve_arrived.new.input)
           (kept c.args.log.now) (kept c.loop.log) (kept c.serve_arrived.new.log)
           (held c.args.output.now) (held c.loop.output) (held c.serve_arrived.new.output)
-          (going true) c.loop.invariant.0 c.note_log.ensures
-          (serves_as g.M.Machine.handles g.M.Machine.notes c.note_log.new.self c.serve_arrived.new.machine
+          (going true) c.loop.invariant.0 c.begin_round-report.ensures.noted
+          (serves_as g.M.Machine.handles g.M.Machine.notes c.loop.batch.chain.state
+          c.serve_arrived.new.batch.chain.state c.begin_round-report.new.self c.serve_arrived.new.machine
           (known c.loop.input) (known c.serve_arrived.new.input) (kept c.loop.log) (kept c.serve_arrived.new.log)
           (held c.loop.output) (held c.serve_arrived.new.output) c.in_ok-serve_arrived.field-0 true (search rules)
-          c.in_ok-serve_arrived.ensures.serves),
+          c.in_ok-serve_arrived.ensures.serves)),
       c.in_ok-serve_arrived.ensures.synced,
-      c.clear.ensures,
+      c.clear.ensures.empty,
     )
 
 pub returns-then-has_grown-clause-serves : goal.returns-then-has_grown-clause-serves
@@ -58,28 +69,46 @@ returns-then-has_grown-clause-serves g c =
     let known = reader_remaining g.I.Read.remaining in
     let kept = g.L.Log.kept in
     let held = g.O.Write.contents in
-    serves_more g.M.Machine.handles g.M.Machine.notes
-    c.args.machine.now c.loop.machine c.note_log.new.self c.serve_arrived.new.machine c.loop.end
+    serves_behind g.M.Machine.handles g.M.Machine.notes c.args.end.chain.state c.serve_arrived.new.batch.chain.state
+    c.clear.new.self.chain.state c.args.machine.now c.serve_arrived.new.machine
+    (known c.args.input.now) (known c.serve_arrived.new.input) (kept c.args.log.now) (kept c.serve_arrived.new.log)
+    (held c.args.output.now) (held c.serve_arrived.new.output) (going true) (sym c.clear.ensures.chain)
+    (serves_more g.M.Machine.handles g.M.Machine.notes
+    c.args.end.chain.state c.loop.batch.chain.state c.serve_arrived.new.batch.chain.state
+    c.args.machine.now c.loop.machine c.begin_round-report.new.self c.serve_arrived.new.machine c.loop.length
     (known c.args.input.now) (known c.loop.input) (known c.serve_arrived.new.input)
     (kept c.args.log.now) (kept c.loop.log) (kept c.serve_arrived.new.log)
     (held c.args.output.now) (held c.loop.output) (held c.serve_arrived.new.output)
-    (going true) c.loop.invariant.0 c.note_log.ensures
-    (serves_as g.M.Machine.handles g.M.Machine.notes c.note_log.new.self c.serve_arrived.new.machine
+    (going true) c.loop.invariant.0 c.begin_round-report.ensures.noted
+    (serves_as g.M.Machine.handles g.M.Machine.notes c.loop.batch.chain.state
+    c.serve_arrived.new.batch.chain.state c.begin_round-report.new.self c.serve_arrived.new.machine
     (known c.loop.input) (known c.serve_arrived.new.input) (kept c.loop.log) (kept c.serve_arrived.new.log)
     (held c.loop.output) (held c.serve_arrived.new.output) c.in_ok-serve_arrived.field-0 true (search rules)
-    c.in_ok-serve_arrived.ensures.serves)
+    c.in_ok-serve_arrived.ensures.serves))
 
 pub returns-clause-serves : goal.returns-clause-serves
 returns-clause-serves g c =
     let known = reader_remaining g.I.Read.remaining in
     let kept = g.L.Log.kept in
     let held = g.O.Write.contents in
-    serves_idle g.M.Machine.handles g.M.Machine.notes c.args.machine.now c.loop.machine
+    serves_idle g.M.Machine.handles g.M.Machine.notes c.args.end.chain.state c.loop.batch.chain.state c.args.machine.now c.loop.machine
     (known c.args.input.now) (known c.loop.input) (kept c.args.log.now) (kept c.loop.log)
     (held c.args.output.now) (held c.loop.output) (NoInput c.from.result) (λ (bytes : List ℕ). tt) c.loop.invariant.0
 
 pub loop-init : goal.loop-init
-loop-init g c = search rules
+loop-init g c =
+    let known = reader_remaining g.I.Read.remaining in
+    let kept = g.L.Log.kept in
+    let held = g.O.Write.contents in (
+      serves_behind g.M.Machine.handles g.M.Machine.notes c.args.end.chain.state c.args.end.chain.state c.new-batch.result.chain.state
+          c.args.machine.now c.args.machine.now (known c.args.input.now) (known c.args.input.now)
+          (kept c.args.log.now) (kept c.args.log.now) (held c.args.output.now) (held c.args.output.now) (going true)
+          (sym c.new-batch.ensures.chain)
+          (serves_none g.M.Machine.handles g.M.Machine.notes c.args.end.chain.state c.args.machine.now (known c.args.input.now)
+          (kept c.args.log.now) (held c.args.output.now)),
+      c.requires,
+      c.new-batch.ensures.empty,
+    )
 
 pub returns-then-has_grown-clause-grown : goal.returns-then-has_grown-clause-grown
 returns-then-has_grown-clause-grown g c = search rules

@@ -6,7 +6,7 @@ use Rattle.node_store.specs.Serving.{ServesSome}
 use Rattle.node_store.proofs.serving.serve_frames.Given as goal
 
 abbrev pub invariant-loop : goal.invariant-loop
-invariant-loop g l = ServesSome g.M.Machine.handles g.M.Machine.notes l.fn.machine l.machine
-    (reader_remaining g.I.Read.remaining l.fn.input) (reader_remaining g.I.Read.remaining l.input)
+invariant-loop g l = ServesSome g.M.Machine.handles g.M.Machine.notes l.fn.end.chain.state l.batch.chain.state l.fn.machine
+    l.machine (reader_remaining g.I.Read.remaining l.fn.input) (reader_remaining g.I.Read.remaining l.input)
     (g.L.Log.kept l.fn.log) (g.L.Log.kept l.log) (g.O.Write.contents l.fn.output) (g.O.Write.contents l.output) (Ok true)
-    × (g.L.Log.kept l.log ≡ g.L.Log.written l.log) × HasGathered l.batch []
+    × (g.L.Log.kept l.log ≡ g.L.Log.written l.log) × HasGathered l.batch.chain.state l.batch []

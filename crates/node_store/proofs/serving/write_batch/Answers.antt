@@ -11,8 +11,8 @@ returns-in-Err-write_out-clause-writes g c =
     let held = g.O.Write.contents c.args.output.now in
     let middle = g.O.Write.contents c.write_out.new.output in
     let holds = g.O.Write.contents c.write_out-2.new.output in
-    λ outputs has. (
-      late_unsent c.args.batch.now outputs has kept keeps held middle holds c.in-Err-write_out.error
+    λ chain outputs has. (
+      late_unsent chain c.args.batch.now outputs has kept keeps held middle holds c.in-Err-write_out.error
           (subst (Appends held middle) c.deref.ensures.value c.in_default.ensures)
           (subst (Appends kept keeps) c.deref-2.ensures.value c.in_default-append_bytes.ensures.kept)
           (subst (Writes middle holds (failed c.in-Err-write_out.error)) c.deref-3.ensures.value c.in-Err-write_out.ensures),

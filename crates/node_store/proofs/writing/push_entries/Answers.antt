@@ -1,6 +1,8 @@
-use Rattle.std.proofs.Common.{arith}
-use Rattle.std.proofs.lemmas.Grind.{common_steps}
+use Rattle.node_store.proofs.LogBytesLemmas.{entry_pushed}
 use Rattle.node_store.proofs.writing.push_entries.Goals as goal
 
 pub loop-entry-preserved : goal.loop-entry-preserved
-loop-entry-preserved c = grind (arith, common_steps)
+loop-entry-preserved c =
+    entry_pushed c.args.chain.now.state c.loop-entry.chain.state c.pass.new.self.state c.args.bytes.now.items
+    c.loop-entry.bytes.items c.write_entry.new.writer.items c.args.entries.now c.loop-entry.entry-index c.entry-item.result
+    c.entry-item.result c.loop-entry-test.true c.entry-item.is c.in_ok-write_entry.ensures c.pass.ensures c.loop-entry.invariant

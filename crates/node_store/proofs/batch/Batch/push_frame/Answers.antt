@@ -6,4 +6,4 @@ pub returns-then-is_empty : goal.returns-then-is_empty
 returns-then-is_empty c =
     let log = c.args.self.now.log in
     early_added c.write_frame.result c.args.self.now _ c.args.frame.now
-    (no_bytes log.items log.len log.ok.0 (sym c.is_empty.ensures ∙ c.if-is_empty.true)) c.write_frame.ensures refl refl
+    (no_bytes log.items log.len log.ok.0 (sym c.is_empty.ensures ∙ c.if-is_empty.true)) c.write_frame.ensures refl refl refl
