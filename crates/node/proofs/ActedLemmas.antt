@@ -32,6 +32,7 @@ use Rattle.node.specs.declared.node.Node.{Node}
 use Rattle.node.specs.Frames.{letters_in, sender_or}
 use Rattle.node.specs.Handles.{Handles, HasActed}
 use Rattle.node.specs.Serving.{ServedSince}
+use Rattle.node.specs.Peers.{IsChangedBy}
 use Rattle.node.specs.Ticks.{IsAskingAgain}
 
 -- a letter of the node to itself is one of those that it sent
@@ -221,8 +222,9 @@ pub handles_of : (old new : Node) (frame : Strings) (work : Work) (effects : Eff
     ServedSince (arrival_at frame) old new work.to_clients.items work.notices.items →
     effects.outputs.items ≡ work.outputs.items → effects.answers.items ≡ work.to_clients.items →
     effects.notices.items ≡ work.notices.items → (NoneWaits old.desk.clients [] → NoneWaits new.desk.clients []) →
-    IsAskingAgain (arrival_at frame) old effects.outputs.items → Handles old frame effects new
-handles_of old new frame work effects done served outputs answers notices waits again = record {
+    IsAskingAgain (arrival_at frame) old effects.outputs.items →
+    IsChangedBy (arrival_at frame) old.keeper old.peers new.peers → Handles old frame effects new
+handles_of old new frame work effects done served outputs answers notices waits again peers = record {
   wants = done.wants;
   handled = subst (λ ns. IsHandledSafely fragment (kept_of old.keeper) (letters_in old.keeper frame) (left_by done.wants)
       (kept_of new.keeper) (all_seen ns)) (sym notices) done.handled;
@@ -233,4 +235,5 @@ handles_of old new frame work effects done served outputs answers notices waits 
       (subst (λ ns. ServedSince (arrival_at frame) old new work.to_clients.items ns) (sym notices) served);
   waits = waits;
   again = again;
+  peers = peers;
 }

@@ -19,7 +19,7 @@ use Rattle.node_keeper.specs.declared.keeper.Keeper.{Keeper}
 use Rattle.node_keeper.proofs.SendingLemmas.{posted_append}
 use Rattle.node.specs.Serving.{AreTicksOf, IsTickOf, ServesTicks}
 use Rattle.node.specs.Ticks.{AreFirst, AreTicked, IsAsking, IsAskingAgain, IsKeptAs, IsKeptAtAge, IsTicked, PutsOut}
-use Rattle.node.specs.Ticks.{SendsAgain, again_if, aged_at, sent_at_age}
+use Rattle.node.specs.Ticks.{hearing, SendsAgain, again_if, aged_at, sent_at_age}
 use Rattle.node.specs.declared.node.Node.{Node}
 
 -- One call
@@ -134,5 +134,5 @@ asked_again None old middle before first all empty is are = (middle, first, tt, 
 asked_again (Some (arrived.Command client frame)) old middle before first all empty is are = (middle, first, tt, are)
 asked_again (Some (arrived.Left client)) old middle before first all empty is are = (middle, first, tt, are)
 asked_again (Some (arrived.Message sender frame)) old middle before first all empty is are = (middle, first, tt, are)
-asked_again (Some arrived.Tick) old middle before first all empty is are =
-    (middle, first, subst (λ xs. SendsAgain (keys old.desk.calls) old xs middle first) empty is, are)
+asked_again (Some (arrived.Tick heard)) old middle before first all empty is are =
+    (middle, first, subst (λ xs. SendsAgain (keys old.desk.calls) (hearing heard old) xs middle first) empty is, are)

@@ -30,7 +30,7 @@ use Rattle.node_keeper.specs.Sendings.{letter_of_message}
 use Rattle.node_keeper.specs.declared.keeper.Keeper.{Keeper}
 use Rattle.node.specs.Anew.{HandledFramesKeepOwn, HandledFramesKeepOwnCalls, StartingNodesHaveOwn, OwnCallsAreDistinct}
 use Rattle.node.specs.Anew.{RecoveredEntriesKeepOwn, StartedNodesKeepOwn}
-use Rattle.node.specs.Frames.{is_from_cluster, letter_from, letter_if_any, letter_if_read, letters_in}
+use Rattle.node.specs.Frames.{is_admitted, letter_from, letter_if_any, letter_if_read, letters_in}
 
 -- Messages that are read have lawful layouts
 
@@ -49,7 +49,7 @@ all_if P false x here = tt
 
 from_lawful : (keeper : Keeper) (sender : ℕ) (message : NodeMessage) → HasLawfulLayouts (letter_of_message message).letter →
     AllByRecursion IsLawfulLetter (letter_from keeper sender message)
-from_lawful keeper sender message lawful = go (is_from_cluster keeper sender message)
+from_lawful keeper sender message lawful = go (is_admitted keeper sender message)
   where
     go : (b : Bool) →
         AllByRecursion IsLawfulLetter (cond b (if_heeded (kept_of keeper) (named_of (letter_of_message message))) [])
@@ -67,7 +67,7 @@ came_lawful keeper None = tt
 came_lawful keeper (Some (came.Message sender frame)) = frame_lawful keeper sender frame (message_from frame) refl
 came_lawful keeper (Some (came.Command client frame)) = tt
 came_lawful keeper (Some (came.Left client)) = tt
-came_lawful keeper (Some came.Tick) = tt
+came_lawful keeper (Some (came.Tick heard)) = tt
 
 -- The laws
 

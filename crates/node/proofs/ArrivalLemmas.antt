@@ -23,27 +23,28 @@ use Rattle.node.specs.Replies.{IsRight}
 use Rattle.node.specs.Serving.{FollowsUp, IsComing, ServedSince, ServesClients, ServesArrival}
 use Rattle.node.specs.Serving.{ServesMore}
 use Rattle.node.specs.declared.node.Node.{Node}
+use Rattle.node.specs.declared.peers.Peers.{Peers}
 use Rattle.node.proofs.ServingLemmas.{all_right, serves_then}
 
 -- the first thing stays the first one where more follow
-first_stays : (keeper : Keeper) (calls : ℕ) (counts : Counts) (client : ℕ) (frame : Strings) (more rest : List Service) →
-    IsFirstDone keeper calls counts client frame more → IsFirstDone keeper calls counts client frame (more ++ rest)
-first_stays keeper calls counts client frame [] rest is = absurd is
-first_stays keeper calls counts client frame (service ∷ more) rest is = is
+first_stays : (keeper : Keeper) (peers : Peers) (calls : ℕ) (counts : Counts) (client : ℕ) (frame : Strings) (more rest : List Service) →
+    IsFirstDone keeper peers calls counts client frame more → IsFirstDone keeper peers calls counts client frame (more ++ rest)
+first_stays keeper peers calls counts client frame [] rest is = absurd is
+first_stays keeper peers calls counts client frame (service ∷ more) rest is = is
 
-at_once_stays : (came : Option Arrival) (keeper : Keeper) (desk : Desk) (more rest : List Service) →
-    IsAtOnce came keeper desk more → IsAtOnce came keeper desk (more ++ rest)
-at_once_stays None keeper desk more rest is = tt
-at_once_stays (Some (arrived.Command client frame)) keeper desk more rest is =
-    λ free. first_stays keeper (index_map_len desk.calls) desk.counts client frame more rest (is free)
-at_once_stays (Some (arrived.Left client)) keeper desk more rest is = tt
-at_once_stays (Some (arrived.Message sender frame)) keeper desk more rest is = tt
-at_once_stays (Some arrived.Tick) keeper desk more rest is = tt
+at_once_stays : (came : Option Arrival) (keeper : Keeper) (peers : Peers) (desk : Desk) (more rest : List Service) →
+    IsAtOnce came keeper peers desk more → IsAtOnce came keeper peers desk (more ++ rest)
+at_once_stays None keeper peers desk more rest is = tt
+at_once_stays (Some (arrived.Command client frame)) keeper peers desk more rest is =
+    λ free. first_stays keeper peers (index_map_len desk.calls) desk.counts client frame more rest (is free)
+at_once_stays (Some (arrived.Left client)) keeper peers desk more rest is = tt
+at_once_stays (Some (arrived.Message sender frame)) keeper peers desk more rest is = tt
+at_once_stays (Some (arrived.Tick heard)) keeper peers desk more rest is = tt
 
 -- something comes, and some things follow up
 pub arrival_then : (came : Option Arrival) (a b c : Node) (u v w : Work) (service : Service) →
     IsComing a.desk came (service ∷ []) → ServesClients a u (service ∷ []) b v → (more : ServesMore b v c w) →
-    IsAtOnce came a.keeper a.desk more.services → ServesArrival came a u c w
+    IsAtOnce came a.keeper a.peers a.desk more.services → ServesArrival came a u c w
 arrival_then came a b c u v w service comes first more at_once = record {
   coming = service ∷ [];
   more = more.services;
@@ -55,7 +56,7 @@ arrival_then came a b c u v w service comes first more at_once = record {
 
 -- something comes, and nothing follows up
 pub arrival_alone : (came : Option Arrival) (a b : Node) (u v : Work) (services : List Service) →
-    IsComing a.desk came services → IsAtOnce came a.keeper a.desk [] → ServesClients a u services b v →
+    IsComing a.desk came services → IsAtOnce came a.keeper a.peers a.desk [] → ServesClients a u services b v →
     ServesArrival came a u b v
 arrival_alone came a b u v services comes at_once serves = record {
   coming = services;
@@ -68,7 +69,7 @@ arrival_alone came a b u v services comes at_once serves = record {
 
 -- nothing comes for clients, and some things follow up
 pub arrival_more : (came : Option Arrival) (a b : Node) (u v : Work) → IsComing a.desk came [] →
-    (more : ServesMore a u b v) → IsAtOnce came a.keeper a.desk more.services → ServesArrival came a u b v
+    (more : ServesMore a u b v) → IsAtOnce came a.keeper a.peers a.desk more.services → ServesArrival came a u b v
 arrival_more came a b u v comes more at_once = record {
   coming = [];
   more = more.services;
@@ -110,7 +111,7 @@ since_then came a b c answers notices v w told seen s m =
       more = s.more ++ m.services;
       comes = s.comes;
       follows = all_append FollowsUp s.more m.services s.follows m.follows;
-      at_once = at_once_stays came a.keeper a.desk s.more m.services s.at_once;
+      at_once = at_once_stays came a.keeper a.peers a.desk s.more m.services s.at_once;
       served = subst (λ ss. AreServicesDone a.keeper.file.ticks a.desk ss c.desk) all
           (served_then a.keeper.file.ticks a.desk b.desk c.desk before m.services s.served has.served);
       right = subst (λ ss. AllByRecursion (IsRight a.keeper.ids.node a.keeper.file) ss) all

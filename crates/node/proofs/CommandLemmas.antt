@@ -10,6 +10,7 @@ use Rattle.client_commands.specs.Reading.{command_at}
 use Rattle.client_commands.specs.declared.answer.Answer.{Answer}
 use Rattle.client_commands.specs.declared.command.Command.{Command}
 use Rattle.client_commands.specs.declared.command.Command.TheVariants as ask
+use Rattle.client_commands.specs.declared.command.Wanted.{Wanted}
 use Rattle.layout.specs.Layout.{Layout}
 use Rattle.node_strings.specs.Strings.{Strings}
 use Rattle.node_effects.specs.Work.{IsGrown}
@@ -30,6 +31,7 @@ use Rattle.node.specs.Replies.{IsPlainReply, IsReplyTo, IsRight}
 use Rattle.node.specs.Serving.{FollowsUp, IsCommandDone}
 use Rattle.node.specs.Serving.{ServesClients, ServesCommand, ServesNext}
 use Rattle.node.specs.declared.node.Node.{Node}
+use Rattle.node.specs.declared.peers.Peers.{Peers}
 use Rattle.node.proofs.ServingLemmas.{serves_one}
 
 -- a connection that has a next command gives it
@@ -67,7 +69,7 @@ command_served ticks a b c client frame (Service.Quits other) taken done = (
 )
 command_served ticks a b c client frame (Service.Arrives other command) taken done = absurd done
 command_served ticks a b c client frame (Service.Leaves other) taken done = absurd done
-command_served ticks a b c client frame (Service.Ends name ended told) taken done = absurd done
+command_served ticks a b c client frame (Service.Ends name ended what told) taken done = absurd done
 command_served ticks a b c client frame (Service.Ages id) taken done = absurd done
 command_served ticks a b c client frame (Service.GivesUp id told) taken done = absurd done
 command_served ticks a b c client frame (Service.Releases id told) taken done = absurd done
@@ -81,7 +83,7 @@ command_follows old new client frame (Service.Replies other command answer) done
 command_follows old new client frame (Service.Quits other) done = tt
 command_follows old new client frame (Service.Arrives other command) done = absurd done
 command_follows old new client frame (Service.Leaves other) done = absurd done
-command_follows old new client frame (Service.Ends name ended told) done = absurd done
+command_follows old new client frame (Service.Ends name ended what told) done = absurd done
 command_follows old new client frame (Service.Ages id) done = absurd done
 command_follows old new client frame (Service.GivesUp id told) done = absurd done
 command_follows old new client frame (Service.Releases id told) done = absurd done
@@ -109,18 +111,20 @@ nothing_next client old new u v none serves = record {
   first = λ frame waiting idle waits. no_first (connection_of old.desk client) frame waiting none idle waits;
 }
 
-carried_as : (a b : Keeper) (m n : ℕ) (p q : Counts) (client : ℕ) (frame also : Strings) (service : Service) → b ≡ a →
-    n ≡ m → q ≡ p → also ≡ frame → IsCarriedOut b n q client frame service → IsCarriedOut a m p client also service
-carried_as a b m n p q client frame also service keeper calls counts same is =
-    subst (λ (f : Strings). IsCarriedOut a m p client f service) (sym same)
-    (subst (λ (k : Keeper). IsCarriedOut k m p client frame service) keeper
-    (subst (λ (i : ℕ). IsCarriedOut b i p client frame service) calls
-    (subst (λ (c : Counts). IsCarriedOut b n c client frame service) counts is)))
+carried_as : (a b : Keeper) (r s : Peers) (m n : ℕ) (p q : Counts) (client : ℕ) (frame also : Strings) (service : Service) → b ≡ a →
+    s ≡ r → n ≡ m → q ≡ p → also ≡ frame → IsCarriedOut b s n q client frame service →
+    IsCarriedOut a r m p client also service
+carried_as a b r s m n p q client frame also service keeper peers calls counts same is =
+    subst (λ (f : Strings). IsCarriedOut a r m p client f service) (sym same)
+    (subst (λ (k : Keeper). IsCarriedOut k r m p client frame service) keeper
+    (subst (λ (x : Peers). IsCarriedOut b x m p client frame service) peers
+    (subst (λ (i : ℕ). IsCarriedOut b s i p client frame service) calls
+    (subst (λ (c : Counts). IsCarriedOut b s n c client frame service) counts is))))
 
 -- the next command of a client is taken, and carried out
 pub taken_served : (a b c : Node) (u v : Work) (client : ℕ) (frame : Strings) → b.keeper ≡ a.keeper →
-    IsCommandTaken a.desk client frame b.desk → ServesCommand client frame b u c v → ServesNext client a u c v
-taken_served a b c u v client frame same taken s =
+    b.peers ≡ a.peers → IsCommandTaken a.desk client frame b.desk → ServesCommand client frame b u c v → ServesNext client a u c v
+taken_served a b c u v client frame same peers taken s =
     let many : index_map_len b.desk.calls ≡ index_map_len a.desk.calls = rw taken.calls in record {
       more = record {
         services = s.service ∷ [];
@@ -132,8 +136,8 @@ taken_served a b c u v client frame same taken s =
       };
       first = λ command waiting idle waits.
           let both : command ∷ waiting ≡ frame ∷ waiting_on (connection_of b.desk client) = sym waits ∙ taken.taken.1 in
-          carried_as a.keeper b.keeper (index_map_len a.desk.calls) (index_map_len b.desk.calls) a.desk.counts b.desk.counts
-          client frame command s.service same many taken.counts (cc) s.carried;
+          carried_as a.keeper b.keeper a.peers b.peers (index_map_len a.desk.calls) (index_map_len b.desk.calls) a.desk.counts b.desk.counts
+          client frame command s.service same peers many taken.counts (cc) s.carried;
     }
 
 -- a busy connection is there: its client is sent the answer
@@ -155,7 +159,7 @@ answered_now old new client busy idle calls counts = record {
 pub replied : (client : ℕ) (frame : Strings) (answer : Answer) (old new : Node) (u v : Work) →
     IsClientAnswered old.desk client new.desk → IsGrown u v (answer_sent client answer) →
     IsReplyTo old.keeper.ids.node old.keeper.file client (command_at frame) answer →
-    IsReplyHere old.keeper (index_map_len old.desk.calls) old.desk.counts (command_at frame) answer →
+    IsReplyHere old.keeper old.peers (index_map_len old.desk.calls) old.desk.counts (command_at frame) answer →
     new.keeper.file ≡ old.keeper.file → new.keeper.ids.node ≡ old.keeper.ids.node → ServesCommand client frame old u new v
 replied client frame answer old new u v answered grown reply here file number = record {
   service = Service.Replies client frame answer;
@@ -208,10 +212,10 @@ quits client command old new u v (Err error) is busy grown state waiting stays o
 
 -- the plain answer to a command that is no call and no QUIT
 pub plain_is_reply : (number : ℕ) (file : FileContents) (client : ℕ) (command : Command) (answer : Answer) →
-    ((name : List ℕ) → command ≡ ask.Get name → ⊥) → ((name value : List ℕ) → command ≡ ask.Set name value → ⊥) →
+    ((wanted : Wanted) (name : List ℕ) → command ≡ ask.Read wanted name → ⊥) → ((name value : List ℕ) → command ≡ ask.Set name value → ⊥) →
     ((name : List ℕ) (layout : Layout) → command ≡ ask.Move name layout → ⊥) → (command ≡ ask.Quit → ⊥) →
     IsPlainReply client command answer → IsReplyTo number file client (Ok command) answer
-plain_is_reply number file client (ask.Get name) answer get set move quit is = absurd (get name refl)
+plain_is_reply number file client (ask.Read wanted name) answer get set move quit is = absurd (get wanted name refl)
 plain_is_reply number file client (ask.Set name value) answer get set move quit is = absurd (set name value refl)
 plain_is_reply number file client (ask.Move name layout) answer get set move quit is = absurd (move name layout refl)
 plain_is_reply number file client ask.Info answer get set move quit is = is
@@ -220,19 +224,29 @@ plain_is_reply number file client (ask.Echo text) answer get set move quit is = 
 plain_is_reply number file client ask.ListCommands answer get set move quit is = is
 plain_is_reply number file client ask.ClientId answer get set move quit is = is
 plain_is_reply number file client ask.DescribeClient answer get set move quit is = is
+plain_is_reply number file client ask.CountCommands answer get set move quit is = is
+plain_is_reply number file client ask.ClientName answer get set move quit is = is
+plain_is_reply number file client ask.Hello answer get set move quit is = is
+plain_is_reply number file client ask.Select answer get set move quit is = is
+plain_is_reply number file client ask.Login answer get set move quit is = is
 plain_is_reply number file client ask.Quit answer get set move quit is = absurd (quit refl)
 
-pub plain_is_here : (keeper : Keeper) (calls : ℕ) (counts : Counts) (command : Command) (answer : Answer) →
-    ((name : List ℕ) → command ≡ ask.Get name → ⊥) → ((name value : List ℕ) → command ≡ ask.Set name value → ⊥) →
+pub plain_is_here : (keeper : Keeper) (peers : Peers) (calls : ℕ) (counts : Counts) (command : Command) (answer : Answer) →
+    ((wanted : Wanted) (name : List ℕ) → command ≡ ask.Read wanted name → ⊥) → ((name value : List ℕ) → command ≡ ask.Set name value → ⊥) →
     ((name : List ℕ) (layout : Layout) → command ≡ ask.Move name layout → ⊥) →
-    IsPlainHere keeper calls counts command answer → IsReplyHere keeper calls counts (Ok command) answer
-plain_is_here keeper calls counts (ask.Get name) answer get set move is = absurd (get name refl)
-plain_is_here keeper calls counts (ask.Set name value) answer get set move is = absurd (set name value refl)
-plain_is_here keeper calls counts (ask.Move name layout) answer get set move is = absurd (move name layout refl)
-plain_is_here keeper calls counts ask.Info answer get set move is = is
-plain_is_here keeper calls counts (ask.Ping text) answer get set move is = tt
-plain_is_here keeper calls counts (ask.Echo text) answer get set move is = tt
-plain_is_here keeper calls counts ask.ListCommands answer get set move is = tt
-plain_is_here keeper calls counts ask.ClientId answer get set move is = tt
-plain_is_here keeper calls counts ask.DescribeClient answer get set move is = tt
-plain_is_here keeper calls counts ask.Quit answer get set move is = tt
+    IsPlainHere keeper peers calls counts command answer → IsReplyHere keeper peers calls counts (Ok command) answer
+plain_is_here keeper peers calls counts (ask.Read wanted name) answer get set move is = absurd (get wanted name refl)
+plain_is_here keeper peers calls counts (ask.Set name value) answer get set move is = absurd (set name value refl)
+plain_is_here keeper peers calls counts (ask.Move name layout) answer get set move is = absurd (move name layout refl)
+plain_is_here keeper peers calls counts ask.Info answer get set move is = is
+plain_is_here keeper peers calls counts (ask.Ping text) answer get set move is = tt
+plain_is_here keeper peers calls counts (ask.Echo text) answer get set move is = tt
+plain_is_here keeper peers calls counts ask.ListCommands answer get set move is = tt
+plain_is_here keeper peers calls counts ask.ClientId answer get set move is = tt
+plain_is_here keeper peers calls counts ask.DescribeClient answer get set move is = tt
+plain_is_here keeper peers calls counts ask.CountCommands answer get set move is = tt
+plain_is_here keeper peers calls counts ask.ClientName answer get set move is = tt
+plain_is_here keeper peers calls counts ask.Hello answer get set move is = tt
+plain_is_here keeper peers calls counts ask.Select answer get set move is = tt
+plain_is_here keeper peers calls counts ask.Login answer get set move is = tt
+plain_is_here keeper peers calls counts ask.Quit answer get set move is = tt

@@ -17,7 +17,7 @@ use Rattle.node_effects.specs.Work.{IsGrown}
 use Rattle.node_effects.specs.declared.letter.NamedLetter.{NamedLetter}
 use Rattle.node_effects.specs.declared.work.Work.{Work}
 use Rattle.node_clients.specs.Answers.{answer_frame, ended_answer}
-use Rattle.node_clients.specs.Calls.{waiting_for}
+use Rattle.node_clients.specs.Calls.{call_under, waiting_for, wanted_by}
 use Rattle.node_clients.specs.Desk.{growth_for, has_listener, listener, with_told}
 use Rattle.node_clients.specs.Served.{IsCallClosed, IsServiceDone, call_begun}
 use Rattle.node_clients.specs.Services.{Service, begun_notices}
@@ -59,10 +59,10 @@ pub call_served : (client : ℕ) (frame : Strings) (command : Command) (call : B
     MayBegin old.keeper.ids.node old.keeper.file command →
     ((id : ℕ) (why : Refusal) → IsNextGiven old.keeper.ids id →
     call.refusal (objects_of old.keeper.objects call.name) id ≡ Some why →
-    IsReplyHere old.keeper (index_map_len old.desk.calls) old.desk.counts (Ok command)
+    IsReplyHere old.keeper old.peers (index_map_len old.desk.calls) old.desk.counts (Ok command)
     (answers.Error (errors.Refused why))) →
     ((id : ℕ) → IsNextGiven old.keeper.ids id → call.refusal (objects_of old.keeper.objects call.name) id ≡ None →
-    BeginsHere old.keeper command id) →
+    BeginsHere old.keeper old.peers command id) →
     BeginsCall call old.keeper u new.keeper v begun → new.keeper.ids.node ≡ old.keeper.ids.node →
     IsAwaited old.desk v client (call_begun client command) begun new.desk w → ServesCommand client frame old u new w
 call_served client frame command call old new u v w (begun.Open id) asks notices refusals may refused accepted begins number
@@ -97,7 +97,7 @@ call_served client frame command call old new u v w (begun.Refused why) asks not
       carried = (
         refl,
         refl,
-        subst (λ r. IsReplyHere old.keeper (index_map_len old.desk.calls) old.desk.counts r answer) (sym asks)
+        subst (λ r. IsReplyHere old.keeper old.peers (index_map_len old.desk.calls) old.desk.counts r answer) (sym asks)
             (refused begins.id why (next_given old.keeper.ids new.keeper.ids begins.id u v begins.gives) begins.cause),
       );
       told = grown.to_clients ∙ ap (λ xs. xs ++ (answer_frame client answer ∷ [])) clients.to_clients;
@@ -140,20 +140,22 @@ module _ (asker : ℕ) (it : NamedLetter) (old new : Node) (u v : Work) (number 
 
   -- a letter was taken, and a call ended
   pub ended_served : (ended : Ended) (w : Work) → DeliversLetter asker it old.keeper u new.keeper v (delivered.Ended ended) →
-      IsGrown v w (growth_for old.desk (waiting_for old.desk.calls ended.id) (ended_answer ended)) →
+      IsGrown v w (growth_for old.desk (waiting_for old.desk.calls ended.id)
+      (ended_answer (wanted_by (call_under old.desk.calls ended.id)) ended)) →
       IsCallClosed old.desk ended.id (listener old.desk (waiting_for old.desk.calls ended.id)) new.desk →
       new.desk.counts ≡ with_told (has_listener old.desk (waiting_for old.desk.calls ended.id)) old.desk.counts →
       ServesMore old u new w
   ended_served ended w is grown closed counts =
       let who = waiting_for old.desk.calls ended.id in
-      let service = Service.Ends it.name ended (listener old.desk who) in
+      let what = wanted_by (call_under old.desk.calls ended.id) in
+      let service = Service.Ends it.name ended what (listener old.desk who) in
       let clients = delivers_leaves asker it old.keeper new.keeper u v (delivered.Ended ended) is in
       more_one old new u w service tt
-      (serves_one old new u w service (closed, counts)
-      (grown.to_clients ∙ ap (λ xs. xs ++ (growth_for old.desk who (ended_answer ended)).to_clients) clients.to_clients
-      ∙ ap (λ xs. u.to_clients.items ++ xs) (growth_frames old.desk who (ended_answer ended)))
-      (grown.due ∙ ap (λ xs. xs ++ (growth_for old.desk who (ended_answer ended)).due) clients.due
-      ∙ ap (λ xs. u.due.items ++ xs) (growth_dues old.desk who (ended_answer ended)))
-      (grown.notices ∙ ap (λ xs. v.notices.items ++ xs) (growth_notices old.desk who (ended_answer ended))
+      (serves_one old new u w service (refl, closed, counts)
+      (grown.to_clients ∙ ap (λ xs. xs ++ (growth_for old.desk who (ended_answer what ended)).to_clients) clients.to_clients
+      ∙ ap (λ xs. u.to_clients.items ++ xs) (growth_frames old.desk who (ended_answer what ended)))
+      (grown.due ∙ ap (λ xs. xs ++ (growth_for old.desk who (ended_answer what ended)).due) clients.due
+      ∙ ap (λ xs. u.due.items ++ xs) (growth_dues old.desk who (ended_answer what ended)))
+      (grown.notices ∙ ap (λ xs. v.notices.items ++ xs) (growth_notices old.desk who (ended_answer what ended))
       ∙ append-nil v.notices.items ∙ delivers_seen asker it old.keeper new.keeper u v (delivered.Ended ended) is) tt
       (file_after (delivered.Ended ended) is) number)

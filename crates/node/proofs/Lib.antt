@@ -1,4 +1,6 @@
 pub mod TellLemmas
+pub mod PeerLemmas
+pub mod MoveLemmas
 pub mod ServingLemmas
 pub mod CommandLemmas
 pub mod ArrivalLemmas

@@ -14,6 +14,7 @@ use Rattle.node.specs.Replies.{IsRight}
 use Rattle.node.specs.Serving.{FollowsUp, ServesClients}
 use Rattle.node.specs.Serving.{ServesMore}
 use Rattle.node.specs.declared.node.Node.{Node}
+use Rattle.node.specs.declared.peers.Peers.{Peers}
 
 -- nothing is done for clients
 pub serves_none : (old new : Node) (u v : Work) → new.desk ≡ old.desk → v.to_clients.items ≡ u.to_clients.items →
@@ -92,3 +93,8 @@ drops_one old new work served same = unsent_one old new work Service.Drops serve
 pub drops_more : (old new : Node) (work : Work) → IsServiceDone old.keeper.file.ticks old.desk Service.Drops new.desk →
     new.keeper ≡ old.keeper → ServesMore old work new work
 drops_more old new work served same = more_one old new work work Service.Drops tt (drops_one old new work served same)
+
+-- the same from a node that knows something else of the other nodes
+pub serves_beside : (old new : Node) (peers : Peers) (u v : Work) (services : List Service) →
+    ServesClients (record old { peers = peers }) u services new v → ServesClients old u services new v
+serves_beside old new peers u v services s = record { has = s.has; right = s.right; file = s.file; number = s.number }

@@ -1,6 +1,6 @@
 -- The contracts that docs/trusted.md lists do not depend on this file; other contracts and proofs do.
 -- What a node does with a command that it carries out at once, by what it keeps before the command comes.
-use Rattle.std.specs.Prelude.{◌≡◌, ◌⊎◌, ⊤, ℕ, ◌-◌, ◌^◌, min, true, List, [], ◌∷◌, ◌++◌, length}
+use Rattle.std.specs.Prelude.{◌≡◌, ◌⊎◌, ⊤, ℕ, ◌-◌, ◌^◌, min, List, [], ◌∷◌, ◌++◌, length}
 use Rattle.std.specs.Prelude.{codes, Option, None, Some, Ok, Err}
 use Rattle.std.specs.Fmt.{decimal}
 use Rattle.std.specs.List.{concat}
@@ -16,6 +16,7 @@ use Rattle.local_object.specs.Local.{LocalObject}
 use Rattle.client_commands.specs.Reading.{Found, command_at}
 use Rattle.client_commands.specs.declared.answer.Answer.{Answer}
 use Rattle.client_commands.specs.declared.answer.Answer.TheVariants as answers
+use Rattle.client_commands.specs.declared.answer.AnswerError.{AnswerError}
 use Rattle.client_commands.specs.declared.answer.AnswerError.TheVariants as errors
 use Rattle.client_commands.specs.declared.command.Command.{Command}
 use Rattle.client_commands.specs.declared.command.Command.TheVariants as ask
@@ -28,7 +29,8 @@ use Rattle.node_clients.specs.Services.{Service}
 use Rattle.node_clients.specs.declared.counts.Counts.{Counts}
 use Rattle.node_clients.specs.declared.desk.Desk.{Desk}
 use Rattle.node_keeper.specs.declared.keeper.Keeper.{Keeper}
-use Rattle.node.specs.Replies.{HasOnlyNodes, moves_objects}
+use Rattle.node.specs.Moves.{move_fault}
+use Rattle.node.specs.declared.peers.Peers.{Peers}
 
 -- this is the id that a node gives next: the next one of its epoch, or the first one of the next epoch
 abbrev pub IsNextGiven : CallIds → (id : ℕ) → Type 0
@@ -59,75 +61,81 @@ size_lines objects bytes clients calls = concat (
     codes "objects:" ∷ decimal objects ∷ codes "\r\nbytes_stored:" ∷ decimal bytes
     ∷ codes "\r\nclients:" ∷ decimal clients ∷ codes "\r\ncalls_open:" ∷ decimal calls ∷ codes "\r\n" ∷ [])
 
--- the lines with what a node has counted
-abbrev pub count_lines : Counts → List ℕ
-count_lines counts = concat (
+-- the lines with what a node has counted; `foreign` is the number of messages of nodes with another cluster file
+abbrev pub count_lines : Counts → (foreign : ℕ) → List ℕ
+count_lines counts foreign = concat (
     codes "commands_answered:" ∷ decimal counts.answered ∷ codes "\r\ncalls_given_up:" ∷ decimal counts.given_up
-    ∷ codes "\r\nframes_dropped:" ∷ decimal counts.dropped
+    ∷ codes "\r\nframes_dropped:" ∷ decimal counts.dropped ∷ codes "\r\nframes_of_other_clusters:" ∷ decimal foreign
     ∷ codes "\r\nbytes_of_the_log:" ∷ decimal counts.log_bytes ∷ codes "\r\n" ∷ [])
 
 -- all lines of INFO, of a node with so many connections and open calls
-abbrev pub info_lines : Keeper → (clients calls : ℕ) → Counts → List ℕ
-info_lines keeper clients calls counts =
+abbrev pub info_lines : Keeper → Peers → (clients calls : ℕ) → Counts → List ℕ
+info_lines keeper peers clients calls counts =
     let objects = length (heard_names keeper.objects) in
     let bytes = min (bytes_in_banks keeper.objects) (2 ^ 64 - 1) in
     name_lines keeper.ids.node keeper.digest keeper.ids.epoch
-    ++ (size_lines objects bytes clients calls ++ count_lines counts)
+    ++ (size_lines objects bytes clients calls ++ count_lines counts peers.foreign)
 
 -- the answer to INFO: its lines, with some number of connections
-abbrev pub IsInfoHere : Keeper → (calls : ℕ) → Counts → Answer → Type 0
-IsInfoHere keeper calls counts answer =
-    (clients : ℕ) × (answer ≡ answers.Value (info_lines keeper clients calls counts))
+abbrev pub IsInfoHere : Keeper → Peers → (calls : ℕ) → Counts → Answer → Type 0
+IsInfoHere keeper peers calls counts answer =
+    (clients : ℕ) × (answer ≡ answers.Value (info_lines keeper peers clients calls counts))
 
 -- Commands
 
+-- how a move is refused: with its fault, if it has one, and otherwise with the reason of the object of this name
+abbrev pub IsMoveRefusedHere : Option AnswerError → Keeper → (name : List ℕ) → Answer → Type 0
+IsMoveRefusedHere (Some fault) keeper name answer = answer ≡ answers.Error fault
+IsMoveRefusedHere None keeper name answer = IsRefusedHere keeper name move_refusal answer
+
 -- how a command that concerns no name is answered: INFO by its lines; for any other command this says nothing
-abbrev pub IsPlainHere : Keeper → (calls : ℕ) → Counts → Command → Answer → Type 0
-IsPlainHere keeper calls counts ask.Info answer = IsInfoHere keeper calls counts answer
-IsPlainHere keeper calls counts command answer = ⊤
+abbrev pub IsPlainHere : Keeper → Peers → (calls : ℕ) → Counts → Command → Answer → Type 0
+IsPlainHere keeper peers calls counts ask.Info answer = IsInfoHere keeper peers calls counts answer
+IsPlainHere keeper peers calls counts command answer = ⊤
 
 -- how a command that begins no call is answered, by what the node keeps; this says nothing of an answer that depends on
 -- the command alone
-abbrev pub IsReplyHere : Keeper → (calls : ℕ) → Counts → Found → Answer → Type 0
-IsReplyHere keeper calls counts (Err fault) answer = ⊤
-IsReplyHere keeper calls counts (Ok (ask.Get name)) answer = IsRefusedHere keeper name read_refusal answer
-IsReplyHere keeper calls counts (Ok (ask.Set name value)) answer =
+abbrev pub IsReplyHere : Keeper → Peers → (calls : ℕ) → Counts → Found → Answer → Type 0
+IsReplyHere keeper peers calls counts (Err fault) answer = ⊤
+IsReplyHere keeper peers calls counts (Ok (ask.Read wanted name)) answer = IsRefusedHere keeper name read_refusal answer
+IsReplyHere keeper peers calls counts (Ok (ask.Set name value)) answer =
     IsRefusedHere keeper name (λ local id. write_refusal local id value) answer
-IsReplyHere keeper calls counts (Ok (ask.Move name layout)) answer =
-    moves_objects keeper.ids.node keeper.file ≡ true → HasOnlyNodes keeper.file layout →
-    IsRefusedHere keeper name move_refusal answer
-IsReplyHere keeper calls counts (Ok command) answer = IsPlainHere keeper calls counts command answer
+IsReplyHere keeper peers calls counts (Ok (ask.Move name layout)) answer =
+    IsMoveRefusedHere (move_fault keeper.ids.node keeper.file peers.heard layout) keeper name answer
+IsReplyHere keeper peers calls counts (Ok command) answer = IsPlainHere keeper peers calls counts command answer
 
 -- the command begins the call with this id, by what the node keeps
-abbrev pub BeginsHere : Keeper → Command → (id : ℕ) → Type 0
-BeginsHere keeper (ask.Get name) id = IsBegunHere keeper name read_refusal id
-BeginsHere keeper (ask.Set name value) id = IsBegunHere keeper name (λ local id. write_refusal local id value) id
-BeginsHere keeper (ask.Move name layout) id = IsBegunHere keeper name move_refusal id
-BeginsHere keeper command id = ⊤
+abbrev pub BeginsHere : Keeper → Peers → Command → (id : ℕ) → Type 0
+BeginsHere keeper peers (ask.Read wanted name) id = IsBegunHere keeper name read_refusal id
+BeginsHere keeper peers (ask.Set name value) id = IsBegunHere keeper name (λ local id. write_refusal local id value) id
+BeginsHere keeper peers (ask.Move name layout) id =
+    (move_fault keeper.ids.node keeper.file peers.heard layout ≡ None) × IsBegunHere keeper name move_refusal id
+BeginsHere keeper peers command id = ⊤
 
 -- the service carries out this command of a client, and its outcome is the one for what the node keeps
-abbrev pub IsCarriedOut : Keeper → (calls : ℕ) → Counts → (client : ℕ) → (frame : Strings) → Service → Type 0
-IsCarriedOut keeper calls counts client frame (Service.Begins other command id) =
-    (other ≡ client) × (command_at frame ≡ Ok command) × BeginsHere keeper command id
-IsCarriedOut keeper calls counts client frame (Service.Replies other command answer) =
-    (other ≡ client) × (command ≡ frame) × IsReplyHere keeper calls counts (command_at frame) answer
-IsCarriedOut keeper calls counts client frame (Service.Quits other) =
+abbrev pub IsCarriedOut : Keeper → Peers → (calls : ℕ) → Counts → (client : ℕ) → (frame : Strings) → Service → Type 0
+IsCarriedOut keeper peers calls counts client frame (Service.Begins other command id) =
+    (other ≡ client) × (command_at frame ≡ Ok command) × BeginsHere keeper peers command id
+IsCarriedOut keeper peers calls counts client frame (Service.Replies other command answer) =
+    (other ≡ client) × (command ≡ frame) × IsReplyHere keeper peers calls counts (command_at frame) answer
+IsCarriedOut keeper peers calls counts client frame (Service.Quits other) =
     (other ≡ client) × (command_at frame ≡ Ok ask.Quit)
-IsCarriedOut keeper calls counts client frame service = ⊥
+IsCarriedOut keeper peers calls counts client frame service = ⊥
 
 -- the first of these services carries out this command of a client
-abbrev pub IsFirstDone : Keeper → (calls : ℕ) → Counts → (client : ℕ) → (frame : Strings) → List Service → Type 0
-IsFirstDone keeper calls counts client frame [] = ⊥
-IsFirstDone keeper calls counts client frame (service ∷ services) =
-    IsCarriedOut keeper calls counts client frame service
+abbrev pub IsFirstDone : Keeper → Peers → (calls : ℕ) → Counts → (client : ℕ) → (frame : Strings) → List Service
+    → Type 0
+IsFirstDone keeper peers calls counts client frame [] = ⊥
+IsFirstDone keeper peers calls counts client frame (service ∷ services) =
+    IsCarriedOut keeper peers calls counts client frame service
 
 -- a connection is idle, and no command waits on it; so is one that is not there
 abbrev pub IsFree : Option Connection → Type 0
 IsFree connection = (doing connection ≡ Idle) × (waiting_on connection ≡ [])
 
 -- a command that comes on a free connection is carried out first, by what the node keeps as the command comes
-abbrev pub IsAtOnce : Option Arrival → Keeper → Desk → (more : List Service) → Type 0
-IsAtOnce (Some (came.Command client frame)) keeper desk more =
+abbrev pub IsAtOnce : Option Arrival → Keeper → Peers → Desk → (more : List Service) → Type 0
+IsAtOnce (Some (came.Command client frame)) keeper peers desk more =
     IsFree (connection_of desk client) →
-    IsFirstDone keeper (index_map_len desk.calls) desk.counts client frame more
-IsAtOnce arrival keeper desk more = ⊤
+    IsFirstDone keeper peers (index_map_len desk.calls) desk.counts client frame more
+IsAtOnce arrival keeper peers desk more = ⊤

@@ -5,6 +5,7 @@ use Rattle.std.specs.Prelude.{Option, None, Some, Result, Ok, Err}
 use Rattle.std.specs.Str.{bytes_eq}
 use Rattle.layout.specs.Quorum.{has}
 use Rattle.deeds.specs.Named.{NamedLetter as Named}
+use Rattle.node_messages.specs.Limits.{has_low_tags}
 use Rattle.node_messages.specs.Reading.{message_from}
 use Rattle.node_messages.specs.declared.error.Fault.{Fault}
 use Rattle.node_messages.specs.declared.message.NodeMessage.{NodeMessage}
@@ -23,10 +24,14 @@ abbrev pub is_from_cluster : Keeper → (sender : ℕ) → NodeMessage → Bool
 is_from_cluster keeper sender message =
     (has keeper.file.fixed.nodes sender || has keeper.file.later sender) && bytes_eq message.digest keeper.digest
 
--- the letter of a message from the node of this number, if the message is from the cluster and the node heeds it
+-- whether a message comes from the cluster, and has no tag whose number is above the limit
+abbrev pub is_admitted : Keeper → (sender : ℕ) → NodeMessage → Bool
+is_admitted keeper sender message = is_from_cluster keeper sender message && has_low_tags message.message.body
+
+-- the letter of a message from the node of this number, if the message is admitted and the node heeds it
 abbrev pub letter_from : Keeper → (sender : ℕ) → NodeMessage → List Named
 letter_from keeper sender message =
-    if is_from_cluster keeper sender message
+    if is_admitted keeper sender message
     then if_heeded (kept_of keeper) (named_of (letter_of_message message)) else []
 
 -- the frame is a message, and this is the letter of that message

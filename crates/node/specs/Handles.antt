@@ -18,6 +18,7 @@ use Rattle.node_keeper.specs.Wants.{Want, left_by, outputs_of, records_in, sends
 use Rattle.node_keeper.specs.declared.keeper.Keeper.{Keeper}
 use Rattle.node.specs.declared.node.Node.{Node}
 use Rattle.node.specs.Frames.{letters_in, sender_or}
+use Rattle.node.specs.Peers.{IsChangedBy}
 use Rattle.node.specs.Serving.{ServedSince}
 use Rattle.node.specs.Ticks.{IsAskingAgain}
 
@@ -49,7 +50,7 @@ pub record HasActed (asker : ℕ) (got : List Named) (first now : Keeper) (work 
 -- nodes. They stand in such an order that the node may stop behind any of them: each frame depends only on the entries
 -- before it. Behind them come the answers to clients. What the node did for its clients says which answers these are,
 -- and what clients saw. If no command that may be carried out waited before, none waits now. At a tick, open calls send
--- their requests again.
+-- their requests again. What the node knows of the other nodes changes exactly as `IsChangedBy` says.
 pub record Handles (old : Node) (frame : Strings) (effects : Effects) (new : Node) : Type 0 where
   pub wants : List Want
   pub handled : IsHandledSafely fragment (kept_of old.keeper) (letters_in old.keeper frame) (left_by wants)
@@ -60,3 +61,4 @@ pub record Handles (old : Node) (frame : Strings) (effects : Effects) (new : Nod
   pub served : ServedSince (arrival_at frame) old new effects.answers.items effects.notices.items
   pub waits : NoneWaits old.desk.clients [] → NoneWaits new.desk.clients []
   pub again : IsAskingAgain (arrival_at frame) old effects.outputs.items
+  pub peers : IsChangedBy (arrival_at frame) old.keeper old.peers new.peers

@@ -1,4 +1,6 @@
 pub mod Frames
+pub mod Peers
+pub mod Moves
 pub mod Replies
 pub mod AtOnce
 pub mod Serving

@@ -21,6 +21,8 @@ use Rattle.node_effects.specs.declared.error.RecoveryError.TheVariants as refusa
 use Rattle.node_keeper.specs.Keeping.{kept_of}
 use Rattle.node_keeper.specs.Logging.{deeds_of}
 use Rattle.node_keeper.specs.declared.keeper.Keeper.{Keeper}
+use Rattle.node_effects.specs.declared.report.Report.{Report}
+use Rattle.node.specs.Peers.{next_report, with_next_told}
 use Rattle.node.specs.declared.node.Node.{Node}
 
 -- the log is known to be that of this node, or this record says so
@@ -108,7 +110,14 @@ abbrev pub RefusesEntry : Node → (entry : Strings) → RecoveryError → Type 
 RefusesEntry old entry error = (strings : Strings) × (entry ≡ sealed strings)
     × (((error ≡ refusals.NoEntry) × (IsFrame strings → ⊥)) ⊎ RefusesStrings old (record_at strings) error)
 
--- a node has noted the length of its log, and is otherwise as before
+-- a node has noted the length of its log, and it is told of the next node with another cluster file, if there is one;
+-- otherwise the node is as before
 abbrev pub Notes : Node → (bytes : ℕ) → Node → Type 0
-Notes old bytes new =
-    new ≡ record old { desk = record old.desk { counts = record old.desk.counts { log_bytes = bytes } } }
+Notes old bytes new = new ≡ record old {
+  desk = record old.desk { counts = record old.desk.counts { log_bytes = bytes } };
+  peers = with_next_told old.peers;
+}
+
+-- what is then told of that node
+abbrev pub Tells : Node → Option Report → Type 0
+Tells old told = told ≡ next_report old.peers

@@ -1,33 +1,21 @@
 -- The contracts that docs/trusted.md lists do not depend on this file; other contracts and proofs do.
 -- Which commands begin a call, and how the others are answered.
-use Rattle.std.specs.Prelude.{◌≡◌, ◌<◌, ◌⊎◌, ⊤, ℕ, Bool, true, false, ◌==◌, ◌||◌, List, length, slice_index}
-use Rattle.std.specs.Prelude.{Option, None, Some, Ok, Err}
+use Rattle.std.specs.Prelude.{◌≡◌, ⊤, ℕ, List, Option, None, Some, Ok, Err}
 use Rattle.cluster_file.specs.File.{FileContents}
-use Rattle.layout.specs.Layout.{Layout}
-use Rattle.layout.specs.Quorum.{has}
 use Rattle.tag.specs.declared.refusal.Refusal.{Refusal}
-use Rattle.tag.specs.declared.refusal.Refusal.TheVariants.{BadLayout}
 use Rattle.local_object.specs.Doing.{move_refusal, read_refusal, write_refusal}
 use Rattle.local_object.specs.Local.{LocalObject}
 use Rattle.client_commands.specs.Reading.{Found, command_at}
+use Rattle.client_commands.specs.Words.{count_of_names}
 use Rattle.client_commands.specs.declared.answer.Answer.{Answer}
 use Rattle.client_commands.specs.declared.answer.Answer.TheVariants as answers
+use Rattle.client_commands.specs.declared.answer.AnswerError.{AnswerError}
 use Rattle.client_commands.specs.declared.answer.AnswerError.TheVariants as errors
 use Rattle.client_commands.specs.declared.command.Command.{Command}
 use Rattle.client_commands.specs.declared.command.Command.TheVariants as ask
 use Rattle.node_clients.specs.Services.{Service}
-
--- whether this is the number of the node that moves objects
-abbrev pub moves_objects : (number : ℕ) → FileContents → Bool
-moves_objects number file = number == file.fixed.mover
-
--- whether this is the number of a node of the cluster
-abbrev pub is_node : FileContents → (number : ℕ) → Bool
-is_node file number = has file.fixed.nodes number || has file.later number
-
--- all members of a layout are nodes of the cluster
-abbrev pub HasOnlyNodes : FileContents → Layout → Type 0
-HasOnlyNodes file layout = (i : ℕ) → i < length layout.members → is_node file (slice_index layout.members i) ≡ true
+use Rattle.node_strings.specs.declared.heard.Heard.{Heard}
+use Rattle.node.specs.Moves.{move_fault}
 
 -- the answer is a refusal by some object of a call with some id
 abbrev pub IsRefusedBy : (LocalObject → (id : ℕ) → Option Refusal) → Answer → Type 0
@@ -35,13 +23,10 @@ IsRefusedBy refusal answer =
     (local : LocalObject) × (id : ℕ) × (why : Refusal) × (refusal local id ≡ Some why)
     × (answer ≡ answers.Error (errors.Refused why))
 
--- why a move is refused: this is not the node that moves objects, a member of the layout is no node of the cluster, or
--- the object refuses the move; and the answer that says so
-abbrev pub IsMoveRefused : (moves : Bool) → FileContents → Layout → Answer → Type 0
-IsMoveRefused false file layout answer = answer ≡ answers.Error errors.NotMover
-IsMoveRefused true file layout answer =
-    ((HasOnlyNodes file layout → ⊥) × (answer ≡ answers.Error (errors.Refused BadLayout)))
-    ⊎ (HasOnlyNodes file layout × IsRefusedBy move_refusal answer)
+-- how a move is refused: with its fault, if it has one, and otherwise with the reason of its object
+abbrev pub IsMoveRefused : Option AnswerError → Answer → Type 0
+IsMoveRefused (Some fault) answer = answer ≡ answers.Error fault
+IsMoveRefused None answer = IsRefusedBy move_refusal answer
 
 -- how a command that concerns no name, and is no QUIT, is answered: INFO by some lines, and each other one by its only
 -- answer; for any other command this says nothing
@@ -51,25 +36,30 @@ IsPlainReply client (ask.Ping None) answer = answer ≡ answers.Pong
 IsPlainReply client (ask.Ping (Some text)) answer = answer ≡ answers.Value text
 IsPlainReply client (ask.Echo text) answer = answer ≡ answers.Value text
 IsPlainReply client ask.ListCommands answer = answer ≡ answers.NoCommands
+IsPlainReply client ask.CountCommands answer = answer ≡ answers.Number count_of_names
 IsPlainReply client ask.ClientId answer = answer ≡ answers.Number client
 IsPlainReply client ask.DescribeClient answer = answer ≡ answers.Ok
+IsPlainReply client ask.ClientName answer = answer ≡ answers.Nil
+IsPlainReply client ask.Hello answer = answer ≡ answers.Greeting client
+IsPlainReply client ask.Select answer = answer ≡ answers.Ok
+IsPlainReply client ask.Login answer = answer ≡ answers.Ok
 IsPlainReply client command answer = ⊤
 
 -- how a command that begins no call is answered: by the fault of a frame that is no command, by the reason why a call
 -- was refused, or by the plain answer; a QUIT is not answered so
 abbrev pub IsReplyTo : (number : ℕ) → FileContents → (client : ℕ) → Found → Answer → Type 0
 IsReplyTo number file client (Err fault) answer = answer ≡ answers.Error (errors.Fault fault)
-IsReplyTo number file client (Ok (ask.Get name)) answer = IsRefusedBy read_refusal answer
+IsReplyTo number file client (Ok (ask.Read wanted name)) answer = IsRefusedBy read_refusal answer
 IsReplyTo number file client (Ok (ask.Set name value)) answer =
     IsRefusedBy (λ local id. write_refusal local id value) answer
 IsReplyTo number file client (Ok (ask.Move name layout)) answer =
-    IsMoveRefused (moves_objects number file) file layout answer
+    (heard : Option Heard) × IsMoveRefused (move_fault number file heard layout) answer
 IsReplyTo number file client (Ok ask.Quit) answer = ⊥
 IsReplyTo number file client (Ok command) answer = IsPlainReply client command answer
 
--- a move begins only at the node that moves objects, and only to nodes of the cluster
+-- a move begins only if it has no fault: only at the node that moves objects, and only to nodes of the cluster
 abbrev pub MayBegin : (number : ℕ) → FileContents → Command → Type 0
-MayBegin number file (ask.Move name layout) = (moves_objects number file ≡ true) × HasOnlyNodes file layout
+MayBegin number file (ask.Move name layout) = (heard : Option Heard) × (move_fault number file heard layout ≡ None)
 MayBegin number file command = ⊤
 
 -- what the node of this number does with a command is right: it may begin the call, or it gives the right answer

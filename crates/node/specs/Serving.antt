@@ -36,7 +36,7 @@ abbrev pub FollowsUp : Service → Type 0
 FollowsUp (Service.Begins client command id) = ⊤
 FollowsUp (Service.Replies client command answer) = ⊤
 FollowsUp (Service.Quits client) = ⊤
-FollowsUp (Service.Ends name ended told) = ⊤
+FollowsUp (Service.Ends name ended what told) = ⊤
 FollowsUp Service.Drops = ⊤
 FollowsUp service = ⊥
 
@@ -61,7 +61,7 @@ IsComing desk None services = services ≡ Service.Drops ∷ []
 IsComing desk (Some (came.Command client command)) services = services ≡ Service.Arrives client command ∷ []
 IsComing desk (Some (came.Left client)) services = services ≡ Service.Leaves client ∷ []
 IsComing desk (Some (came.Message sender frame)) services = services ≡ []
-IsComing desk (Some came.Tick) services = AreTicksOf (keys desk.calls) services
+IsComing desk (Some (came.Tick heard)) services = AreTicksOf (keys desk.calls) services
 
 -- The node did exactly these services for its clients, and what it did with commands is right. Its work grew by the
 -- frames that clients are sent for them, by the connections that are idle again, and by what clients see of them. The
@@ -85,7 +85,7 @@ pub record ServesNext (client : ℕ) (old : Node) (before : Work) (new : Node) (
   pub more : ServesMore old before new after
   pub first : (frame : Strings) (waiting : List Strings) → doing (connection_of old.desk client) ≡ Idle →
       waiting_on (connection_of old.desk client) ≡ frame ∷ waiting →
-      IsFirstDone old.keeper (index_map_len old.desk.calls) old.desk.counts client frame more.services
+      IsFirstDone old.keeper old.peers (index_map_len old.desk.calls) old.desk.counts client frame more.services
 
 -- the node did the services for what came, and then some that follow up
 pub record ServesArrival (came : Option Arrival) (old : Node) (before : Work) (new : Node) (after : Work) : Type 0 where
@@ -93,7 +93,7 @@ pub record ServesArrival (came : Option Arrival) (old : Node) (before : Work) (n
   pub more : List Service
   pub comes : IsComing old.desk came coming
   pub follows : AllByRecursion FollowsUp more
-  pub at_once : IsAtOnce came old.keeper old.desk more
+  pub at_once : IsAtOnce came old.keeper old.peers old.desk more
   pub serves : ServesClients old before (coming ++ more) new after
 
 -- the same since the node was `first`, when its work was empty: these are all frames that clients are sent, and all
@@ -104,7 +104,7 @@ pub record ServedSince (came : Option Arrival) (first now : Node) (frames : List
   pub more : List Service
   pub comes : IsComing first.desk came coming
   pub follows : AllByRecursion FollowsUp more
-  pub at_once : IsAtOnce came first.keeper first.desk more
+  pub at_once : IsAtOnce came first.keeper first.peers first.desk more
   pub served : AreServicesDone first.keeper.file.ticks first.desk (coming ++ more) now.desk
   pub right : AllByRecursion (IsRight first.keeper.ids.node first.keeper.file) (coming ++ more)
   pub answers : frames ≡ all_frames (coming ++ more)
@@ -130,7 +130,7 @@ pub record ServesCommand (client : ℕ) (frame : Strings) (old : Node) (before :
   pub service : Service
   pub done : IsCommandDone old.desk client frame service new.desk
   pub right : IsRight old.keeper.ids.node old.keeper.file service
-  pub carried : IsCarriedOut old.keeper (index_map_len old.desk.calls) old.desk.counts client frame service
+  pub carried : IsCarriedOut old.keeper old.peers (index_map_len old.desk.calls) old.desk.counts client frame service
   pub told : after.to_clients.items ≡ before.to_clients.items ++ service_frames service
   pub due : after.due.items ≡ before.due.items ++ service_dues service
   pub notices : after.notices.items ≡ before.notices.items ++ service_notices service

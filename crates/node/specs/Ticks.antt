@@ -18,6 +18,8 @@ use Rattle.node_keeper.specs.Delivering.{KeepsRest}
 use Rattle.node_keeper.specs.Resending.{sendings_again}
 use Rattle.node_keeper.specs.Sendings.{Sending, posted}
 use Rattle.node_keeper.specs.declared.keeper.Keeper.{Keeper}
+use Rattle.node_strings.specs.declared.heard.Heard.{Heard}
+use Rattle.node.specs.Peers.{heard_at}
 use Rattle.node.specs.Serving.{IsTickOf}
 use Rattle.node.specs.declared.node.Node.{Node}
 
@@ -73,10 +75,15 @@ pub record SendsAgain (ids : List ℕ) (old : Node) (before : List Output) (new 
   pub ticked : AreTicked ids old sends new
   pub outputs : PutsOut old.keeper sends before after
 
--- the same if a tick has come; nothing for anything else
+-- the node, when the host has told which nodes it hears
+abbrev pub hearing : Heard → Node → Node
+hearing heard node = record node { peers = record node.peers { heard = heard_at heard } }
+
+-- the same if a tick has come, with which the host tells which nodes it hears; nothing for anything else
 abbrev pub IsAsking : Option Arrival → (old : Node) → (before : List Output) → (new : Node) → (after : List Output) →
     Type 0
-IsAsking (Some came.Tick) old before new after = SendsAgain (keys old.desk.calls) old before new after
+IsAsking (Some (came.Tick heard)) old before new after =
+    SendsAgain (keys old.desk.calls) (hearing heard old) before new after
 IsAsking arrival old before new after = ⊤
 
 -- these are the first outputs

@@ -2,6 +2,7 @@
 ghost use Rattle.node.specs.Anew.{AnewGivesCopies, HandledFramesKeepOwn, HandledFramesKeepOwnCalls};
 ghost use Rattle.node.specs.Anew.{OwnCallsAreDistinct, RecoveredEntriesKeepOwn, StartedNodesKeepOwn};
 ghost use Rattle.node.specs.Anew.{StartingNodesHaveOwn};
+ghost use Rattle.node.specs.Peers.{OthersAreToldOnce};
 
 /// A law: what a new node has from the entries that `Node::entries_anew` returns is a copy of the node.
 pub fn anew_gives_copies()
@@ -38,4 +39,10 @@ pub fn handled_frames_keep_own_calls()
 /// reads and writes are open.
 pub fn own_calls_are_distinct()
     ensures { OwnCallsAreDistinct }
+{}
+
+/// A law: whatever comes, no node stands twice, with the same digest of its cluster file, among the nodes with another
+/// cluster file of which is told. So each is told of once for each digest.
+pub fn others_are_told_once()
+    ensures { OthersAreToldOnce }
 {}

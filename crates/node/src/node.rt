@@ -16,11 +16,13 @@ ghost use Rattle.node_keeper.specs.Keeping.{kept_of, names_of};
 ghost use Rattle.node_keeper.specs.declared.keeper.Keeper.{Keeper as Kept};
 ghost use Rattle.node.specs.Frames.{letter_of_arrival, letters_in, sender_of, sender_or};
 ghost use Rattle.node.specs.Handles.{HasActed};
+ghost use Rattle.node.specs.Peers.{IsChangedBy, KnowsNothing};
 ghost use Rattle.node.specs.Serving.{ServedSince, ServesArrival};
 ghost use Rattle.node.specs.Ticks.{AreFirst, IsAsking};
 ghost use Rattle.node.specs.declared.node.Node.{Node as Was};
 ghost use Rattle.node.specs.Starts.{IsNotStarted, cluster_strings, name_growth, start_entries};
 
+use crate::peers::Peers;
 use cluster_file::ClusterFile;
 use frames::Frame;
 use node_clients::Desk;
@@ -34,6 +36,7 @@ mod commands;
 mod info;
 mod machine;
 mod messages;
+mod moves;
 mod recovery;
 mod rewriting;
 mod ticks;
@@ -45,6 +48,7 @@ pub struct Node {
     alloc: Global,
     pub(crate) keeper: Keeper,
     desk: Desk,
+    pub(crate) peers: Peers,
     // Whether the log has the entry that names the cluster and the node.
     is_named: bool,
 }
@@ -55,6 +59,7 @@ impl Drop for Node {
             alloc: _,
             keeper: _,
             desk: _,
+            peers: _,
             is_named: _,
         } = self;
     }
@@ -67,11 +72,13 @@ impl Node {
         ensures kept { kept_of result.keeper ≡ new_node (names_of file) number }
         ensures digest { result.keeper.digest ≡ fixed_digest file.fixed }
         ensures waits { NoneWaits result.desk.clients [] }
+        ensures peers { KnowsNothing result.peers }
     {
         Node {
             alloc,
             keeper: Keeper::new(alloc, file, number),
             desk: Desk::new(alloc),
+            peers: Peers::new(alloc),
             is_named: false,
         }
     }
@@ -120,6 +127,8 @@ impl Node {
             → NoneWaits self.new.desk.clients work.new.due.items) }
         ensures again { OnOk result (IsAsking (arrival_at frame) self.old work.old.outputs.items
             self.new work.new.outputs.items) }
+        ensures peers { OnOk result
+            (IsChangedBy (arrival_at frame) self.old.keeper self.old.peers self.new.peers) }
     {
         match read_arrival(frame) {
             Some(arrival) => self.take_arrival(arrival, work),
@@ -139,6 +148,7 @@ impl Node {
             → NoneWaits self.new.desk.clients work.new.due.items) }
         ensures again { OnOk result (IsAsking (Some arrival) self.old work.old.outputs.items
             self.new work.new.outputs.items) }
+        ensures peers { OnOk result (IsChangedBy (Some arrival) self.old.keeper self.old.peers self.new.peers) }
     {
         match arrival {
             Arrival::Command(client, frame) => {
@@ -150,7 +160,10 @@ impl Node {
                 Ok(())
             }
             Arrival::Message(sender, frame) => self.receive(sender, frame, work),
-            Arrival::Tick => self.tick(work),
+            Arrival::Tick(heard) => {
+                self.peers.hear(heard);
+                self.tick(work)
+            }
         }
     }
 
@@ -169,6 +182,7 @@ impl Node {
         ensures due { OnOk result (work.new.due.items ≡ []) }
         ensures waits { OnOk result (NoneWaits self.old.desk.clients work.old.due.items
             → NoneWaits self.new.desk.clients []) }
+        ensures peers { self.new.peers ≡ self.old.peers }
     {
         for _ in 0..u64::MAX {
             if !self.go_a_step(number, work)? {
@@ -194,6 +208,7 @@ impl Node {
         ensures waits { OnOk result (NoneWaits self.old.desk.clients work.old.due.items
             → NoneWaits self.new.desk.clients work.new.due.items) }
         ensures number { OnOk result (self.new.keeper.ids.node ≡ self.old.keeper.ids.node) }
+        ensures peers { self.new.peers ≡ self.old.peers }
     {
         if let Some(it) = work.next_own() {
             self.deliver(number, it, work)?;

@@ -13,7 +13,7 @@ use words::Hexadecimal;
 impl Node {
     /// Returns the lines of `INFO`, each with a key and a value.
     pub(super) fn info(&self) -> Result<Bytes, NodeError>
-        ensures { IfOk result (λ text. text ≡ info_lines self.now.keeper
+        ensures { IfOk result (λ text. text ≡ info_lines self.now.keeper self.now.peers
             (index_map_len self.now.desk.clients.by_number) (index_map_len self.now.desk.calls) self.now.desk.counts) }
     {
         let name = NameLines {
@@ -27,7 +27,10 @@ impl Node {
             clients: self.desk.clients.count(),
             calls: self.desk.calls.len(),
         };
-        let counts = CountLines(self.desk.counts);
+        let counts = CountLines {
+            counts: self.desk.counts,
+            foreign: self.peers.foreign,
+        };
         let text = format!(in self.alloc; "{name}{sizes}{counts}")?;
         Ok(Bytes::from_string(text)?)
     }
@@ -78,16 +81,24 @@ impl fmt::Display for SizeLines {
 
 // The lines with what was counted.
 #[derive(Clone, Copy)]
-struct CountLines(Counts);
+struct CountLines {
+    counts: Counts,
+    foreign: u64,
+}
 
 impl fmt::Display for CountLines {
-    ghost output = { λ it. Some (count_lines it.0) };
+    ghost output = { λ it. Some (count_lines it.counts it.foreign) };
 
     fn fmt<W: fmt::Write>(&self, f: &mut fmt::Formatter<W>) -> fmt::Result {
         write!(
             f,
-            "commands_answered:{}\r\ncalls_given_up:{}\r\nframes_dropped:{}\r\nbytes_of_the_log:{}\r\n",
-            self.0.answered, self.0.given_up, self.0.dropped, self.0.log_bytes
+            "commands_answered:{}\r\ncalls_given_up:{}\r\nframes_dropped:{}\r\n\
+            frames_of_other_clusters:{}\r\nbytes_of_the_log:{}\r\n",
+            self.counts.answered,
+            self.counts.given_up,
+            self.counts.dropped,
+            self.foreign,
+            self.counts.log_bytes
         )
     }
 }

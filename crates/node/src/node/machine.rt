@@ -1,20 +1,22 @@
 //! A node as a machine that handles frames and has a log.
 use super::Node;
 use frames::Frame;
-use node_effects::{Effects, Machine, NodeError, RecoveryError, Work};
+use node_effects::{Effects, Machine, NodeError, RecoveryError, Report, Work};
 use node_log::Entry;
 use node_strings::read_record;
 
 impl Machine for Node {
     ghost use Rattle.node.specs.Handles.{Handles};
     ghost use Rattle.std.specs.Prelude.{IfErr, OnOk};
-    ghost use Rattle.node.specs.Recovering.{CarriesOutEntry, Notes, RefusesEntry};
+    ghost use Rattle.node.specs.Recovering.{CarriesOutEntry, Notes, RefusesEntry, Tells};
 
     ghost carries_out = { CarriesOutEntry };
 
     ghost handles = { Handles };
 
     ghost notes = { Notes };
+
+    ghost tells = { Tells };
 
     /// Carries out the next entry of the node's log again, and sends nothing.
     ///
@@ -51,8 +53,10 @@ impl Machine for Node {
         Ok(work.into_effects())
     }
 
-    /// Notes the length of the log, in bytes, for `INFO`.
-    fn note_log(&mut self, bytes: u64) {
-        self.desk.counts.log_bytes = bytes;
+    /// Notes the length of the log, in bytes, for `INFO`. Returns the first node with another cluster file of which
+    /// nobody was told yet, if there is one.
+    fn begin_round(&mut self, log_bytes: u64) -> Option<Report> {
+        self.desk.counts.log_bytes = log_bytes;
+        self.peers.next_report()
     }
 }

@@ -4,18 +4,19 @@ ghost use Rattle.node_keeper.specs.Acts.{Acts};
 ghost use Rattle.node_messages.specs.Reading.{message_from};
 ghost use Rattle.node_effects.specs.Seen.{named_of};
 ghost use Rattle.node_keeper.specs.Keeping.{if_heeded, kept_of};
-ghost use Rattle.node.specs.Frames.{is_from_cluster, letter_from, letter_if_read};
+ghost use Rattle.node.specs.Frames.{is_admitted, is_from_cluster, letter_from, letter_if_read};
+ghost use Rattle.node.specs.Peers.{IsChangedByMessage, IsChangedIfRead};
 ghost use Rattle.node.specs.Serving.{ServesMore};
 
 use super::Node;
 use frames::Frame;
-use node_effects::{NamedLetter, NodeError, Work};
+use node_effects::{NamedLetter, NodeError, Report, Work};
 use node_keeper::{Delivered, letter_of};
-use node_messages::{MessageError, NodeMessage, read_message};
+use node_messages::{MessageError, NodeMessage, has_low_tags, read_message};
 
 impl Node {
     /// Handles a frame that another node sent. The node drops and counts a frame that is no message, that no node of
-    /// the cluster sent, or that a node with another cluster file sent.
+    /// the cluster sent, that a node with another cluster file sent, or that has a tag above the limit.
     pub(super) fn receive(
         &mut self,
         sender: u8,
@@ -25,6 +26,8 @@ impl Node {
         ensures acts { OnOk result (Acts sender (letter_if_read self.old.keeper sender (message_from frame))
             self.old.keeper work.old self.new.keeper work.new) }
         ensures serves { OnOk result (ServesMore self.old work.old self.new work.new) }
+        ensures peers { OnOk result
+            (IsChangedIfRead self.old.keeper sender (message_from frame) self.old.peers self.new.peers) }
     {
         match read_message(self.alloc, frame) {
             Ok(message) => self.admit(sender, message, work),
@@ -36,17 +39,35 @@ impl Node {
         }
     }
 
-    // A message has come, which is dropped unless it is one from a node of this cluster.
+    // A message has come, which is dropped unless it is admitted. It is told of a node with another cluster file.
     fn admit(&mut self, sender: u8, message: NodeMessage, work: &mut Work) -> Result<(), NodeError>
         ensures acts { OnOk result (Acts sender (letter_from self.old.keeper sender message)
             self.old.keeper work.old self.new.keeper work.new) }
         ensures serves { OnOk result (ServesMore self.old work.old self.new work.new) }
+        ensures peers { OnOk result
+            (IsChangedByMessage self.old.keeper sender message self.old.peers self.new.peers) }
     {
-        if !self.is_from_cluster(sender, &message) {
+        if message.digest != self.keeper.digest {
+            self.desk.drop_frame();
+            return self.peers.note(Report {
+                node: sender,
+                digest: message.digest,
+                own: self.keeper.digest,
+            });
+        }
+        if !self.is_admitted(sender, &message) {
             self.desk.drop_frame();
             return Ok(());
         }
         self.deliver(sender, letter_of(message), work)
+    }
+
+    // Whether a message comes from a node of this cluster, and has no tag above the limit. A tag near the greatest one
+    // would block an object for good, since no write finds a greater one.
+    fn is_admitted(&self, sender: u8, message: &NodeMessage) -> bool
+        ensures { result ≡ is_admitted self.now.keeper sender message.now }
+    {
+        self.is_from_cluster(sender, message) && has_low_tags(message)
     }
 
     // Whether a message comes from a node of this cluster.
@@ -66,6 +87,7 @@ impl Node {
         ensures acts { OnOk result (Acts sender (if_heeded (kept_of self.old.keeper) (named_of it))
             self.old.keeper work.old self.new.keeper work.new) }
         ensures serves { OnOk result (ServesMore self.old work.old self.new work.new) }
+        ensures peers { self.new.peers ≡ self.old.peers }
     {
         match self.keeper.deliver(sender, it, work)? {
             Delivered::Dropped => {

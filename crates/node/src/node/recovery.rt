@@ -13,6 +13,7 @@ ghost use Rattle.node.specs.Recovering.{CarriesOutRecord, KeepsDesk, RefusesLett
 
 use super::Node;
 use bytes::Bytes;
+use client_commands::Wanted;
 use cluster_file::DIGEST_LENGTH;
 use frames::Frame;
 use layout::Layout;
@@ -142,7 +143,7 @@ impl Node {
         ensures refused { IfErr result (RefusesOwn self.old.keeper (record_of.Move id name layout)) }
     {
         match self.keeper.move_again(&name, id, layout) {
-            Ok(()) => match self.desk.open(id, name, None, true) {
+            Ok(()) => match self.desk.open(id, name, None, Wanted::Value, true) {
                 Ok(()) => Ok(()),
                 Err(error) => Err(RecoveryError::Stopped(error)),
             },

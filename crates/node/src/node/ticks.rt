@@ -1,5 +1,5 @@
 //! What a node does as time passes.
-ghost use Rattle.std.specs.Prelude.{[], ◌∷◌, ◌&&◌, not, ℕ, OnOk};
+ghost use Rattle.std.specs.Prelude.{◌≡◌, [], ◌∷◌, ◌&&◌, not, ℕ, OnOk};
 ghost use Rattle.indexmap.specs.IndexMap.{keys};
 ghost use Rattle.node_keeper.specs.Acts.{Acts};
 ghost use Rattle.node.specs.Serving.{SeesNothing, ServesLate, ServesTicks};
@@ -19,6 +19,7 @@ impl Node {
         ensures serves { OnOk result (ServesTicks (keys self.old.desk.calls) self.old work.old self.new work.new) }
         ensures again { OnOk result (SendsAgain (keys self.old.desk.calls) self.old work.old.outputs.items
             self.new work.new.outputs.items) }
+        ensures peers { self.new.peers ≡ self.old.peers }
     {
         let ids = self.desk.open_ids()?;
         for id in ids {
@@ -34,6 +35,7 @@ impl Node {
         ensures again { OnOk result (PutsOut self.old.keeper (sent_at_age self.old.keeper id (aged_at self.old id))
             work.old.outputs.items work.new.outputs.items) }
         ensures kept { OnOk result (IsKeptAtAge self.old.keeper id (aged_at self.old id) self.new.keeper) }
+        ensures peers { self.new.peers ≡ self.old.peers }
     {
         let Some(call) = self.desk.aged(id, self.keeper.file.ticks())? else {
             return Ok(());
@@ -52,6 +54,7 @@ impl Node {
             (again_if (call.is_move && call.asks_again) self.old.keeper call.name id)
             work.old.outputs.items work.new.outputs.items) }
         ensures kept { OnOk result (IsKeptAs (not call.is_move) self.old.keeper call.name id self.new.keeper) }
+        ensures peers { self.new.peers ≡ self.old.peers }
     {
         if call.is_move {
             self.desk.release(id, work)?;

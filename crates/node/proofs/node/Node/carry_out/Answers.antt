@@ -28,5 +28,6 @@ returns-in-Err-clause-serves c =
     (answered_now old.desk c.refuse.new.self client c.requires c.refuse.ensures.idle c.refuse.ensures.calls c.refuse.ensures.counts)
     (answer_is_sent old.desk client answer c.args.work.now c.refuse.new.work c.requires grown)
     (subst (λ r. IsReplyTo old.keeper.ids.node old.keeper.file client r answer) c.in-Err.ensures.exact refl)
-    (subst (λ r. IsReplyHere old.keeper (index_map_len old.desk.calls) old.desk.counts r answer) c.in-Err.ensures.exact tt) refl refl)
+    (subst (λ r. IsReplyHere old.keeper old.peers (index_map_len old.desk.calls) old.desk.counts r answer) c.in-Err.ensures.exact tt) refl
+    refl)
     c.refuse.ensures.grown

@@ -20,4 +20,5 @@ invariant-loop l = record {
       ServedSince came first l.self l.work.to_clients.items l.work.notices.items;
   outputs : (first : List Output) → AreFirst first l.fn.work.outputs.items → AreFirst first l.work.outputs.items;
   waits : NoneWaits l.fn.self.desk.clients l.fn.work.due.items → NoneWaits l.self.desk.clients l.work.due.items;
+  peers : l.self.peers ≡ l.fn.self.peers;
 }

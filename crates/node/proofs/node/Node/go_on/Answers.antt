@@ -36,7 +36,7 @@ returns-in-Some-clause-serves c =
     } in
     on_ok_weaker c.carry_out.result
     (λ serves. taken_served old between c.carry_out.new.self c.args.work.now c.carry_out.new.work c.args.client c.in-Some.frame refl
-    taken serves) c.carry_out.ensures.serves
+    refl taken serves) c.carry_out.ensures.serves
 
 pub returns-in-Some-clause-waits : goal.returns-in-Some-clause-waits
 returns-in-Some-clause-waits c =

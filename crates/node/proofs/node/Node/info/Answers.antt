@@ -8,7 +8,8 @@ pub returns : goal.returns
 returns c =
     let keeper = c.args.self.now.keeper in
     let text : (node epoch objects bytes clients calls : ℕ) → List ℕ = λ node epoch objects bytes clients calls.
-    name_lines node keeper.digest epoch ++ (size_lines objects bytes clients calls ++ count_lines c.args.self.now.desk.counts) in
+    name_lines node keeper.digest epoch ++ (size_lines objects bytes clients calls ++ count_lines c.args.self.now.desk.counts
+    c.args.self.now.peers.foreign) in
     let objects : ℕ = length (heard_names keeper.objects) in
     let bytes : ℕ = min (bytes_in_banks keeper.objects) (2 ^ 64 - 1) in
     let clients : ℕ = index_map_len c.args.self.now.desk.clients.by_number in

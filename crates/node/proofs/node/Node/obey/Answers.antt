@@ -8,9 +8,9 @@ use Rattle.node.proofs.CommandLemmas.{answer_is_sent, answered_now, plain_is_her
 use Rattle.node.proofs.TellLemmas.{tells_acts}
 use Rattle.node.proofs.node.Node.obey.Goals as goal
 
-pub returns-in-Get-clause-serves : goal.returns-in-Get-clause-serves
-returns-in-Get-clause-serves c =
-    on_ok_weaker c.read.result (λ serves frame asks. serves frame (asks ∙ ap Ok c.in-Get.is)) c.read.ensures.serves
+pub returns-in-Read-clause-serves : goal.returns-in-Read-clause-serves
+returns-in-Read-clause-serves c =
+    on_ok_weaker c.read.result (λ serves frame asks. serves frame (asks ∙ ap Ok c.in-Read.is)) c.read.ensures.serves
 
 pub returns-in-Set-clause-serves : goal.returns-in-Set-clause-serves
 returns-in-Set-clause-serves c =
@@ -50,9 +50,9 @@ returns-in_ok-answer-in_default-clause-serves c =
     (answered_now old.desk c.answer.new.self client c.requires c.answer.ensures.idle c.answer.ensures.calls c.answer.ensures.counts)
     (answer_is_sent old.desk client answer c.args.work.now c.answer.new.work c.requires grown)
     (subst (λ r. IsReplyTo old.keeper.ids.node old.keeper.file client r answer) (sym asks)
-    (plain_is_reply old.keeper.ids.node old.keeper.file client c.args.command answer c.in_default.not-Get c.in_default.not-Set
+    (plain_is_reply old.keeper.ids.node old.keeper.file client c.args.command answer c.in_default.not-Read c.in_default.not-Set
     c.in_default.not-Move c.in_default.not-Quit
     c.in_ok-answer-in_default.ensures.plain))
-    (subst (λ r. IsReplyHere old.keeper (index_map_len old.desk.calls) old.desk.counts r answer) (sym asks)
-    (plain_is_here old.keeper (index_map_len old.desk.calls) old.desk.counts c.args.command answer c.in_default.not-Get
+    (subst (λ r. IsReplyHere old.keeper old.peers (index_map_len old.desk.calls) old.desk.counts r answer) (sym asks)
+    (plain_is_here old.keeper old.peers (index_map_len old.desk.calls) old.desk.counts c.args.command answer c.in_default.not-Read
     c.in_default.not-Set c.in_default.not-Move c.in_ok-answer-in_default.ensures.here)) refl refl) c.answer.ensures.grown

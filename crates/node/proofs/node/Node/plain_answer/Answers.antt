@@ -7,6 +7,6 @@ use Rattle.node.proofs.node.Node.plain_answer.Goals as goal
 pub returns-in-Info-clause-here : goal.returns-in-Info-clause-here
 returns-in-Info-clause-here c =
     let desk = c.args.self.now.desk in
-    subst (λ command. IsPlainHere c.args.self.now.keeper (index_map_len desk.calls) desk.counts command
+    subst (λ command. IsPlainHere c.args.self.now.keeper c.args.self.now.peers (index_map_len desk.calls) desk.counts command
     (answers.Value c.in_ok-info-in-Info.field-0)) (sym c.in-Info.is)
     (index_map_len desk.clients.by_number, ap answers.Value c.in_ok-info-in-Info.ensures)

@@ -10,9 +10,11 @@ use Rattle.node.specs.Serving.{ServesArrival}
 use Rattle.node.specs.declared.node.Node.{Node}
 use Rattle.node.proofs.LeftLemmas.{more_waits, serves_wait, ticks_wait}
 use Rattle.node.proofs.ArrivalLemmas.{arrival_alone, arrival_more, arrival_then}
-use Rattle.node.proofs.ServingLemmas.{unsent_one}
+use Rattle.node.proofs.ServingLemmas.{serves_beside, unsent_one}
 use Rattle.node.proofs.TellLemmas.{idle}
-use Rattle.node.specs.Ticks.{IsAsking}
+use Rattle.node.specs.Peers.{IsChangedBy}
+use Rattle.node.specs.Ticks.{IsAsking, SendsAgain}
+use Rattle.node.specs.declared.peers.Peers.{Peers}
 use Rattle.node.proofs.node.Node.take_arrival.Goals as goal
 
 pub returns-in-Left-clause-acts : goal.returns-in-Left-clause-acts
@@ -106,12 +108,12 @@ returns-in-Tick-clause-serves c =
     let work = c.args.work.now in
     on_ok_weaker c.tick.result
     (λ serves. subst (λ a. ServesArrival (Some a) old work new c.tick.new.work) (sym c.in-Tick.is)
-    (arrival_alone (Some came.Tick) old new work c.tick.new.work serves.services serves.ticks tt serves.serves))
-    c.tick.ensures.serves
+    (arrival_alone (Some (came.Tick c.in-Tick.heard)) old new work c.tick.new.work serves.services serves.ticks tt
+    (serves_beside old new c.hear.new.self work c.tick.new.work serves.services serves.serves))) c.tick.ensures.serves
 
 pub returns-in-Tick-clause-waits : goal.returns-in-Tick-clause-waits
 returns-in-Tick-clause-waits c =
-    let old = c.args.self.now in
+    let old : Node = record c.args.self.now { peers = c.hear.new.self } in
     on_ok_weaker c.tick.result
     (λ serves. ticks_wait (keys old.desk.calls) old c.tick.new.self c.args.work.now c.tick.new.work serves) c.tick.ensures.serves
 
@@ -136,6 +138,35 @@ returns-in-Message-clause-again c =
 
 pub returns-in-Tick-clause-again : goal.returns-in-Tick-clause-again
 returns-in-Tick-clause-again c =
+    let old = c.args.self.now in
+    let outputs = c.args.work.now.outputs.items in
     on_ok_weaker c.tick.result
-    (λ again. subst (λ a. IsAsking (Some a) c.args.self.now c.args.work.now.outputs.items c.tick.new.self
-    c.tick.new.work.outputs.items) (sym c.in-Tick.is) again) c.tick.ensures.again
+    (λ again. subst (λ a. IsAsking (Some a) old outputs c.tick.new.self c.tick.new.work.outputs.items) (sym c.in-Tick.is)
+    (subst (λ (peers : Peers). SendsAgain (keys old.desk.calls) (record old { peers = peers }) outputs c.tick.new.self
+    c.tick.new.work.outputs.items) c.hear.ensures again)) c.tick.ensures.again
+
+pub returns-in-Tick-clause-peers : goal.returns-in-Tick-clause-peers
+returns-in-Tick-clause-peers c =
+    let old = c.args.self.now in
+    on_ok_weaker c.tick.result
+    (λ serves. subst (λ a. IsChangedBy (Some a) old.keeper old.peers c.tick.new.self.peers) (sym c.in-Tick.is)
+    (c.tick.ensures.peers ∙ c.hear.ensures)) c.tick.ensures.serves
+
+pub returns-in-Message-clause-peers : goal.returns-in-Message-clause-peers
+returns-in-Message-clause-peers c =
+    let old = c.args.self.now in
+    on_ok_weaker c.receive.result
+    (λ changed. subst (λ a. IsChangedBy (Some a) old.keeper old.peers c.receive.new.self.peers) (sym c.in-Message.is) changed)
+    c.receive.ensures.peers
+
+pub returns-in-Left-clause-peers : goal.returns-in-Left-clause-peers
+returns-in-Left-clause-peers c =
+    let old = c.args.self.now in
+    subst (λ a. IsChangedBy (Some a) old.keeper old.peers old.peers) (sym c.in-Left.is) refl
+
+pub returns-in_ok-push-in-Command-clause-peers : goal.returns-in_ok-push-in-Command-clause-peers
+returns-in_ok-push-in-Command-clause-peers c =
+    let old = c.args.self.now in
+    on_ok_weaker c.go_on.result
+    (λ next. subst (λ a. IsChangedBy (Some a) old.keeper old.peers c.go_on.new.self.peers) (sym c.in-Command.is)
+    c.go_on.ensures.peers) c.go_on.ensures.serves

@@ -8,6 +8,7 @@ use Rattle.node.proofs.ArrivalLemmas.{arrival_alone}
 use Rattle.node.proofs.ServingLemmas.{drops_one}
 use Rattle.node.proofs.TellLemmas.{idle}
 use Rattle.node_clients.specs.Desk.{NoneWaits}
+use Rattle.node.specs.Peers.{IsChangedBy}
 use Rattle.node.specs.Ticks.{IsAsking}
 use Rattle.node.proofs.node.Node.take_frame.Goals as goal
 
@@ -50,3 +51,14 @@ returns-in-None-clause-again c =
     let old = c.args.self.now in
     let outputs = c.args.work.now.outputs.items in
     subst (λ came. IsAsking came old outputs (record old { desk = c.drop_frame.new.self }) outputs) c.in-None.ensures.exact tt
+
+pub returns-in-Some-clause-peers : goal.returns-in-Some-clause-peers
+returns-in-Some-clause-peers c =
+    let old = c.args.self.now in
+    subst (λ came. OnOk c.take_arrival.result (IsChangedBy came old.keeper old.peers c.take_arrival.new.self.peers))
+    c.in-Some.ensures.exact c.take_arrival.ensures.peers
+
+pub returns-in-None-clause-peers : goal.returns-in-None-clause-peers
+returns-in-None-clause-peers c =
+    let old = c.args.self.now in
+    subst (λ came. IsChangedBy came old.keeper old.peers old.peers) c.in-None.ensures.exact refl

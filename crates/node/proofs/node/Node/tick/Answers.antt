@@ -1,4 +1,4 @@
-use Rattle.std.proofs.Common.{[], ◌∷◌, refl}
+use Rattle.std.proofs.Common.{[], ◌∷◌, ◌∙◌, refl}
 use Rattle.node_keeper.proofs.ActLemmas.{acts_more}
 use Rattle.node.specs.Ticks.{aged_at, sent_at_age}
 use Rattle.node.proofs.AgainLemmas.{again_then, none_again, ticked}
@@ -11,6 +11,7 @@ loop-id-init c = record {
   acts = λ asker. idle asker [] c.args.self.now.keeper c.args.work.now;
   serves = no_ticks c.args.self.now c.args.work.now;
   again = none_again c.args.self.now c.args.work.now.outputs.items;
+  peers = refl;
 }
 
 pub loop-id-preserved : goal.loop-id-preserved
@@ -27,4 +28,5 @@ loop-id-preserved c = record {
       c.loop-id.invariant.again
       (ticked c.in-Some.id c.loop-id.self c.tick_call.new.self c.loop-id.work c.tick_call.new.work sends
       c.in_ok-tick_call.ensures.serves refl c.in_ok-tick_call.ensures.kept) c.in_ok-tick_call.ensures.again;
+  peers = c.tick_call.ensures.peers ∙ c.loop-id.invariant.peers;
 }

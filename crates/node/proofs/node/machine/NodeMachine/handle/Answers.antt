@@ -3,7 +3,9 @@ use Rattle.std.proofs.lemmas.List.{append-nil}
 use Rattle.node_clients.specs.Desk.{NoneWaits}
 use Rattle.node_strings.specs.Arrival.{arrival_at}
 use Rattle.node.specs.Frames.{letters_in, sender_or}
+use Rattle.node.specs.Peers.{IsChangedBy}
 use Rattle.node.specs.Ticks.{AreFirst}
+use Rattle.node.specs.declared.peers.Peers.{Peers}
 use Rattle.node.proofs.AgainLemmas.{asked_again}
 use Rattle.node.proofs.ActedLemmas.{acted_first, handles_of}
 use Rattle.node.proofs.ArrivalLemmas.{since_first}
@@ -31,6 +33,8 @@ returns c =
     c.new-work.ensures.outputs c.in_ok-take_frame.ensures.again
     (subst (λ xs. AreFirst taken.outputs.items xs) (sym c.into_effects.ensures.outputs)
     (c.in_ok-finish.ensures.outputs taken.outputs.items ([], sym (append-nil taken.outputs.items)))))
+    (subst (λ (peers : Peers). IsChangedBy came old.keeper old.peers peers) (sym c.finish.ensures.peers)
+    c.in_ok-take_frame.ensures.peers)
 
 pub returns-in_err-take_frame : goal.returns-in_err-take_frame
 returns-in_err-take_frame c = search rules

@@ -1,0 +1,97 @@
+//! What a node knows of the other nodes, beside what their messages say.
+ghost use Rattle.std.specs.Prelude.{◌≡◌, OnOk};
+ghost use Rattle.node.specs.Peers.{HasNoted, KnowsNothing, heard_at, is_known, is_same_report};
+ghost use Rattle.node.specs.Peers.{next_report, with_next_told};
+
+use node_effects::{NodeError, Report};
+use node_strings::Heard;
+use std::alloc::Global;
+
+// The most nodes with another cluster file of which a node tells. It counts the messages of all.
+const MOST_OTHERS: usize = 256;
+
+/// What a node knows of the other nodes, beside what their messages say.
+pub struct Peers {
+    /// The nodes that the host hears, as it told at the last tick. None if it told of none.
+    pub heard: Option<Heard>,
+    /// How many messages of nodes with another cluster file have come. The count stops at 2^64 - 1.
+    pub foreign: u64,
+    /// Nodes with another cluster file, in the order in which they were first heard. A node stands here once for each
+    /// digest of its file.
+    pub others: Vec<Report>,
+    /// How many of these were told.
+    pub told: usize,
+}
+
+impl Drop for Peers {
+    fn drop(self) {
+        let Self {
+            heard: _,
+            foreign: _,
+            others: _,
+            told: _,
+        } = self;
+    }
+}
+
+impl Peers {
+    /// Makes what a node knows before any frame has come.
+    pub(crate) fn new(alloc: Global) -> Peers
+        ensures { KnowsNothing result }
+    {
+        Peers {
+            heard: None,
+            foreign: 0,
+            others: Vec::new(alloc),
+            told: 0,
+        }
+    }
+
+    /// The host tells which nodes it hears.
+    pub(crate) fn hear(&mut self, heard: Heard)
+        ensures { self.new ≡ record self.old { heard = heard_at heard } }
+    {
+        self.heard = if heard.tells_nodes() {
+            Some(heard)
+        } else {
+            None
+        };
+    }
+
+    /// A message of a node with another cluster file has come. Fails with `NoMemory`.
+    pub(crate) fn note(&mut self, other: Report) -> Result<(), NodeError>
+        ensures { OnOk result (HasNoted other self.old self.new) }
+    {
+        self.foreign = self.foreign.saturating_add(1);
+        if self.others.len() < MOST_OTHERS && !is_known(&self.others, other) {
+            self.others.push(other)?;
+        }
+        Ok(())
+    }
+
+    /// Returns the first node with another cluster file of which nobody was told yet, if there is one. From then on it
+    /// counts as told.
+    pub(crate) fn next_report(&mut self) -> Option<Report>
+        ensures report { result ≡ next_report self.old }
+        ensures told { self.new ≡ with_next_told self.old }
+    {
+        let next = self.others.get(self.told)?;
+        let next = *next;
+        self.told += 1;
+        Some(next)
+    }
+}
+
+// Whether a node is among others, with this digest of its file.
+fn is_known(others: &[Report], other: Report) -> bool
+    ensures { result ≡ is_known others.now other }
+{
+    others.iter().any(|known| is_same(known, other))
+}
+
+// Whether two nodes with another cluster file are the same, with the same digest of that file.
+fn is_same(known: &Report, other: Report) -> bool
+    ensures { result ≡ is_same_report other known.now }
+{
+    known.node == other.node && known.digest == other.digest
+}
