@@ -38,9 +38,18 @@ pub enum Fault {
     /// The folder does not exist.
     #[error("FOLDER is not there")]
     NoFolder,
+    /// Another process has the folder locked.
+    #[error("another process runs in FOLDER")]
+    InUse,
+    /// The folder cannot be locked.
+    #[error("cannot lock FOLDER: {0}")]
+    Unlocked(io::Error),
     /// The log cannot be opened or cut.
     #[error("cannot open the log: {0}")]
     Unopened(io::Error),
+    /// The log has the form that `casd` wrote before. It was not changed.
+    #[error("the log has an older form; deploy/convert-log FOLDER writes it in today's form")]
+    OldForm,
     /// The log is damaged, or is not this node's. It was not changed.
     #[error("{0}")]
     BadLog(StoreError),

@@ -1,14 +1,21 @@
 //! The log in a node's folder, and the second log that takes its place when it is written anew.
+use crate::fault::Fault;
+use crate::lock::{LockFile, lock_folder};
 use node_store::{Log, LogFile, RewritableLog};
 use std::fs::{OpenFile, OpenOptions};
 use std::io::{ErrorKind, Write};
+use std::os::unix::fs::OpenOptionsExt;
 use std::rt::Files;
 use std::{fs, io};
 
-/// The file `log` in a folder. The second log is the file `log.new` beside it.
+// Who may read and write a file that is made: its owner alone.
+const OWNER_ALONE: u32 = 0o600;
+
+/// The file `log` in a folder, which is locked. The second log is the file `log.new` beside it.
 pub struct FolderLog<'a, R: Files> {
     files: &'a R,
     names: Names,
+    folder: R::File,
     log: LogFile<R::File>,
 }
 
@@ -17,25 +24,21 @@ impl<'a, R: Files> Drop for FolderLog<'a, R> {
         let Self {
             files: _,
             names: _,
+            folder: _,
             log: _,
         } = self;
     }
 }
 
-// The names of a folder, and of the two logs in it.
+// The names of the two logs in a folder.
 struct Names {
-    folder: String,
     log: String,
     second: String,
 }
 
 impl Drop for Names {
     fn drop(self) {
-        let Self {
-            folder: _,
-            log: _,
-            second: _,
-        } = self;
+        let Self { log: _, second: _ } = self;
     }
 }
 
@@ -46,15 +49,19 @@ pub struct SecondLog<F> {
 }
 
 impl<'a, R: Files + AllocGlobal> FolderLog<'a, R> {
-    /// Opens the file `log` in a folder, and makes it if there is none.
-    pub fn open(files: &'a R, folder: &str) -> io::Result<FolderLog<'a, R>> {
-        let names = names_in(files, folder)?;
-        let mut options = OpenOptions::new();
-        options.read(true).write(true).create(true);
-        let file = options.open(files, names.log.as_str())?;
+    /// Locks a folder, and opens the file `log` in it, or makes it if there is none. Fails with `InUse` if another
+    /// process has the folder locked. Then nothing is changed.
+    pub fn open(files: &'a R, folder: &str) -> Result<FolderLog<'a, R>, Fault>
+    where
+        R::File: LockFile,
+    {
+        let locked = lock_folder(files, folder)?;
+        let names = names_in(files, folder).map_err(unopened)?;
+        let file = open_log(files, names.log.as_str()).map_err(unopened)?;
         Ok(FolderLog {
             files,
             names,
+            folder: locked,
             log: LogFile { file },
         })
     }
@@ -65,10 +72,39 @@ impl<'a, R: Files + AllocGlobal> FolderLog<'a, R> {
     }
 }
 
+// Why the log cannot be opened.
+fn unopened(error: io::Error) -> Fault {
+    match error.kind() {
+        ErrorKind::OutOfMemory => Fault::NoMemory,
+        _ => Fault::Unopened(error),
+    }
+}
+
+// Opens the file of this name, or makes it.
+fn open_log<R: Files>(files: &R, name: &str) -> io::Result<R::File> {
+    let mut options = OpenOptions::new();
+    options
+        .read(true)
+        .write(true)
+        .create(true)
+        .mode(OWNER_ALONE);
+    options.open(files, name)
+}
+
+// Makes the file of this name, in place of one that is there.
+fn make_log<R: Files>(files: &R, name: &str) -> io::Result<R::File> {
+    let mut options = OpenOptions::new();
+    options
+        .write(true)
+        .create(true)
+        .truncate(true)
+        .mode(OWNER_ALONE);
+    options.open(files, name)
+}
+
 fn names_in<R: AllocGlobal>(rt: &R, folder: &str) -> io::Result<Names> {
     let alloc = rt.alloc();
     Ok(Names {
-        folder: format!(in alloc; "{folder}")?,
         log: format!(in alloc; "{folder}/log")?,
         second: format!(in alloc; "{folder}/log.new")?,
     })
@@ -98,7 +134,7 @@ impl<'a, R: Files> RewritableLog for FolderLog<'a, R> {
     type Second = SecondLog<R::File>;
 
     fn begin_second(&mut self) -> io::Result<SecondLog<R::File>> {
-        let file = fs::create(self.files, self.names.second.as_str())?;
+        let file = make_log(self.files, self.names.second.as_str())?;
         Ok(SecondLog {
             log: LogFile { file },
         })
@@ -122,6 +158,6 @@ impl<'a, R: Files> RewritableLog for FolderLog<'a, R> {
     }
 
     fn sync_place(&mut self) -> io::Result<()> {
-        fs::open(self.files, self.names.folder.as_str())?.sync_all()
+        self.folder.sync_all()
     }
 }

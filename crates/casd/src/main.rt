@@ -9,6 +9,7 @@ use std::{env, fs, io};
 mod arguments;
 mod fault;
 mod folder;
+mod lock;
 mod opening;
 mod program;
 

@@ -2,9 +2,10 @@
 use crate::arguments::{Request, read_request};
 use crate::fault::Fault;
 use crate::folder::FolderLog;
+use crate::lock::LockFile;
 use crate::opening::{open_log, read_file, write_anew};
 use node::Node;
-use node_store::{ServeError, serve_frames};
+use node_store::{LogEnd, ServeError, serve_frames};
 use std::io;
 use std::io::{BufReader, ErrorKind, Read, Write};
 use std::rt::Files;
@@ -19,7 +20,8 @@ its folder, which must exist. The node keeps its log there, in the file `log`. F
 in on standard input and go out on standard output; a host moves them.
 
 The status is 0 at the end of the input, 2 for wrong arguments or a bad cluster file, and
-1 for anything else, such as a log that is damaged or cannot be written.";
+1 for anything else, such as a folder in which another process runs, or a log that is
+damaged or cannot be written.";
 
 /// Carries out the words after the program's name, and returns the exit status. It is 0 at the end of the input, and
 /// otherwise that of the fault, whose text goes to `err`.
@@ -29,7 +31,10 @@ pub fn run_words<R: Files + AllocGlobal, I: Read + Drop, O: Write, E: Write>(
     input: I,
     output: &mut O,
     err: &mut E,
-) -> u8 {
+) -> u8
+where
+    R::File: LockFile,
+{
     let done = match read_request(words) {
         Ok(Request::Help) => print_line(output, HELP),
         Ok(Request::Version) => print_line(output, "casd 1"),
@@ -61,7 +66,10 @@ fn run_node<R: Files + AllocGlobal, I: Read + Drop, O: Write, E: Write>(
     input: I,
     output: &mut O,
     err: &mut E,
-) -> Result<(), Fault> {
+) -> Result<(), Fault>
+where
+    R::File: LockFile,
+{
     let file = read_file(rt, file, number)?;
     let mut node = Node::new(rt.alloc(), file, number);
     open_and_serve(rt, &mut node, folder, input, output, err)
@@ -75,30 +83,34 @@ fn open_and_serve<R: Files + AllocGlobal, I: Read + Drop, O: Write, E: Write>(
     input: I,
     output: &mut O,
     err: &mut E,
-) -> Result<(), Fault> {
-    let (mut log, length) = open_log(rt, folder, node, err)?;
+) -> Result<(), Fault>
+where
+    R::File: LockFile,
+{
+    let (mut log, end) = open_log(rt, folder, node, err)?;
     match BufReader::with_capacity(rt.alloc(), INPUT_BUFFER, input) {
-        Ok(mut input) => serve(rt, node, &mut input, output, &mut log, length, err),
+        Ok(mut input) => serve(rt, node, &mut input, output, &mut log, end, err),
         Err(_) => Err(Fault::NoMemory),
     }
 }
 
-// The node handles the frames of the input, until it ends. Whenever the log has grown much, which has so many bytes at
-// first, it is written anew, if that is worth it and the node may do so then.
+// The node handles the frames of the input, until it ends. Whenever the log has grown much, which ends there at first,
+// it is written anew, if that is worth it and the node may do so then.
 fn serve<R: Files + AllocGlobal, I: Read + Drop, O: Write, E: Write>(
     rt: &R,
     node: &mut Node,
     input: &mut BufReader<I>,
     output: &mut O,
     log: &mut FolderLog<'_, R>,
-    length: u64,
+    end: LogEnd,
     err: &mut E,
 ) -> Result<(), Fault> {
-    let mut length = length;
+    let mut end = end;
     for _ in 0..u64::MAX {
-        match serve_frames(rt.alloc(), node, input, output, log, length).map_err(Fault::Ended)? {
+        let served = serve_frames(rt.alloc(), node, input, output, log, end, err);
+        match served.map_err(Fault::Ended)? {
             None => return Ok(()),
-            Some(end) => length = write_anew(rt, log, node, end, err)?,
+            Some(now) => end = write_anew(rt, log, node, now, err)?,
         }
     }
     Err(Fault::Ended(ServeError::NoInput(io::Error::from(ErrorKind::TimedOut))))
