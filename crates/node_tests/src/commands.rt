@@ -24,12 +24,57 @@ fn a_write_and_a_read(rt: HostRuntime) {
     play_alone(&rt, rt.alloc(), &A_WRITE_AND_A_READ);
 }
 
+// What is told of a value: of one, and of none.
+static READS: [Step; 7] = [
+    Step {
+        words: "client 1|GET|photo",
+        answers: "[Frame { strings: [b\"client 1\", b\"$-1\\r\\n\"] }]",
+        outputs: None,
+    },
+    Step {
+        words: "client 1|STRLEN|photo",
+        answers: "[Frame { strings: [b\"client 1\", b\":0\\r\\n\"] }]",
+        outputs: None,
+    },
+    Step {
+        words: "client 1|EXISTS|photo",
+        answers: "[Frame { strings: [b\"client 1\", b\":0\\r\\n\"] }]",
+        outputs: None,
+    },
+    Step {
+        words: "client 1|SETNX|photo|hello",
+        answers: "[Frame { strings: [b\"client 1\", b\"-ERR a write does not depend on the value before it \
+            in this store; nothing was changed\\r\\n\"] }]",
+        outputs: Some(0),
+    },
+    Step {
+        words: "client 1|SET|photo|hello",
+        answers: "[Frame { strings: [b\"client 1\", b\"+OK\\r\\n\"] }]",
+        outputs: Some(2),
+    },
+    Step {
+        words: "client 1|STRLEN|photo",
+        answers: "[Frame { strings: [b\"client 1\", b\":5\\r\\n\"] }]",
+        outputs: Some(0),
+    },
+    Step {
+        words: "client 1|EXISTS|photo",
+        answers: "[Frame { strings: [b\"client 1\", b\":1\\r\\n\"] }]",
+        outputs: Some(0),
+    },
+];
+
+#[test]
+fn reads(rt: HostRuntime) {
+    play_alone(&rt, rt.alloc(), &READS);
+}
+
 fn play_alone(rt: &impl Abort, alloc: Global, steps: &[Step]) {
     let mut node = started_node(rt, alloc);
     play(rt, alloc, &mut node, steps);
 }
 
-static PLAIN_COMMANDS: [Step; 3] = [
+static PLAIN_COMMANDS: [Step; 5] = [
     Step {
         words: "client 7|PING",
         answers: "[Frame { strings: [b\"client 7\", b\"+PONG\\r\\n\"] }]",
@@ -38,6 +83,16 @@ static PLAIN_COMMANDS: [Step; 3] = [
     Step {
         words: "client 7|CLIENT|ID",
         answers: "[Frame { strings: [b\"client 7\", b\":7\\r\\n\"] }]",
+        outputs: None,
+    },
+    Step {
+        words: "client 7|COMMAND|COUNT",
+        answers: "[Frame { strings: [b\"client 7\", b\":14\\r\\n\"] }]",
+        outputs: None,
+    },
+    Step {
+        words: "client 7|SELECT|0",
+        answers: "[Frame { strings: [b\"client 7\", b\"+OK\\r\\n\"] }]",
         outputs: None,
     },
     Step {
@@ -60,7 +115,7 @@ static A_MOVE: [Step; 2] = [
     },
     Step {
         words: "client 1|MOVE|photo|1|2",
-        answers: "[Frame { strings: [b\"client 1\", b\"-ERR refused: 2 BadLayout\\r\\n\"] }]",
+        answers: "[Frame { strings: [b\"client 1\", b\"-ERR node 2 is not in the cluster file\\r\\n\"] }]",
         outputs: None,
     },
 ];

@@ -27,6 +27,17 @@ fn plain(rt: HostRuntime) {
     assert_line(&rt, alloc, Answer::NoCommands, b"*0\r\n");
     assert_line(&rt, alloc, Answer::Number(1000), b":1000\r\n");
     assert_line(&rt, alloc, Answer::Number(0), b":0\r\n");
+    assert_line(&rt, alloc, Answer::Nil, b"$-1\r\n");
+}
+
+/// What Redis documents of `HELLO`: keys, each with its value behind it.
+const GREETING: &[u8] =
+    b"*14\r\n$6\r\nserver\r\n$4\r\ncasd\r\n$7\r\nversion\r\n$5\r\n1.0.0\r\n$5\r\nproto\r\n:2\r\n\
+    $2\r\nid\r\n:17\r\n$4\r\nmode\r\n$10\r\nstandalone\r\n$4\r\nrole\r\n$6\r\nmaster\r\n$7\r\nmodules\r\n*0\r\n";
+
+#[test]
+fn a_greeting(rt: HostRuntime) {
+    assert_line(&rt, rt.alloc(), Answer::Greeting(17), GREETING);
 }
 
 /// Values, and what stands before them. Behind them stands a line end.
@@ -45,7 +56,7 @@ fn values(rt: HostRuntime) {
 }
 
 /// Errors, and their lines.
-static ERRORS: [(AnswerError, &[u8]); 15] = [
+static ERRORS: [(AnswerError, &[u8]); 28] = [
     (
         AnswerError::Fault(CommandFault::UnknownCommand),
         b"-ERR unknown command\r\n",
@@ -61,6 +72,35 @@ static ERRORS: [(AnswerError, &[u8]); 15] = [
     (
         AnswerError::Fault(CommandFault::WrongCount(CommandName::Client)),
         b"-ERR wrong number of arguments for 'client' command\r\n",
+    ),
+    (
+        AnswerError::Fault(CommandFault::NoDatabase),
+        b"-ERR DB index is out of range\r\n",
+    ),
+    (
+        AnswerError::Fault(CommandFault::NoProtocol),
+        b"-NOPROTO unsupported protocol version\r\n",
+    ),
+    (
+        AnswerError::Fault(CommandFault::NoPassword),
+        b"-ERR AUTH <password> called without any password configured for the default user. \
+        Are you sure your configuration is correct?\r\n",
+    ),
+    (
+        AnswerError::Fault(CommandFault::WrongUser),
+        b"-WRONGPASS invalid username-password pair or user is disabled.\r\n",
+    ),
+    (
+        AnswerError::Fault(CommandFault::NoExpiry),
+        b"-ERR values do not expire in this store; nothing was changed\r\n",
+    ),
+    (
+        AnswerError::Fault(CommandFault::NoCondition),
+        b"-ERR a write does not depend on the value before it in this store; nothing was changed\r\n",
+    ),
+    (
+        AnswerError::Fault(CommandFault::SeveralNames),
+        b"-ERR a command has one name in this store; nothing was done\r\n",
     ),
     (
         AnswerError::Fault(CommandFault::SyntaxError),
@@ -100,8 +140,32 @@ static ERRORS: [(AnswerError, &[u8]); 15] = [
         b"-ERR only the mover moves objects\r\n",
     ),
     (
+        AnswerError::NoSuchNode(9),
+        b"-ERR node 9 is not in the cluster file\r\n",
+    ),
+    (
+        AnswerError::TooFewHeard(255),
+        b"-ERR fewer than a quorum of the new nodes answer: node 255 is not heard\r\n",
+    ),
+    (
         AnswerError::Refused(Refusal::Full),
-        b"-ERR refused: 12 Full\r\n",
+        b"-ERR this name has been moved as often as is possible\r\n",
+    ),
+    (
+        AnswerError::Refused(Refusal::MovePending),
+        b"-ERR another move of this name is under way\r\n",
+    ),
+    (
+        AnswerError::Refused(Refusal::TooLong),
+        b"-ERR value too long\r\n",
+    ),
+    (
+        AnswerError::Refused(Refusal::NotNow),
+        b"-ERR a call with this number is under way\r\n",
+    ),
+    (
+        AnswerError::Refused(Refusal::NoCall),
+        b"-ERR refused: 6 NoCall\r\n",
     ),
 ];
 

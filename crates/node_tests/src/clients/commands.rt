@@ -5,8 +5,14 @@ use crate::checks::frame_in;
 
 /// What a client sends, and what it asks for.
 static SENT: [(&[u8], &str); 11] = [
-    (b"*2\r\n$3\r\nGET\r\n$5\r\nmykey\r\n", "Ok(Get(b\"mykey\"))"),
-    (b"*2\r\n$3\r\ngEt\r\n$0\r\n\r\n", "Ok(Get(b\"\"))"),
+    (
+        b"*2\r\n$3\r\nGET\r\n$5\r\nmykey\r\n",
+        "Ok(Read { wanted: Value, name: b\"mykey\" })",
+    ),
+    (
+        b"*2\r\n$3\r\ngEt\r\n$0\r\n\r\n",
+        "Ok(Read { wanted: Value, name: b\"\" })",
+    ),
     (
         b"*3\r\n$3\r\nSET\r\n$5\r\nmykey\r\n$6\r\na\r\n\x00\xffz\r\n",
         "Ok(Set { name: b\"mykey\", value: b\"a\\r\\n\\0\\xffz\" })",
@@ -43,7 +49,7 @@ fn sent(rt: HostRuntime) {
 }
 
 /// The strings of a frame, and what it asks for.
-static STRINGS: [(&[&[u8]], &str); 9] = [
+static STRINGS: [(&[&[u8]], &str); 22] = [
     (&[b"info", b"server", b"clients"], "Ok(Info)"),
     (&[b"COMMAND"], "Ok(ListCommands)"),
     // What libraries say of themselves, and what ends a connection.
@@ -53,7 +59,31 @@ static STRINGS: [(&[&[u8]], &str); 9] = [
         &[b"CLIENT", b"SETINFO", b"LIB-NAME", b"redis-py"],
         "Ok(DescribeClient)",
     ),
+    (&[b"client", b"getname"], "Ok(ClientName)"),
     (&[b"QUIT"], "Ok(Quit)"),
+    // What a client asks of a value without getting it.
+    (
+        &[b"StrLen", b"photo"],
+        "Ok(Read { wanted: Length, name: b\"photo\" })",
+    ),
+    (
+        &[b"EXISTS", b""],
+        "Ok(Read { wanted: Existence, name: b\"\" })",
+    ),
+    // What libraries say first.
+    (&[b"hello"], "Ok(Hello)"),
+    (&[b"HELLO", b"2"], "Ok(Hello)"),
+    (&[b"HELLO", b"2", b"setname", b"tester"], "Ok(Hello)"),
+    (&[b"HELLO", b"2", b"AUTH", b"default", b"word"], "Ok(Hello)"),
+    (
+        &[b"HELLO", b"2", b"AUTH", b"default", b"", b"SETNAME", b"x"],
+        "Ok(Hello)",
+    ),
+    (&[b"SELECT", b"0"], "Ok(Select)"),
+    (&[b"AUTH", b"default", b"word"], "Ok(Login)"),
+    (&[b"COMMAND", b"count"], "Ok(CountCommands)"),
+    (&[b"COMMAND", b"LIST", b"COUNT"], "Ok(ListCommands)"),
+    (&[b"COMMAND", b"INFO", b"get"], "Ok(ListCommands)"),
     (
         &[b"move", b"", b"1", b"9"],
         "Ok(Move { name: b\"\", layout: Layout { k: 1, members: [9] } })",

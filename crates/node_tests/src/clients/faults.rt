@@ -27,7 +27,7 @@ static FAULTS: [(&[&[u8]], CommandFault); 26] = [
         CommandFault::WrongCount(CommandName::Set),
     ),
     (
-        &[b"SET", b"photo", b"hello", b"NX"],
+        &[b"SET", b"photo", b"hello", b"FAST"],
         CommandFault::SyntaxError,
     ),
     (
@@ -81,11 +81,74 @@ fn faults(rt: HostRuntime) {
     }
 }
 
+/// Strings that Redis takes, which a node refuses, and why.
+static REFUSED: [(&[&[u8]], CommandFault); 28] = [
+    (&[b"SETEX", b"photo", b"10", b"x"], CommandFault::NoExpiry),
+    (&[b"psetex"], CommandFault::NoExpiry),
+    (&[b"Expire", b"photo", b"10"], CommandFault::NoExpiry),
+    (&[b"GETEX", b"photo"], CommandFault::NoExpiry),
+    (
+        &[b"SET", b"photo", b"x", b"ex", b"10"],
+        CommandFault::NoExpiry,
+    ),
+    (
+        &[b"SET", b"photo", b"x", b"KEEPTTL"],
+        CommandFault::NoExpiry,
+    ),
+    (&[b"SET", b"photo", b"x", b"NX"], CommandFault::NoCondition),
+    (&[b"SET", b"photo", b"x", b"get"], CommandFault::NoCondition),
+    (&[b"SETNX", b"photo", b"x"], CommandFault::NoCondition),
+    (&[b"getset", b"photo", b"x"], CommandFault::NoCondition),
+    (&[b"APPEND", b"photo", b"x"], CommandFault::NoCondition),
+    (&[b"INCR", b"photo"], CommandFault::NoCondition),
+    (&[b"MGET", b"photo"], CommandFault::SeveralNames),
+    (&[b"MSET", b"photo", b"x"], CommandFault::SeveralNames),
+    (&[b"EXISTS", b"a", b"b"], CommandFault::SeveralNames),
+    (&[b"HELLO", b"3"], CommandFault::NoProtocol),
+    (&[b"HELLO", b"02"], CommandFault::NoProtocol),
+    (
+        &[b"HELLO", b"2", b"AUTH", b"default"],
+        CommandFault::SyntaxError,
+    ),
+    (
+        &[b"HELLO", b"2", b"AUTH", b"nobody", b"word"],
+        CommandFault::WrongUser,
+    ),
+    (
+        &[b"HELLO", b"2", b"AUTH", b"default", b"word", b"SETNAME"],
+        CommandFault::SyntaxError,
+    ),
+    (&[b"SELECT", b"1"], CommandFault::NoDatabase),
+    (&[b"SELECT", b"00"], CommandFault::NoDatabase),
+    (&[b"AUTH", b"word"], CommandFault::NoPassword),
+    (&[b"AUTH", b"Default", b"word"], CommandFault::WrongUser),
+    (
+        &[b"AUTH", b"default", b"word", b"word"],
+        CommandFault::SyntaxError,
+    ),
+    (&[b"AUTH"], CommandFault::WrongCount(CommandName::Auth)),
+    (
+        &[b"STRLEN", b"a", b"b"],
+        CommandFault::WrongCount(CommandName::Strlen),
+    ),
+    (
+        &[b"COMMAND", b"COUNT", b"x"],
+        CommandFault::WrongCount(CommandName::Command),
+    ),
+];
+
+#[test]
+fn refused(rt: HostRuntime) {
+    for &(texts, fault) in &REFUSED {
+        assert_fault(&rt, rt.alloc(), texts, fault);
+    }
+}
+
 /// Three rows of 85 bytes.
-const GET_LONGEST: &str = "Ok(Get(b\"\
+const GET_LONGEST: &str = "Ok(Read { wanted: Value, name: b\"\
     nnnnnnnnnnnnnnnnnnnnnnnnnnnnnnnnnnnnnnnnnnnnnnnnnnnnnnnnnnnnnnnnnnnnnnnnnnnnnnnnnnnnn\
     nnnnnnnnnnnnnnnnnnnnnnnnnnnnnnnnnnnnnnnnnnnnnnnnnnnnnnnnnnnnnnnnnnnnnnnnnnnnnnnnnnnnn\
-    nnnnnnnnnnnnnnnnnnnnnnnnnnnnnnnnnnnnnnnnnnnnnnnnnnnnnnnnnnnnnnnnnnnnnnnnnnnnnnnnnnnnn\"))";
+    nnnnnnnnnnnnnnnnnnnnnnnnnnnnnnnnnnnnnnnnnnnnnnnnnnnnnnnnnnnnnnnnnnnnnnnnnnnnnnnnnnnnn\" })";
 
 /// A name of 255 bytes is short enough.
 #[test]

@@ -1,10 +1,10 @@
 //! A log that is cut or damaged.
-use super::sample::{HEAD_LENGTH, SET, with_zeros};
-use node_log::{Damage, Entry, LogError, read_entry};
+use super::sample::{OLD_HEAD, SET, SET_AND_NOTHING, with_zeros};
+use node_log::{Chain, Damage, Entry, HEAD_LENGTH, LogError, is_old_head, read_entry};
 use std::alloc::Global;
 
 fn read(alloc: Global, log: &[u8]) -> Result<Option<Entry>, LogError> {
-    read_entry(alloc, &mut &*log)
+    read_entry(alloc, &mut &*log, Chain::new())
 }
 
 pub(crate) fn ends(alloc: Global, log: &[u8]) -> bool {
@@ -77,18 +77,18 @@ fn a_changed_byte(rt: HostRuntime) {
 static NO_ENTRIES: [(&str, &[u8], Damage); 4] = [
     (
         "a body with a right digest that is no frame",
-        b"\x00\x00\x00\x00\x00\x00\x00\x0f\xf26\xd2e6e\xaa\x02SET photo hello",
+        b"\x02\x00\x00\x00\x00\x00\x00\x0f\xf26\xd2eT\x86\x02bSET photo hello",
         Damage::NoFrame,
     ),
     (
         "a body with a right digest that is two frames",
-        b"\x00\x00\x00\x00\x00\x00\x00\x08\xdc\xd3\x00}k}\x99\x81*0\r\n*0\r\n",
+        b"\x02\x00\x00\x00\x00\x00\x00\x08\xdc\xd3\x00}\x09\x9e1\xe1*0\r\n*0\r\n",
         Damage::NoFrame,
     ),
     (
         "an empty body with a right digest, and the entry without strings behind it",
-        b"\x00\x00\x00\x00\x00\x00\x00\x00\x00\x00\x00\x00+`\xb5]\
-            \x00\x00\x00\x00\x00\x00\x00\x04\xecY\x8b\x9e.WX\xab*0\r\n",
+        b"\x02\x00\x00\x00\x00\x00\x00\x00\x00\x00\x00\x00I\x83\x1d=\
+            \x02\x00\x00\x00\x00\x00\x00\x04\xecY\x8b\x9e\x92\\Z\x95*0\r\n",
         Damage::NoFrame,
     ),
     (
@@ -103,4 +103,23 @@ fn no_entries(rt: HostRuntime) {
     for &(story, log, damage) in &NO_ENTRIES {
         assert!(rt; is_damaged(rt.alloc(), log, damage), "{story}");
     }
+}
+
+/// An entry that was written behind another one is damage at the beginning of a log.
+#[test]
+fn an_entry_in_another_place(rt: HostRuntime) {
+    let second = &SET_AND_NOTHING[SET.len()..];
+    assert!(rt; is_damaged(rt.alloc(), second, Damage::WrongHead));
+}
+
+/// A head of the form before is known as one, and is no head today. A changed one is neither.
+#[test]
+fn a_head_of_the_form_before(rt: HostRuntime) {
+    assert!(rt; is_old_head(&OLD_HEAD));
+    assert!(rt; is_damaged(rt.alloc(), &OLD_HEAD, Damage::WrongHead));
+    let mut changed = OLD_HEAD;
+    changed[7] = 0;
+    assert!(rt; !is_old_head(&changed));
+    changed.copy_from_slice(&SET[..HEAD_LENGTH]);
+    assert!(rt; !is_old_head(&changed));
 }
