@@ -3,22 +3,20 @@
 #![tactic(auto)]
 
 use coding_commands::Fault;
-use program::run_words;
+use command_line::run_words_with_progress;
 use std::io::{BufWriter, IsTerminal};
 use std::process::ExitCode;
 use std::rt::Stdout;
 use std::{env, io};
 use tag::Refusal;
 
-mod file;
-mod program;
-mod soaking;
-
 fn main(rt: HostRuntime) -> ExitCode {
     let mut err = rt.stderr();
     let is_terminal = err.is_terminal();
     let status = match begun(&rt) {
-        Ok((words, mut out)) => run_words(&rt, words.as_slice(), &mut out, &mut err, is_terminal),
+        Ok((words, mut out)) => {
+            run_words_with_progress(&rt, words.as_slice(), &mut out, &mut err, is_terminal)
+        }
         Err(fault) => fault.report(&mut err),
     };
     ExitCode::from(status)

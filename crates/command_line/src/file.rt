@@ -2,7 +2,7 @@
 ghost use Rattle.std.specs.Prelude.{MatchResult};
 ghost use Rattle.std.specs.IoError.{error_kind};
 ghost use Rattle.player.specs.Script.{Runs};
-ghost use Rattle.cas.specs.Program.{IsUnopened, RunsFile};
+ghost use Rattle.command_line.specs.Program.{IsUnopened, RunsFile};
 
 use player::{report_unread, run_script};
 use std::alloc::Global;

@@ -3,7 +3,7 @@ ghost use Rattle.std.specs.Prelude.{◌≡◌, ◌⊎◌, ◌++◌, ◌∷◌, [
 ghost use Rattle.tag.specs.declared.refusal.Refusal.TheVariants.{NoMemory};
 ghost use Rattle.std.specs.Io.KnownBytes.{Appends};
 ghost use Rattle.soak_parts.specs.Summary.{summary_text};
-ghost use Rattle.cas.specs.Program.{Soaks};
+ghost use Rattle.command_line.specs.Program.{Soaks};
 ghost use Rattle.coding_commands.specs.declared.fault.Fault.TheVariants.{OutputLost, Refused};
 
 use coding_commands::Fault;
@@ -16,17 +16,21 @@ use std::thread::Threads;
 use std::time::Clock;
 
 /// Runs a soak by this plan, prints its summary, and returns the exit status. If a call is refused or a thread cannot
-/// be started, a text on `err` says so. If `err` is a terminal, a line there shows how far a long soak has come.
+/// be started, a text on `err` says so. If `shows_progress` is true, a line there shows how far a long soak has come.
 pub(crate) fn run_soak<R: AllocGlobal + Threads + Wait + Clock + Sync, O: Write, E: Write>(
     rt: &R,
     plan: Plan,
     out: &mut O,
     err: &mut E,
-    is_terminal: bool,
+    shows_progress: bool,
 ) -> u8
     ensures { Soaks plan (O.contents out.old) (O.contents out.new) result }
 {
-    let screen = if is_terminal { Some(&mut *err) } else { None };
+    let screen = if shows_progress {
+        Some(&mut *err)
+    } else {
+        None
+    };
     match run_plan(rt, rt.alloc(), plan, screen) {
         Ok(summary) => match print_summary(out, &summary) {
             Ok(()) => summary.status(),

@@ -1,0 +1,5 @@
+//! Tests of the command line, whose function is called here as any other crate can call it.
+#![tactic(auto)]
+
+#[cfg(test)]
+mod lines;
