@@ -22,6 +22,8 @@ mod hold;
 #[cfg(test)]
 mod lanes;
 #[cfg(test)]
+mod last_hundred;
+#[cfg(test)]
 mod log;
 #[cfg(test)]
 mod made;

@@ -97,7 +97,8 @@ fn gives_all(rt: &impl Abort, alloc: Global, k: u8, coded: &Coded, value: &[u8])
         && gives_fragment(rt, alloc, k, &fragments, coded, 254)
 }
 
-fn keeps(rt: &impl Abort, alloc: Global, k: u8, value: &[u8], coded: &Coded) -> bool {
+/// Returns whether the last `k` of the 255 pieces give back this value and some of the fragments.
+pub(crate) fn keeps(rt: &impl Abort, alloc: Global, k: u8, value: &[u8], coded: &Coded) -> bool {
     assert!(rt; k >= 1 && coded.n() == 255);
     decodes(alloc, k, last_pieces(rt, alloc, k, coded), value)
         && gives_all(rt, alloc, k, coded, value)
