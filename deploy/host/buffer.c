@@ -6,34 +6,37 @@
 #include <string.h>
 #include <unistd.h>
 
-static bool make_room(struct buffer *buffer, size_t count) {
+/* The C library has the system move a large piece of memory, and does not copy it. */
+bool buffer_resize(struct buffer *buffer, size_t room) {
+    size_t length = buffer_length(buffer);
+    if (buffer->start > 0)
+        memmove(buffer->bytes, buffer->bytes + buffer->start, length);
+    buffer->start = 0;
+    buffer->end = length;
+    if (room == buffer->room)
+        return true;
+    char *bytes = realloc(buffer->bytes, room);
+    if (bytes == NULL) {
+        say("out of memory");
+        return false;
+    }
+    buffer->bytes = bytes;
+    buffer->room = room;
+    return true;
+}
+
+bool buffer_reserve(struct buffer *buffer, size_t count) {
     size_t length = buffer_length(buffer);
     if (count <= buffer->room - buffer->end)
         return true;
-    if (buffer->start >= length && count <= buffer->room - length) {
-        memcpy(buffer->bytes, buffer->bytes + buffer->start, length);
-    } else {
-        size_t room = 2 * length > length + count ? 2 * length : length + count;
-        char *bytes = malloc(room);
-        if (bytes == NULL) {
-            say("out of memory");
-            return false;
-        }
-        if (length > 0)
-            memcpy(bytes, buffer->bytes + buffer->start, length);
-        free(buffer->bytes);
-        buffer->bytes = bytes;
-        buffer->room = room;
-    }
-    buffer->start = 0;
-    buffer->end = length;
-    return true;
+    size_t room = length + count + (length < KEPT_ROOM ? length : length / 4);
+    return buffer_resize(buffer, room > buffer->room ? room : buffer->room);
 }
 
 bool buffer_add(struct buffer *buffer, const void *bytes, size_t count) {
     if (count == 0)
         return true;
-    if (!make_room(buffer, count))
+    if (!buffer_reserve(buffer, count))
         return false;
     memcpy(buffer->bytes + buffer->end, bytes, count);
     buffer->end += count;
@@ -49,8 +52,16 @@ void buffer_drop(struct buffer *buffer, size_t count) {
         buffer_free(buffer);
 }
 
+void buffer_trim(struct buffer *buffer, size_t needed) {
+    size_t length = buffer_length(buffer), room = needed > length ? needed : length;
+    if (room == 0)
+        buffer_free(buffer);
+    else if (buffer->room / 2 > room)
+        buffer_resize(buffer, room);
+}
+
 ssize_t buffer_read(struct buffer *buffer, int descriptor, size_t most) {
-    if (!make_room(buffer, most)) {
+    if (!buffer_reserve(buffer, most)) {
         errno = ENOMEM;
         return -1;
     }

@@ -7,7 +7,7 @@
 #include <sys/types.h>
 
 /* The room that an empty buffer may keep. */
-enum { KEPT_ROOM = 1 << 18 };
+enum { KEPT_ROOM = 1 << 19 };
 
 /* The bytes from `start` to `end` wait. All zeros is an empty buffer. */
 struct buffer {
@@ -23,13 +23,25 @@ static inline const char *buffer_front(const struct buffer *buffer) {
     return buffer->bytes == NULL ? "" : buffer->bytes + buffer->start;
 }
 
-/* Adds bytes at the end. False, with nothing added, where memory is refused. */
+/* Moves what waits to the front, and gives the buffer exactly this much room, which is enough for what waits. False, with a
+ * message, where memory is refused. */
+bool buffer_resize(struct buffer *buffer, size_t room);
+
+/* Makes room for so many bytes at the end. An empty buffer gets no more room than that; any other gets more, so that many
+ * small additions move its bytes only now and then. False, with a message, where memory is refused. */
+bool buffer_reserve(struct buffer *buffer, size_t count);
+
+/* Adds bytes at the end. False, with a message and nothing added, where memory is refused. */
 bool buffer_add(struct buffer *buffer, const void *bytes, size_t count);
 
 /* Takes bytes from the front. */
 void buffer_drop(struct buffer *buffer, size_t count);
 
-/* One read of at most `most` bytes to the end: their number, 0 at the end of the input, or -1 with errno. */
+/* Gives memory back that a buffer of so many bytes, and with what waits in it, does not need. */
+void buffer_trim(struct buffer *buffer, size_t needed);
+
+/* One read of at most `most` bytes to the end: their number, 0 at the end of the input, or -1 with errno, which is ENOMEM,
+ * with a message, where memory is refused. */
 ssize_t buffer_read(struct buffer *buffer, int descriptor, size_t most);
 
 /* Writes from the front until all is written or the descriptor takes no more. False where writing fails. */

@@ -5,246 +5,130 @@
 #include <inttypes.h>
 #include <stdio.h>
 #include <string.h>
-#include <sys/eventfd.h>
-#include <time.h>
-#include <unistd.h>
 
 enum {
-    MOST_UNSENT = 32 << 20,       /* with so many bytes waiting for NATS, frames to nodes are dropped */
     MOST_FOR_CHILD = 32 << 20,    /* with so many bytes waiting for the child, frames from nodes are dropped */
     FULL_BUNDLE = 64 << 10,       /* with so many bytes for a node, they are sent */
-    FULL_SPENT = 1 << 20,         /* with so many bytes in spent messages, they are freed */
-    LONGEST_SUBJECT = 128,
-    READ_SIZE = 256 << 10,
-    MOST_TRIES = 20,              /* a first connection that the library gave up is tried so often again */
-    TRY_WAIT = 200                /* milliseconds before each of these tries */
+    FULL_SPENT = 1 << 20          /* with so many bytes in spent messages, they are freed */
 };
 
-/* Wakes the loop, where another thread calls this. */
-static void wake(struct bus *bus) {
-    uint64_t one = 1;
-    if (pthread_equal(pthread_self(), bus->loop))
-        return;
-    if (write(bus->wake, &one, sizeof one) < 0)
-        return;  /* the counter is full, so that the loop wakes anyhow */
-}
+/* What a message's subject says. */
+struct subject {
+    uint64_t from, identity;  /* the sender's number, and the identity of its folder */
+    bool to_all, names;       /* whether it goes to all nodes, and whether it names this node's identity */
+    uint64_t named;           /* the identity under which the sender knows this node */
+};
 
-/* The library calls these where it begins and ends to use a socket, and where it wants to read and to write. */
-static natsStatus attach(void **user, void *loop, natsConnection *connection, natsSock socket) {
-    struct bus *bus = loop;
-    (void)connection;
-    *user = bus;
-    pthread_mutex_lock(&bus->lock);
-    bus->socket = (int)socket;
-    bus->reads = true;
-    bus->writes = false;
-    pthread_mutex_unlock(&bus->lock);
-    wake(bus);
-    return NATS_OK;
-}
-
-static natsStatus want_read(void *user, bool wanted) {
-    struct bus *bus = user;
-    pthread_mutex_lock(&bus->lock);
-    bus->reads = wanted;
-    pthread_mutex_unlock(&bus->lock);
-    wake(bus);
-    return NATS_OK;
-}
-
-static natsStatus want_write(void *user, bool wanted) {
-    struct bus *bus = user;
-    pthread_mutex_lock(&bus->lock);
-    bus->writes = wanted;
-    pthread_mutex_unlock(&bus->lock);
-    wake(bus);
-    return NATS_OK;
-}
-
-static natsStatus detach(void *user) {
-    struct bus *bus = user;
-    pthread_mutex_lock(&bus->lock);
-    bus->socket = -1;
-    pthread_mutex_unlock(&bus->lock);
-    return NATS_OK;
-}
-
-/* The part of an URL that may be printed: without a user and a password. */
-static const char *place_of(const char *url) {
-    const char *user = strrchr(url, '@'), *scheme = strstr(url, "://");
-    return user != NULL ? user + 1 : scheme != NULL ? scheme + 3 : url;
-}
-
-static void connected(natsConnection *connection, void *user) {
-    struct bus *bus = user;
-    char url[256] = "";
-    pthread_mutex_lock(&bus->lock);
-    bus->was_connected = true;
-    pthread_mutex_unlock(&bus->lock);
-    natsConnection_GetConnectedUrl(connection, url, sizeof url);
-    say("connected to NATS at %s", place_of(url));
-}
-
-static void disconnected(natsConnection *connection, void *user) {
-    (void)connection;
-    (void)user;
-    say("the connection to NATS is lost; trying again");
-}
-
-static void closed(natsConnection *connection, void *user) {
-    struct bus *bus = user;
-    (void)connection;
-    pthread_mutex_lock(&bus->lock);
-    bus->closed = true;
-    pthread_mutex_unlock(&bus->lock);
-    wake(bus);
-}
-
-static void failed(natsConnection *connection, natsSubscription *subscription, natsStatus fault, void *user) {
-    const char *reason = NULL;
-    (void)subscription;
-    (void)user;
-    natsConnection_GetLastError(connection, &reason);
-    say("NATS: %s %s", natsStatus_GetText(fault), reason == NULL ? "" : reason);
-}
-
-static natsStatus secure(natsOptions *to, const struct bus_options *from) {
-    natsStatus status = NATS_OK;
-    if (from->credentials != NULL)
-        status = natsOptions_SetUserCredentialsFromFiles(to, from->credentials, NULL);
-    if (status == NATS_OK && from->authority != NULL)
-        status = natsOptions_SetSecure(to, true);
-    if (status == NATS_OK && from->authority != NULL)
-        status = natsOptions_LoadCATrustedCertificates(to, from->authority);
-    if (status == NATS_OK && from->certificate != NULL)
-        status = natsOptions_LoadCertificatesChain(to, from->certificate, from->key);
-    return status;
-}
-
-/*
- * Connections that are lost are tried again for ever; one that is silent for some seconds counts as lost. Without
- * SendAsap a thread of the library waits for a millisecond before it sends, which each message of a call would pay.
- */
-static natsStatus set_options(struct bus *bus, const struct bus_options *from) {
-    natsOptions *to = bus->options;
-    natsStatus status = natsOptions_SetServers(to, (const char *[]){from->url}, 1);
-    if (status == NATS_OK)
-        status = natsOptions_SetMaxReconnect(to, -1);
-    if (status == NATS_OK)
-        status = natsOptions_SetReconnectWait(to, 200);
-    if (status == NATS_OK)
-        status = natsOptions_SetPingInterval(to, 2000);
-    if (status == NATS_OK)
-        status = natsOptions_SetIOBufSize(to, READ_SIZE);
-    if (status == NATS_OK)
-        status = natsOptions_SetSendAsap(to, true);
-    if (status == NATS_OK)
-        status = natsOptions_SetRetryOnFailedConnect(to, true, connected, bus);
-    if (status == NATS_OK)
-        status = natsOptions_SetReconnectedCB(to, connected, bus);
-    if (status == NATS_OK)
-        status = natsOptions_SetDisconnectedCB(to, disconnected, bus);
-    if (status == NATS_OK)
-        status = natsOptions_SetClosedCB(to, closed, bus);
-    if (status == NATS_OK)
-        status = natsOptions_SetErrorHandler(to, failed, bus);
-    if (status == NATS_OK)
-        status = natsOptions_SetEventLoop(to, bus, attach, want_read, want_write, detach);
-    return status == NATS_OK ? secure(to, from) : status;
-}
-
-/* Connects and subscribes, or goes on trying in the background. False where an option is refused. A connection that is
- * closed before it has a subscription is opened again by the loop. */
-static bool open_connection(struct bus *bus) {
-    char subject[LONGEST_SUBJECT];
-    natsStatus status = natsConnection_Connect(&bus->connection, bus->options);
-    if (status == NATS_OK)
-        connected(bus->connection, bus);
-    else if (status == NATS_NOT_YET_CONNECTED && bus->tries == 0)
-        say("NATS at %s does not answer yet, or refuses this node; trying again", place_of(bus->url));
-    if (status == NATS_OK || status == NATS_NOT_YET_CONNECTED) {
-        snprintf(subject, sizeof subject, "%s.*.%s", bus->prefix, bus->node);
-        status = natsConnection_SubscribeSync(&bus->subscription, bus->connection, subject);
-    }
-    if (status == NATS_OK || status == NATS_CONNECTION_CLOSED)
-        return true;
-    say("cannot use NATS at %s: %s", place_of(bus->url), nats_GetLastError(NULL));
-    return false;
-}
-
-bool bus_open(struct bus *bus, const struct bus_options *options, const char *node) {
-    bus->url = options->url;
+bool bus_open(struct bus *bus, const struct bus_options *options, const char *node, const char *folder) {
     bus->prefix = options->prefix;
     bus->node = node;
-    bus->socket = -1;
-    bus->loop = pthread_self();
-    bus->wake = eventfd(0, EFD_NONBLOCK | EFD_CLOEXEC);
-    pthread_mutex_init(&bus->lock, NULL);
-    natsStatus status = natsOptions_Create(&bus->options);
-    if (status == NATS_OK)
-        status = set_options(bus, options);
-    if (status == NATS_OK)
-        return open_connection(bus);
-    say("cannot use NATS at %s: %s", place_of(options->url), nats_GetLastError(NULL));
-    return false;
-}
-
-static void drop_connection(struct bus *bus) {
-    natsSubscription_Destroy(bus->subscription);
-    natsConnection_Destroy(bus->connection);
-    bus->subscription = NULL;
-    bus->connection = NULL;
-}
-
-/*
- * The connection is closed for good. The library closes a first connection where the server refuses the node, and often
- * also where a busy server takes the connection and does not answer soon; it gives the same reason for both. So the host
- * opens a connection that never stood some times again, and then ends.
- */
-static bool open_again(struct bus *bus) {
-    const char *reason = "";
-    natsConnection_GetLastError(bus->connection, &reason);
-    pthread_mutex_lock(&bus->lock);
-    bool ends = bus->was_connected || ++bus->tries > MOST_TRIES;
-    bus->closed = ends;
-    pthread_mutex_unlock(&bus->lock);
-    if (ends) {
-        say("the connection to NATS is closed: %s", reason);
+    if (!peers_open(&bus->peers, folder, node) || !connection_open(&bus->connection, options, node))
         return false;
-    }
-    drop_connection(bus);
-    nanosleep(&(struct timespec){.tv_nsec = TRY_WAIT * 1000000L}, NULL);
-    return open_connection(bus);
+    bus_greet(bus);
+    return true;
 }
 
 void bus_poll(struct bus *bus, struct pollfd *polled) {
-    pthread_mutex_lock(&bus->lock);
-    short events = (short)((bus->reads ? POLLIN : 0) | (bus->writes ? POLLOUT : 0));
-    polled[0] = (struct pollfd){.fd = bus->wake, .events = POLLIN};
-    polled[1] = (struct pollfd){.fd = events == 0 ? -1 : bus->socket, .events = events};
-    pthread_mutex_unlock(&bus->lock);
+    connection_poll(&bus->connection, polled);
 }
 
-/* Hands the frames of a message to the child, with the node in its subject as their address. Drops what is no frame. */
-static bool take_message(struct bus *bus, natsMsg *message, struct child *child) {
-    const char *from = natsMsg_GetSubject(message) + strlen(bus->prefix) + 1;
-    size_t length = (size_t)natsMsg_GetDataLength(message), at = 0;
+/* The next part of a subject, which ends before a dot or at the end; `place` is behind it. */
+static const char *next_part(const char **place, size_t *length) {
+    const char *part = *place;
+    *length = strcspn(part, ".");
+    *place = part + *length + (part[*length] == '.');
+    return part;
+}
+
+/* Reads the subject of a message. It came by one of the two subscriptions, so that it begins with the prefix and a dot.
+ * False where it is none of a node. */
+static bool read_subject(const struct bus *bus, const char *place, struct subject *subject) {
+    size_t length;
+    place += strlen(bus->prefix) + 1;
+    const char *part = next_part(&place, &length);
+    if (!read_number(part, length, &subject->from) || subject->from >= MOST_NODES)
+        return false;
+    part = next_part(&place, &length);
+    subject->to_all = length == strlen(ALL) && memcmp(part, ALL, length) == 0;
+    part = next_part(&place, &length);
+    if (!read_identity(part, length, &subject->identity))
+        return false;
+    subject->names = !subject->to_all && place[0] != 0;
+    if (!subject->names)
+        return place[0] == 0;
+    part = next_part(&place, &length);
+    return read_identity(part, length, &subject->named) && place[0] == 0;
+}
+
+/* How many frames are one after another. What is no frame counts as one, and so does a message without bytes. */
+static uint64_t frames_in(const char *bytes, size_t length) {
+    uint64_t count = 0;
+    enum found found = FRAME;
+    for (size_t at = 0; found == FRAME && (at < length || count == 0); count++) {
+        struct scanner scanner = {0};
+        found = scan(&scanner, bytes + at, length - at, MOST_STRINGS - 1);
+        at += scanner.at;
+    }
+    return count;
+}
+
+/* Hands the frames of a message to the child, with the sender as their address. Counts each that it drops. */
+static bool hand_on(struct bus *bus, uint64_t from, const char *bytes, size_t length, struct child *child) {
     char address[LONGEST_ADDRESS];
-    uint64_t node;
-    bool good = length > 0 && read_number(from, strcspn(from, "."), &node);
-    if (good)
-        snprintf(address, sizeof address, "node %" PRIu64, node);
-    while (good && at < length) {
-        const char *frame = natsMsg_GetData(message) + at;
+    size_t at = 0;
+    snprintf(address, sizeof address, "node %" PRIu64, from);
+    while (at < length && buffer_length(&child->out) <= MOST_FOR_CHILD) {
         struct scanner found = {0};
-        good = scan(&found, frame, length - at, MOST_STRINGS - 1) == FRAME
-            && buffer_length(&child->out) <= MOST_FOR_CHILD;
-        if (good && !child_send(child, address, found.count, frame + found.body, found.at - found.body))
+        const char *frame = bytes + at;
+        if (scan(&found, frame, length - at, MOST_STRINGS - 1) != FRAME)
+            break;
+        if (!child_send(child, address, found.count, frame + found.body, found.at - found.body))
             return false;
         at += found.at;
     }
-    if (!good)
-        bus->lost++;
+    if (at < length || length == 0)
+        bus->lost += frames_in(bytes + at, length - at);
+    return true;
+}
+
+/* Publishes on PREFIX.NODE.TO.IDENTITY, with what comes behind it. */
+static bool publish(struct bus *bus, const char *to, const char *behind, const char *bytes, size_t length) {
+    char subject[LONGEST_SUBJECT];
+    snprintf(subject, sizeof subject, "%s.%s.%s.%016" PRIx64 "%s", bus->prefix, bus->node, to, bus->peers.identity,
+             behind);
+    return connection_publish(&bus->connection, subject, bytes, length);
+}
+
+/* Tells a node, whose messages this host drops, under which identity it is known here. */
+static void tell_stranger(struct bus *bus, uint64_t node) {
+    char to[24], behind[24];
+    if (!peers_must_tell(&bus->peers, node))
+        return;
+    snprintf(to, sizeof to, "%" PRIu64, node);
+    snprintf(behind, sizeof behind, ".%016" PRIx64, bus->peers.nodes[node].identity);
+    publish(bus, to, behind, "", 0);
+}
+
+/* Takes a message: greetings say who the sender is, and others have frames. False where something failed. */
+static bool take_message(struct bus *bus, natsMsg *message, struct child *child) {
+    struct subject subject;
+    size_t length = (size_t)natsMsg_GetDataLength(message);
+    const char *bytes = length == 0 ? "" : natsMsg_GetData(message);
+    bool good = read_subject(bus, natsMsg_GetSubject(message), &subject);
+    bool greets = good && (subject.to_all || subject.names);
+    enum hearing hearing = good ? peers_hear(&bus->peers, subject.from, subject.identity) : STRANGE;
+    if (hearing == UNKEPT)
+        return false;
+    if (hearing == STRANGE && good)
+        tell_stranger(bus, subject.from);
+    if (hearing == HEARD && !greets)
+        return hand_on(bus, subject.from, bytes, length, child);
+    if (!greets || length > 0)
+        bus->lost += frames_in(bytes, length);
+    else if (hearing == HEARD && subject.from == bus->peers.own && subject.to_all)
+        peers_echo(&bus->peers);
+    else if (hearing == HEARD && subject.names)
+        peers_named(&bus->peers, subject.from, subject.named);
     return true;
 }
 
@@ -263,41 +147,22 @@ static void free_later(struct bus *bus, natsMsg *message) {
         free_spent(bus);
 }
 
-static bool has_unsent(struct bus *bus) {
-    pthread_mutex_lock(&bus->lock);
-    bool writes = bus->writes;
-    pthread_mutex_unlock(&bus->lock);
-    return writes;
-}
-
 bool bus_serve(struct bus *bus, struct child *child, const struct pollfd *polled) {
-    uint64_t changes;
-    bool taken = true;
+    bool good = connection_serve(&bus->connection, polled);
     natsMsg *message;
-    if (polled[0].revents & POLLIN && read(bus->wake, &changes, sizeof changes) < 0)
-        return false;
-    if (polled[1].revents & (POLLIN | POLLHUP | POLLERR))
-        natsConnection_ProcessReadEvent(bus->connection);
-    if (has_unsent(bus))
-        natsConnection_ProcessWriteEvent(bus->connection);
-    while (taken && natsSubscription_NextMsg(&message, bus->subscription, 0) == NATS_OK) {
-        taken = take_message(bus, message, child);
+    while (good && (message = connection_next(&bus->connection)) != NULL) {
+        good = take_message(bus, message, child);
         free_later(bus, message);
     }
-    pthread_mutex_lock(&bus->lock);
-    bool open = !bus->closed;
-    pthread_mutex_unlock(&bus->lock);
-    return taken && (open || open_again(bus));
+    return good && connection_lasts(&bus->connection);
 }
 
 /* Sends the frames that wait for a node as one message, or drops them. */
-static void publish(struct bus *bus, struct bundle *bundle) {
-    char subject[LONGEST_SUBJECT];
+static void send_bundle(struct bus *bus, struct bundle *bundle) {
+    char to[24];
     struct buffer *frames = &bundle->frames;
-    snprintf(subject, sizeof subject, "%s.%s.%" PRIu64, bus->prefix, bus->node, bundle->node);
-    bool sent = natsConnection_Buffered(bus->connection) <= MOST_UNSENT
-        && natsConnection_Publish(bus->connection, subject, buffer_front(frames), (int)buffer_length(frames)) == NATS_OK;
-    if (!sent)
+    snprintf(to, sizeof to, "%" PRIu64, bundle->node);
+    if (!publish(bus, to, "", buffer_front(frames), buffer_length(frames)))
         bus->lost += bundle->count;
     buffer_drop(frames, buffer_length(frames));
     bundle->count = 0;
@@ -306,7 +171,7 @@ static void publish(struct bus *bus, struct bundle *bundle) {
 void bus_flush(struct bus *bus) {
     for (size_t place = 0; place < MOST_BUNDLES; place++) {
         if (bus->bundles[place].count > 0)
-            publish(bus, &bus->bundles[place]);
+            send_bundle(bus, &bus->bundles[place]);
     }
 }
 
@@ -332,13 +197,18 @@ void bus_send(struct bus *bus, uint64_t node, size_t count, const char *body, si
     struct bundle *bundle = bundle_for(bus, node);
     size_t before = buffer_length(&bundle->frames);
     if (before > 0 && before + length > FULL_BUNDLE)
-        publish(bus, bundle);
+        send_bundle(bus, bundle);
     bundle->count++;
     if (!add_head(&bundle->frames, count, NULL) || !buffer_add(&bundle->frames, body, length)) {
         bus->lost += bundle->count;
         bundle->count = 0;
         buffer_free(&bundle->frames);
     }
+}
+
+void bus_greet(struct bus *bus) {
+    if (connection_stands(&bus->connection) && publish(bus, ALL, "", "", 0))
+        bus->peers.greetings++;
 }
 
 void bus_report(struct bus *bus) {
@@ -350,11 +220,7 @@ void bus_report(struct bus *bus) {
 void bus_close(struct bus *bus) {
     bus_report(bus);
     free_spent(bus);
-    drop_connection(bus);
-    natsOptions_Destroy(bus->options);
-    nats_CloseAndWait(1000);
+    connection_close(&bus->connection);
     for (size_t place = 0; place < MOST_BUNDLES; place++)
         buffer_free(&bus->bundles[place].frames);
-    close(bus->wake);
-    pthread_mutex_destroy(&bus->lock);
 }

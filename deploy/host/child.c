@@ -7,7 +7,6 @@
 #include <signal.h>
 #include <stdlib.h>
 #include <string.h>
-#include <sys/file.h>
 #include <sys/ioctl.h>
 #include <sys/prctl.h>
 #include <sys/wait.h>
@@ -16,20 +15,6 @@
 
 /* A pipe of this size takes more in one turn of the loop. The system may refuse it, which does no harm. */
 enum { PIPE_SIZE = 1 << 20 };
-
-/* Locks the folder. The child inherits the descriptor, and so the lock. */
-static bool lock_folder(const char *folder) {
-    int descriptor = open(folder, O_RDONLY | O_DIRECTORY);
-    if (descriptor < 0) {
-        say("cannot open the folder %s: %s", folder, strerror(errno));
-        return false;
-    }
-    if (flock(descriptor, LOCK_EX | LOCK_NB) != 0) {
-        say("the folder %s is in use by another node", folder);
-        return false;
-    }
-    return true;
-}
 
 /*
  * In the child: becomes the node program, which ends where the host ends. For each frame it takes and frees many small
@@ -53,8 +38,6 @@ static void become(int input, int output, pid_t host, char *const arguments[]) {
 
 bool child_start(struct child *child, const char *program, const char *file, const char *node, const char *folder) {
     int input[2], output[2];
-    if (!lock_folder(folder))
-        return false;
     if (pipe2(input, O_CLOEXEC) != 0 || pipe2(output, O_CLOEXEC) != 0) {
         say("cannot make a pipe: %s", strerror(errno));
         return false;
@@ -88,12 +71,12 @@ bool child_send(struct child *child, const char *address, size_t count, const ch
     return true;
 }
 
-bool child_tick(struct child *child) {
+bool child_tick(struct child *child, size_t count, const char *heard, size_t length) {
     int unread = 0;
     ioctl(child->to, FIONREAD, &unread);
     if (child->tick_end > child->queued - buffer_length(&child->out) - (size_t)unread)
         return true;
-    if (!child_send(child, "tick", 0, "", 0))
+    if (!child_send(child, "tick", count, heard, length))
         return false;
     child->tick_end = child->queued;
     return true;

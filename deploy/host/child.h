@@ -18,8 +18,9 @@ bool child_start(struct child *child, const char *program, const char *file, con
 /* Queues a frame of this address: `count` strings, whose bytes are `body`. False where memory is refused. */
 bool child_send(struct child *child, const char *address, size_t count, const char *body, size_t length);
 
-/* Queues a tick, unless the child has not read the last one yet: a busy child does not find many at once. */
-bool child_tick(struct child *child);
+/* Queues a tick with the nodes that were heard lately, as `count` strings, unless the child has not read the last tick
+ * yet: a busy child does not find many at once. */
+bool child_tick(struct child *child, size_t count, const char *heard, size_t length);
 
 /* Closes the pipes, asks the child to end, ends it if it has not after some seconds, and gives its status. */
 int child_stop(struct child *child);

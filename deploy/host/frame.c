@@ -39,8 +39,10 @@ static enum found scan_string(struct scanner *scanner, const char *bytes, size_t
         return FAULT;
     if (length > end && bytes[end] != '\r')
         return FAULT;
-    if (length < end + 2)
+    if (length < end + 2) {
+        scanner->need = end + 2;
         return MORE;
+    }
     if (bytes[end + 1] != '\n')
         return FAULT;
     scanner->at = end + 2;
@@ -49,6 +51,7 @@ static enum found scan_string(struct scanner *scanner, const char *bytes, size_t
 }
 
 enum found scan(struct scanner *scanner, const char *bytes, size_t length, size_t most_strings) {
+    scanner->need = length + 1;
     if (scanner->body == 0) {
         enum found found = scan_line(bytes, length, 0, '*', most_strings, &scanner->count, &scanner->at);
         if (found != FRAME)
@@ -72,8 +75,7 @@ const char *string_at(const char *bytes, size_t at, size_t *length, size_t *next
     return bytes + start;
 }
 
-/* Writes a line such as "$5\r\n", and returns the place behind it. */
-static char *put_line(char *to, char type, size_t number) {
+char *put_line(char *to, char type, size_t number) {
     char digits[20];
     size_t count = 0;
     do

@@ -22,6 +22,7 @@ struct scanner {
     size_t body;   /* where the first string begins; 0 before its place is known */
     size_t count;  /* the number of strings */
     size_t left;   /* how many of them are still to come */
+    size_t need;   /* where the frame has not wholly come: how many bytes it has at least */
 };
 
 /*
@@ -32,6 +33,9 @@ enum found scan(struct scanner *scanner, const char *bytes, size_t length, size_
 
 /* The place and the length of the string that begins at `at` of a frame that was found; `next` is the place behind. */
 const char *string_at(const char *bytes, size_t at, size_t *length, size_t *next);
+
+/* Writes a line such as "$5\r\n", and returns the place behind it. */
+char *put_line(char *to, char type, size_t number);
 
 /* Adds a frame's first bytes: the number of its strings, and its address where it is not NULL. */
 bool add_head(struct buffer *buffer, size_t count, const char *address);

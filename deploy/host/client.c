@@ -1,0 +1,158 @@
+#include "client.h"
+#include "input.h"
+#include "say.h"
+
+#include <errno.h>
+#include <inttypes.h>
+#include <linux/sockios.h>
+#include <stdio.h>
+#include <stdlib.h>
+#include <string.h>
+#include <sys/ioctl.h>
+#include <sys/socket.h>
+#include <unistd.h>
+
+enum {
+    MOST_WAITING = 64 << 20,   /* with so many bytes waiting for a client, it is disconnected */
+    FULL_CREDIT = 64 << 10,
+    LINGER = 20                /* ticks for a client to end its side, once all is written */
+};
+
+struct client *client_new(uint64_t number, int descriptor) {
+    struct client *client = calloc(1, sizeof *client);
+    if (client == NULL) {
+        say("out of memory");
+        return NULL;
+    }
+    client->number = number;
+    client->descriptor = descriptor;
+    client->credit = FULL_CREDIT;
+    return client;
+}
+
+void client_count(struct client *client, struct share *share) {
+    share_count(share, &client->part, client->in.room + client->out.room + client->unanswered);
+    if (client->state != OPEN)
+        share_leaves(share, client->number);
+}
+
+void client_refuse(struct client *client, const char *error) {
+    client->state = REFUSED;
+    client->error = error;
+    client->waits = false;
+    buffer_free(&client->in);
+}
+
+void client_evict(struct client *client) {
+    if (client->state == OPEN && buffer_length(&client->out) == 0) {
+        client_refuse(client, "-ERR no memory for this command; try again later\r\n");
+        return;
+    }
+    client->state = BROKEN;
+    buffer_free(&client->in);
+    buffer_free(&client->out);
+}
+
+bool client_is_slow(const struct client *client) {
+    return client->credit == 0;
+}
+
+void client_moved(struct client *client, size_t count) {
+    client->credit = client->credit + count < FULL_CREDIT ? client->credit + count : FULL_CREDIT;
+}
+
+/* Writes what waits, and goes on to the next state where all that this one waits for has happened. */
+static void write_output(struct client *client) {
+    if ((client->state == REFUSED || client->state == DONE) && client->answered == client->asked) {
+        bool told = client->state == DONE || buffer_add(&client->out, client->error, strlen(client->error));
+        client->state = told ? CLOSING : BROKEN;
+    }
+    if (client->state < BROKEN && !buffer_write(&client->out, client->descriptor))
+        client->state = BROKEN;
+    if (client->state == CLOSING && buffer_length(&client->out) == 0) {
+        shutdown(client->descriptor, SHUT_WR);
+        client->state = LINGERING;
+        client->quiet = 0;
+    }
+    buffer_trim(&client->out, 0);
+}
+
+bool client_serve(struct client *client, struct child *child, struct share *share, short events) {
+    if (events & POLLERR || (events & POLLHUP && client->state < LINGERING))
+        client->state = BROKEN;
+    else if (events & (POLLIN | POLLHUP))
+        input_read(client, share);
+    else if (client->waits)
+        input_room(client, share);
+    write_output(client);
+    if (client->state == OPEN && !input_forward(client, child, share))
+        return false;
+    write_output(client);
+    client_count(client, share);
+    return true;
+}
+
+void client_answer(struct client *client, const char *frame, size_t at, size_t strings, size_t length) {
+    if (client->answered < client->asked)
+        client->unanswered -= client->costs[client->answered++ % MOST_UNANSWERED];
+    if (client->state >= CLOSING)
+        return;
+    if (!buffer_reserve(&client->out, length)) {
+        client->state = BROKEN;
+        return;
+    }
+    for (size_t string = 0; string < strings; string++) {
+        const char *bytes = string_at(frame, at, &length, &at);
+        buffer_add(&client->out, bytes, length);
+        client->untaken += length;
+    }
+    if (buffer_length(&client->out) > MOST_WAITING) {
+        say("client %" PRIu64 " does not take its answers, and is disconnected", client->number);
+        client->state = BROKEN;
+    }
+}
+
+/* Notes what the client has taken since the last tick. Its side of the connection may have room for much. */
+static void count_taken(struct client *client) {
+    int unsent = 0;
+    ioctl(client->descriptor, SIOCOUTQ, &unsent);
+    size_t untaken = buffer_length(&client->out) + (size_t)unsent;
+    if (untaken < client->untaken) {
+        client->stuck = 0;
+        client_moved(client, client->untaken - untaken);
+    }
+    client->untaken = untaken;
+}
+
+bool client_tick(struct client *client, const struct child *child, unsigned patience) {
+    if (client->state == LINGERING && ++client->quiet == LINGER)
+        client->state = BROKEN;
+    if (client->state >= LINGERING)
+        return false;
+    bool sends = buffer_length(&client->in) > 0 && input_is_read(client, child);
+    bool takes = buffer_length(&client->out) > 0;
+    count_taken(client);
+    client->quiet = sends ? client->quiet + 1 : 0;
+    client->stuck = takes ? client->stuck + 1 : 0;
+    if (!sends && !takes)
+        client->credit = FULL_CREDIT;
+    client->credit -= client->credit < FULL_CREDIT / 10 ? client->credit : FULL_CREDIT / 10;
+    if (client->stuck > patience)
+        client->state = BROKEN;
+    else if (client->quiet > patience)
+        client_refuse(client, "-ERR timeout: the rest of the command did not come\r\n");
+    return client->stuck > patience || client->quiet > patience;
+}
+
+bool client_leaves(struct client *client, struct child *child) {
+    char address[LONGEST_ADDRESS];
+    snprintf(address, sizeof address, "client %" PRIu64, client->number);
+    return client->asked == 0 || child_send(child, address, 0, "", 0);
+}
+
+void client_free(struct client *client) {
+    close(client->descriptor);
+    buffer_free(&client->in);
+    buffer_free(&client->out);
+    free(client);
+}

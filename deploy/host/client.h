@@ -1,0 +1,73 @@
+/* One client: a TCP connection on which commands come and answers go. */
+#ifndef CLIENT_H
+#define CLIENT_H
+
+#include "child.h"
+#include "share.h"
+
+#include <poll.h>
+
+enum { MOST_UNANSWERED = 1024 };  /* commands of one client that the child has not answered */
+
+/*
+ * The states of a connection, in order. Refused: its input was no command, or the rest of one may not come, and it is told
+ * so after its answers. Done: its input has ended. Closing: nothing but what waits is written. Lingering: all is written,
+ * and its input is thrown away, since closing with unread input would destroy the last answer. Broken: closed at its next
+ * turn.
+ */
+enum state { OPEN, REFUSED, DONE, CLOSING, LINGERING, BROKEN };
+
+struct client {
+    uint64_t number;
+    int descriptor;
+    enum state state;
+    const char *error;      /* what it is told where its input is refused */
+    bool ended;             /* its input has ended */
+    bool known;             /* it has given the password */
+    bool waits;             /* for room for its command, of which nothing is read until then */
+    enum found found;       /* MORE where what was read holds no whole command */
+    struct buffer in, out;
+    struct scanner scanner;
+    uint64_t asked, answered;
+    uint32_t costs[MOST_UNANSWERED];  /* the bytes of each unanswered command: of number N at place N % 1,024 */
+    size_t unanswered;      /* their sum */
+    struct part part;
+    unsigned quiet, stuck;  /* ticks for which it has sent nothing of its command, and has taken nothing of its answers */
+    size_t untaken;         /* bytes of answers that it had not taken at the last tick, and those that came since */
+    size_t credit;          /* bytes sent and taken, less what is expected in each tick in which it is waited for */
+    nfds_t place;           /* its place among those that are polled */
+};
+
+/* A client that has just connected. NULL, with a message, where memory is refused. */
+struct client *client_new(uint64_t number, int descriptor);
+
+/* Reads, hands whole commands to the child while it takes them, and writes. False where memory is refused. */
+bool client_serve(struct client *client, struct child *child, struct share *share, short events);
+
+/* Takes an answer to its oldest unanswered command: the strings at a place of a frame, which have `length` bytes there. */
+void client_answer(struct client *client, const char *frame, size_t at, size_t strings, size_t length);
+
+/* Its input is read no further, and it is told why once its commands are answered. */
+void client_refuse(struct client *client, const char *error);
+
+/* Ends it, since it holds memory that others need. */
+void client_evict(struct client *client);
+
+/* Whether it has lately sent and taken as little as no client does that is there and has a good connection. */
+bool client_is_slow(const struct client *client);
+
+/* Notes that it has sent or taken bytes. */
+void client_moved(struct client *client, size_t count);
+
+/* Counts how long it lets the host wait. True where it has just been ended, since that was longer than `patience`. */
+bool client_tick(struct client *client, const struct child *child, unsigned patience);
+
+/* Counts what it holds. */
+void client_count(struct client *client, struct share *share);
+
+/* Closes the connection, and tells a child that has heard of it. False where memory is refused. */
+bool client_leaves(struct client *client, struct child *child);
+
+void client_free(struct client *client);
+
+#endif
