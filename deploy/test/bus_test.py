@@ -5,9 +5,6 @@ import os
 import random
 import re
 import shutil
-import socket
-import subprocess
-import tempfile
 import time
 import unittest
 import unittest.mock
@@ -16,68 +13,22 @@ from pathlib import Path
 from connection import PATIENCE
 from frames import encode
 from hosts import Host
+from nats_server import Server
+from subjects import subject
 
 FULL_MESSAGE = 64 << 10  # a message of several frames has at most so many bytes
 
 
-class Server:
-    """A NATS server on a free port, and a connection to it that speaks its protocol."""
-
-    def __init__(self, most_bytes):
-        folder = Path(tempfile.mkdtemp())
-        settings = f'host: 127.0.0.1\nport: -1\nports_file_dir: "{folder}"\nmax_payload: {most_bytes}\n'
-        (folder / "conf").write_text(settings)
-        self.process = subprocess.Popen(["nats-server", "-c", folder / "conf"], stderr=subprocess.DEVNULL)
-        self.url = self.wait_for_url(folder / f"nats-server_{self.process.pid}.ports")
-        self.socket = socket.create_connection(("127.0.0.1", int(self.url.rpartition(":")[2])), timeout=PATIENCE)
-        self.file = self.socket.makefile("rb")
-        self.file.readline()
-        self.socket.sendall(b'CONNECT {"verbose":false}\r\nSUB cas.1.* 1\r\n')
-        self.wait_until_taken()
-
-    def wait_for_url(self, ports):
-        end = time.monotonic() + PATIENCE
-        while time.monotonic() < end:
-            if ports.exists() and (found := re.search(r'"(nats://[^"]*)"', ports.read_text())):
-                return found[1]
-            time.sleep(0.02)
-        raise AssertionError("the NATS server did not start")
-
-    def wait_until_taken(self):
-        """The server answers a PING once it has taken what came before."""
-        self.socket.sendall(b"PING\r\n")
-        while (line := self.file.readline()) != b"PONG\r\n":
-            if not line:
-                raise AssertionError("the NATS server has closed the connection")
-
-    def publish(self, subject, data):
-        self.socket.sendall(b"PUB %b %d\r\n%b\r\n" % (subject, len(data), data))
-
-    def message(self):
-        """The subject and the bytes of the next message of node 1."""
-        while not (line := self.file.readline()).startswith(b"MSG "):
-            if line == b"PING\r\n":
-                self.socket.sendall(b"PONG\r\n")
-            elif not line:
-                raise AssertionError("the NATS server has closed the connection")
-        words = line.split()
-        return words[1], self.file.read(int(words[-1]) + 2)[:-2]
-
-    def close(self):
-        self.file.close()
-        self.socket.close()
-        self.process.kill()
-        self.process.wait()
-
-
 @unittest.skipUnless(shutil.which("nats-server"), "nats-server is missing")
 class Bus(unittest.TestCase):
-    def start(self, kind, most_bytes=1 << 20):
-        """A NATS server, and a host with a child of this kind that is connected to it."""
-        self.server = Server(most_bytes)
+    def start(self, kind, *options, most_bytes=1 << 20):
+        """A NATS server, and a host with a child of this kind, which has subscribed and then sent a greeting."""
+        self.server = Server(f"max_payload: {most_bytes}\n")
         self.addCleanup(self.server.close)
-        self.host = Host(kind, "--nats", self.server.url)
-        self.host.wait_for("connected to NATS")
+        self.host = Host(kind, "--nats", self.server.url, *options)
+        self.assertEqual(self.server.message(greetings=True), (self.to("all"), b""))
+        self.client = self.host.connect()
+        self.addCleanup(self.client.close)
 
     def lines(self, count):
         """The frames of nodes that the child got, each as a line, once there are `count` of them."""
@@ -89,57 +40,95 @@ class Bus(unittest.TestCase):
                 return lines
             time.sleep(0.02)
 
-    def wait_for_subscription(self):
-        """Publishes frames until the child has one of them, since it gets all that are sent to node 1 from then on.
-        Returns the frames that it has."""
+    def wait_for_line(self, line):
+        """Waits until the child has got this frame."""
         end = time.monotonic() + PATIENCE
-        while not self.lines(0) and time.monotonic() < end:
-            self.server.publish(b"cas.9.1", encode([b"first"]))
-            time.sleep(0.1)
-        self.server.publish(b"cas.9.1", encode([b"second"]))
-        while "node 9 second" not in self.lines(0) and time.monotonic() < end:
+        while f"{line}\n" not in self.host.frames():
+            self.assertLess(time.monotonic(), end, f"{line} did not come")
             time.sleep(0.02)
-        return self.lines(0)
 
     def test_frames_of_one_message_and_a_cut_frame(self):
         self.start("keep")
-        first = self.wait_for_subscription()
-        self.assertEqual(set(first), {"node 9 first", "node 9 second"})
         frames = [encode([b"kind-%d" % n, b"text"]) for n in range(4)]
-        self.server.publish(b"cas.3.1", frames[0] + frames[1] + frames[2] + frames[3][:-1])
-        self.server.publish(b"cas.4.1", frames[3])
+        self.server.publish(subject(3, 1), frames[0] + frames[1] + frames[2] + frames[3][:-1])
+        self.server.publish(subject(4, 1), frames[3])
         wanted = [f"node 3 kind-{n} text" for n in range(3)] + ["node 4 kind-3 text"]
-        self.assertEqual(self.lines(len(first) + 4), first + wanted)
+        self.assertEqual(self.lines(4), wanted)
         self.assertEqual(self.host.end(), 0)
         self.assertIn("host of node 1: 1 frames of nodes were dropped so far\n", self.host.said())
+
+    def test_each_frame_of_a_dropped_message_counts(self):
+        """Messages under a second identity, to all nodes, and without an identity. What is no frame counts as one."""
+        self.start("keep")
+        self.server.publish(subject(9, 1), encode([b"first"]))
+        frame = encode([b"dropped", b"text"])
+        for data in (10 * frame, 7 * frame + frame[:-1], b"hello", 3 * frame + b"hello"):
+            self.server.publish(subject(9, 1, "f" * 16), data)
+        for place in (subject(9, "all"), b"cas.9.1.0", b"cas.nine.1." + subject(9, 1).split(b".")[-1]):
+            self.server.publish(place, 5 * frame)
+        self.server.publish(subject(4, 1), frame)
+        self.assertEqual(self.lines(2), ["node 9 first", "node 4 dropped text"])
+        self.assertEqual(self.host.end(), 0)
+        self.assertIn("host of node 1: 38 frames of nodes were dropped so far\n", self.host.said())
+
+    def test_each_frame_that_the_child_does_not_take_counts(self):
+        """On a busy machine the host may lose its connection, and with it messages that it never got. Then this begins anew,
+        and does not ask the sanitizers: the library of NATS loses the memory of a message of which it had a part."""
+        while not self.counts_what_the_child_does_not_take():
+            self.host.process.kill()
+            self.host.process.wait()
+
+    def counts_what_the_child_does_not_take(self):
+        """A child that reads nothing for a while gets 32 MiB or more, and each frame that it does not get counts. The host
+        reports the count at each hundredth tick. False where the connection was lost."""
+        self.start("late", "--tick", "20")
+        sent = 0
+        while "frames of nodes were dropped so far" not in self.host.said():
+            self.server.publish(subject(3, 1), 10 * encode([b"part", b"p" * 100000]))
+            sent += 10
+            time.sleep(0.1)
+            if "the connection to NATS is lost" in self.host.said():
+                return False
+        self.host.lets_go()
+        self.assertEqual(self.client.ask(b"PING", b"x"), b"x")
+        self.server.publish(subject(4, 1), encode([b"mark"]))
+        self.wait_for_line("node 4 mark")
+        got = self.host.frames().count("node 3 part ")
+        self.assertEqual(self.host.end(), 0)
+        dropped = int(re.findall(r"(\d+) frames of nodes were dropped so far\n", self.host.said())[-1])
+        self.assertEqual(got + dropped, sent)
+        self.assertGreaterEqual(got * 100000, 32 << 20)
+        return True
 
     def test_many_messages(self):
         """More of them, and with more bytes, than the host keeps before it frees them."""
         self.start("keep")
-        first, source, wanted = self.wait_for_subscription(), random.Random(3), []
+        source, wanted = random.Random(3), []
         for number in range(600):
             counts = [source.choice((1, 10, 200)) for _ in range(source.randint(1, 3))]
-            self.server.publish(b"cas.2.1", b"".join(encode([b"%d" % number, b"x" * count]) for count in counts))
+            self.server.publish(subject(2, 1), b"".join(encode([b"%d" % number, b"x" * count]) for count in counts))
             wanted += [f"node 2 {number} {'x' * count}" for count in counts]
         for number in range(3):
-            self.server.publish(b"cas.2.1", encode([b"long-%d" % number, b"y" * 400000]))
+            self.server.publish(subject(2, 1), encode([b"long-%d" % number, b"y" * 400000]))
             wanted.append(f"node 2 long-{number} {'y' * 400000}")
-        self.assertTrue(self.lines(len(first) + len(wanted)) == first + wanted)
+        self.assertTrue(self.lines(len(wanted)) == wanted)
         self.assertEqual(self.host.end(), 0)
         self.assertNotIn("dropped", self.host.said())
 
+    def to(self, node):
+        """The subject of the host's messages to a node."""
+        return subject(1, node, self.host.identity())
+
     def send(self, frames):
-        """Has the child write these frames at once."""
-        client = self.host.connect()
-        self.addCleanup(client.close)
-        client.send(encode([b"RELAY", b"".join(encode([b"node %d" % node, *strings]) for node, *strings in frames)]))
+        """Has the child write these frames at once, behind those that it was told before."""
+        self.client.send(encode([b"RELAY", b"".join(encode([b"node %d" % node, *strings]) for node, *strings in frames)]))
 
     def test_frames_that_are_ready_together_are_one_message_for_each_node(self):
         self.start("relay")
         self.send([(2, b"a", b"1"), (3, b"b"), (2, b"c", b""), (2, b"d"), (3, b"e")])
         found = dict(self.server.message() for _ in range(2))
-        self.assertEqual(found, {b"cas.1.2": encode([b"a", b"1"]) + encode([b"c", b""]) + encode([b"d"]),
-                                 b"cas.1.3": encode([b"b"]) + encode([b"e"])})
+        self.assertEqual(found, {self.to(2): encode([b"a", b"1"]) + encode([b"c", b""]) + encode([b"d"]),
+                                 self.to(3): encode([b"b"]) + encode([b"e"])})
         self.assertEqual(self.host.end(), 0)
 
     def test_messages_of_several_frames_have_a_limit(self):
@@ -148,8 +137,8 @@ class Bus(unittest.TestCase):
         self.send([(2, *strings) for strings in frames])
         wanted, found, longest = b"".join(map(encode, frames)), b"", len(encode(frames[3]))
         while len(found) < len(wanted):
-            subject, data = self.server.message()
-            self.assertEqual(subject, b"cas.1.2")
+            place, data = self.server.message()
+            self.assertEqual(place, self.to(2))
             self.assertTrue(len(data) <= FULL_MESSAGE or len(data) == longest, len(data))
             found += data
         self.assertTrue(found == wanted)
@@ -160,7 +149,7 @@ class Bus(unittest.TestCase):
         self.start("relay", most_bytes=100000)
         self.send([(2, b"too long", bytes(100000))])
         self.send([(3, b"good")])
-        self.assertEqual(self.server.message(), (b"cas.1.3", encode([b"good"])))
+        self.assertEqual(self.server.message(), (self.to(3), encode([b"good"])))
         self.assertEqual(self.host.end(), 0)
         self.assertIn("host of node 1: 1 frames of nodes were dropped so far\n", self.host.said())
 

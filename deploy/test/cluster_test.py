@@ -1,18 +1,22 @@
 #!/usr/bin/env python3
-"""Tests a cluster that runs over NATS, by clients that send bytes: cluster_test.py NATS PORT PORT PORT, where NATS is
-the port of its server, and the others are those of the nodes."""
+"""Tests a cluster that runs over NATS, by clients that send bytes: cluster_test.py FOLDER NATS PORT PORT PORT, where
+FOLDER is the one that deploy/run was given, NATS is the port of its server, and the others are those of the nodes."""
+import json
 import os
 import random
 import sys
 import threading
 import time
 import unittest
+from pathlib import Path
 
 from connection import PATIENCE, Connection
 from frames import encode
 from nonsense import MALFORMED, bad_messages, publish
+from subjects import subject
 
-NATS, *PORTS = [int(word) for word in sys.argv[1:]]
+FOLDER = Path(sys.argv[1])
+NATS, *PORTS = [int(word) for word in sys.argv[2:]]
 del sys.argv[1:]
 REFUSED = b"-ERR protocol\r\n"
 
@@ -66,14 +70,15 @@ class BadInput(unittest.TestCase):
             self.assertEqual(said, b"+OK\r\n$3\r\nyes\r\n")
 
     def test_random_bytes(self):
-        """Each client that sends random bytes is refused or not answered; another one notices nothing."""
+        """Each client that sends random bytes gets nothing but errors; another one notices nothing."""
         source = random.Random(7)
         with Connection(self.port) as other:
             for number in range(200):
                 data = source.randbytes(source.choice([1, 10, 1000, 100000]))
                 if source.random() < 0.5:
                     data = source.choice([b"*1\r\n", b"*3\r\n$3\r\nSET\r\n", b"*2\r\n$5\r\n"]) + data
-                self.assertIn(self.said_to(data, then_end=True), (b"", REFUSED))
+                said = self.said_to(data, then_end=True).split(b"\r\n")
+                self.assertEqual([line for line in said if line[:5] != b"-ERR "], [b""], said)
                 if number % 10 == 0:
                     value = b"%d" % number
                     self.assertEqual(other.ask(b"SET", b"other", value), b"+OK")
@@ -90,12 +95,24 @@ class BadInput(unittest.TestCase):
             self.assertTrue(said == b"" or first in (b"+PONG", REFUSED[:-2]) or first[:1] in b"$-", said)
 
 
+def identity_in(number):
+    """The identity of a node's folder."""
+    return (FOLDER / f"node-{number}" / "identity").read_text().strip()
+
+
+def publish_as(node, messages):
+    """Sends messages to NATS with the login of a node."""
+    user, password = (FOLDER / f"node-{node}.login").read_text().split()
+    publish(NATS, messages, json.dumps({"verbose": False, "user": user, "pass": password}).encode())
+
+
 class BadMessages(unittest.TestCase):
-    """Messages that no node sent, on the subjects of nodes."""
+    """Messages that no node program sent, on the subjects of nodes, and with their identities."""
 
     def test_messages_that_are_no_frames(self):
-        """They do no harm; host_test.py counts how many frames a host drops of them."""
-        publish(NATS, bad_messages())
+        """They do no harm; host_nats_test.py counts how many frames a host drops of them. Those in the name of no node
+        are not sent here, since NATS takes them from nobody."""
+        publish_as(2, [message for message in bad_messages(identity_in(2)) if message[0].startswith(b"cas.2.")])
         with Connection(PORTS[0]) as client:
             for n in range(20):
                 self.assertEqual(client.ask(b"SET", b"behind", b"%d" % n), b"+OK")
@@ -114,7 +131,8 @@ class BadMessages(unittest.TestCase):
             before = self.dropped(client)
             if before is None:
                 self.skipTest("the node program does not say how many frames it dropped")
-            publish(NATS, [(b"cas.3.2", 3 * frame), (b"cas.3.2", frame + frame[:-1])])
+            from_three = subject(3, 2, identity_in(3))
+            publish_as(3, [(from_three, 3 * frame), (from_three, frame + frame[:-1])])
             end = time.monotonic() + PATIENCE
             while self.dropped(client) < before + 4 and time.monotonic() < end:
                 time.sleep(0.05)

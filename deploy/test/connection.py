@@ -38,14 +38,16 @@ class Connection:
         return self.answer()
 
     def answer(self):
-        """The next answer as it came, without the last line end; a bulk string as its bytes; None where the connection
-        ended before the whole answer came."""
+        """The next answer as it came, without the last line end; a bulk string as its bytes, and nil as none of them;
+        None where the connection ended before the whole answer came."""
         line = self.file.readline()
         if line[-1:] != b"\n":
             return None
         if line[:1] != b"$":
             return line[:-2]
         length = int(line[1:])
+        if length < 0:
+            return b""
         data = self.file.read(length + 2)
         return data[:-2] if len(data) == length + 2 else None
 

@@ -54,14 +54,6 @@ class Endings(unittest.TestCase):
             time.sleep(0.02)
         self.assertEqual(processes_with(str(host.folder)), [])
 
-    def test_one_host_for_a_folder(self):
-        first = Host("echo")
-        first.connect().close()
-        second = Host("echo", folder=first.folder)
-        self.assertEqual(second.status(), 1)
-        self.assertIn(f"the folder {first.folder} is in use by another node\n", first.said())
-        self.assertEqual(first.end(), 0)
-
     def test_port_in_use(self):
         with socket.create_server(("127.0.0.1", 0)) as taken:
             host = Host("echo", "--port", str(taken.getsockname()[1]))
@@ -71,7 +63,8 @@ class Endings(unittest.TestCase):
     def test_wrong_options(self):
         good = ["--node", "1", "--cluster", "c", "--folder", "f"]
         wrong = [[], good[2:], good[:4], [*good, "--port", "70000"], [*good, "--tick", "0"], [*good, "--colour", "red"],
-                 [*good, "more"], [*good, "--subject", "a.b"], [*good, "--nats-key", "k"], [*good[2:], "--node", "-1"]]
+                 [*good, "more"], [*good, "--subject", "a.b"], [*good, "--nats-key", "k"], [*good[2:], "--node", "-1"],
+                 [*good[2:], "--node", "256"]]
         for words in wrong:
             done = subprocess.run([HOST, *words], stderr=subprocess.PIPE, text=True)
             self.assertEqual((words, done.returncode), (words, 2))
@@ -83,7 +76,7 @@ class Frames(unittest.TestCase):
         """What the child has got so far, except ticks, once that are `count` lines."""
         end, lines = time.monotonic() + PATIENCE, []
         while len(lines) < count and time.monotonic() < end:
-            lines = [line for line in host.frames().splitlines() if line != "tick"]
+            lines = [line for line in host.frames().splitlines() if not line.startswith("tick")]
             time.sleep(0.02)
         return lines
 
@@ -125,13 +118,13 @@ class Frames(unittest.TestCase):
         self.assertEqual(host.end(), 0)
 
     def test_ticks(self):
-        """Ticks come, and not more of them than there was time for."""
+        """Ticks come, and not more of them than there was time for. Each names this node, which is the only one."""
         began = time.monotonic()
         host = Host("keep", "--tick", "50")
-        while host.frames().count("tick\n") < 20 and time.monotonic() < began + PATIENCE:
+        while host.frames().count("tick 1\n") < 20 and time.monotonic() < began + PATIENCE:
             time.sleep(0.02)
         self.assertEqual(host.end(), 0)
-        ticks, most = host.frames().splitlines().count("tick"), (time.monotonic() - began) / 0.05
+        ticks, most = host.frames().splitlines().count("tick 1"), (time.monotonic() - began) / 0.05
         self.assertTrue(20 <= ticks <= most, (ticks, most))
 
     def test_no_ticks_pile_up(self):
@@ -143,7 +136,7 @@ class Frames(unittest.TestCase):
             time.sleep(0.1)
             host.lets_go()
             self.assertEqual(client.answer(), b"x")
-        ticks = host.frames().split("client")[0].splitlines().count("tick")
+        ticks = host.frames().split("client")[0].splitlines().count("tick 1")
         self.assertTrue(1 <= ticks <= 2, ticks)
         self.assertEqual(host.end(), 0)
 

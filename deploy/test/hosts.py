@@ -47,6 +47,10 @@ class Host:
     def said(self):
         return (self.folder / "log").read_text()
 
+    def identity(self):
+        """The identity of the host's folder."""
+        return (self.folder / "identity").read_text().strip()
+
     def frames(self):
         """What a child that keeps frames has got so far."""
         file = self.folder / "frames"
@@ -65,8 +69,11 @@ class Host:
         """A child that is late begins to read."""
         (self.folder / "go").touch()
 
+    def port(self):
+        return int(self.wait_for(r"listening on 127.0.0.1 port (\d+)\n")[1])
+
     def connect(self):
-        return Connection(int(self.wait_for(r"listening on 127.0.0.1 port (\d+)\n")[1]))
+        return Connection(self.port())
 
     def end(self):
         """Tells the host to end, and gives its status."""

@@ -1,7 +1,13 @@
 #!/usr/bin/python3
 """Tests a cluster by Python's library for Redis, Debian's python3-redis: library_test.py PORT PORT PORT. What is
-expected is what the library's documentation says of a Redis server."""
+expected is what the library's documentation says of a Redis server. A server of Redis is asked the same, and answers in the same
+way."""
+import shutil
+import socket
+import subprocess
 import sys
+import tempfile
+import time
 import unittest
 
 import redis
@@ -49,10 +55,104 @@ class Library(unittest.TestCase):
             self.client.lpush("list", 1)
         self.assertIs(self.client.ping(), True)
 
+    def test_missing_names_and_lengths(self):
+        self.assertIsNone(self.client.get("never written"))
+        self.assertEqual((self.client.exists("never written"), self.client.strlen("never written")), (0, 0))
+        self.client.set("length", "four")
+        found = [(client.exists("length"), client.strlen("length")) for client in self.clients]
+        self.assertEqual(found, [(1, 4)] * len(PORTS))
+
+    def test_what_is_refused_changes_nothing(self):
+        self.client.set("kept", "1")
+        for refused in (lambda: self.client.setex("kept", 10, "2"), lambda: self.client.expire("kept", 10),
+                        lambda: self.client.set("kept", "2", ex=10), lambda: self.client.set("kept", "2", nx=True),
+                        lambda: self.client.setnx("kept", "2"), lambda: self.client.getset("kept", "2"),
+                        lambda: self.client.incr("kept"), lambda: self.client.append("kept", "2"),
+                        lambda: self.client.mset({"kept": "2"})):
+            with self.assertRaisesRegex(redis.ResponseError, "nothing was"):
+                refused()
+        self.assertEqual(self.client.get("kept"), b"1")
+
+    def test_too_long(self):
+        with self.assertRaisesRegex(redis.ResponseError, "^value too long$"):
+            self.client.set("too long", bytes((16 << 20) + 1))
+        self.assertEqual(self.client.exists("too long"), 0)
+        for words in (("GET", "n" * 256), ("STRLEN", "n" * 256), ("EXISTS", "n" * 256), ("SET", "n" * 256, "value")):
+            with self.assertRaisesRegex(redis.ResponseError, "^name too long$"):
+                self.client.execute_command(*words)
+
     def test_connection_with_a_name(self):
         named = redis.Redis(port=PORTS[0], client_name="tester")
         self.assertIs(named.ping(), True)
         named.close()
+
+
+# Commands that a node and Redis answer in the same way, one after another on one connection.
+SAME = [
+    ["SET", "same", "hello"], ["GET", "same"], ["GET", "missing"], ["STRLEN", "same"], ["STRLEN", "missing"],
+    ["EXISTS", "same"], ["EXISTS", "missing"], ["exists", "same"], ["PING"], ["ECHO", "text"],
+    ["SELECT", "0"], ["SELECT", "99"], ["SELECT"], ["AUTH", "word"], ["AUTH", "default", "word"], ["AUTH", "nobody", "word"],
+    ["AUTH"], ["STRLEN"], ["STRLEN", "same", "missing"], ["EXISTS"], ["HELLO", "9"], ["HELLO", "2", "AUTH", "nobody", "word"],
+    ["CLIENT", "GETNAME"], ["CLIENT", "SETNAME", "tester"], ["SET", "same"], ["SET", "same", "value", "WORD"],
+    ["GET", "same"],
+]
+# The same for HELLO, whose answer has another server, version and number of the connection.
+GREETINGS = [["HELLO"], ["HELLO", "2"], ["hello", "2", "setname", "tester"],
+             ["HELLO", "2", "AUTH", "default", "word", "SETNAME", "tester"]]
+
+
+def asked(connection, words):
+    """What a command is answered: a value, or the text of the error."""
+    connection.send_command(*words, check_health=False)
+    try:
+        return connection.read_response()
+    except redis.RedisError as error:
+        return f"{type(error).__name__}: {error}"
+
+
+# Debian's redis-tools has the server too, under the name of a tool: the program looks at the name by which it is started.
+SERVER = shutil.which("redis-server") or shutil.which("redis-check-rdb")
+
+
+@unittest.skipUnless(SERVER, "redis-check-rdb is missing; install it by: apt-get install redis-tools")
+class BesideRedis(unittest.TestCase):
+    """A server of Redis is asked the same."""
+
+    def setUp(self):
+        folder = self.enterContext(tempfile.TemporaryDirectory())
+        with socket.socket() as free:
+            free.bind(("127.0.0.1", 0))
+            port = free.getsockname()[1]
+        words = ["redis-server", "--port", str(port), "--bind", "127.0.0.1", "--save", "", "--dir", folder]
+        server = subprocess.Popen(words, executable=SERVER, stdout=subprocess.DEVNULL)
+        self.addCleanup(server.wait)
+        self.addCleanup(server.terminate)
+        self.connections = [self.connected(port), self.connected(PORTS[0])]
+
+    def connected(self, port):
+        connection = redis.Connection(port=port)
+        self.addCleanup(connection.disconnect)
+        for _ in range(300):
+            try:
+                connection.connect()
+                return connection
+            except redis.ConnectionError:  # the server is not up yet
+                time.sleep(0.1)
+        return self.fail("no connection")
+
+    def test_same_answers(self):
+        for words in SAME:
+            wanted, found = (asked(connection, words) for connection in self.connections)
+            self.assertEqual((words, found), (words, wanted))
+
+    def test_greetings(self):
+        for words in GREETINGS:
+            wanted, found = (asked(connection, words) for connection in self.connections)
+            self.assertEqual((words, found[::2]), (words, wanted[::2]))
+            for place in (5, 9, 11, 13):  # behind proto, mode, role and modules
+                self.assertEqual((words, found[place]), (words, wanted[place]))
+            self.assertEqual(found[1], b"casd")
+            self.assertEqual(found[7], asked(self.connections[1], ["CLIENT", "ID"]))
 
 
 if __name__ == "__main__":

@@ -12,6 +12,7 @@ Each option breaks it in one way, so that one can see the checker find it:
 --forgets-starts      a node keeps its values but not its start count, so that ids of calls come again
 --reads-in-one-phase  a read does not store what it found before it answers
 """
+import fcntl
 import os
 import sys
 from collections import deque
@@ -29,10 +30,20 @@ def tag_of(text):
     return tuple(int(part) for part in text.split(b"."))
 
 
+def lock(folder):
+    """Locks the folder, as the node program does, or ends."""
+    try:
+        fcntl.flock(os.open(folder, os.O_RDONLY), fcntl.LOCK_EX | fcntl.LOCK_NB)
+    except BlockingIOError:
+        print("standin: another process runs in FOLDER", file=sys.stderr)
+        sys.exit(1)
+
+
 class Log:
     """The folder's log: frames, of which the last may be cut short."""
 
     def __init__(self, folder, forgets):
+        lock(folder)
         path = os.path.join(folder, "log")
         self.entries = []
         if forgets or not os.path.exists(path):
@@ -58,8 +69,8 @@ class Log:
 class Call:
     """A read or a write that is open: its first phase asks for tags, its second one stores."""
 
-    def __init__(self, client, name, value):
-        self.client, self.name, self.value = client, name, value
+    def __init__(self, client, name, value, wanted):
+        self.client, self.name, self.value, self.wanted = client, name, value, wanted
         self.request, self.found, self.replied = None, NEVER_WRITTEN, set()
         self.phase, self.age = 1, 0
 
@@ -131,7 +142,7 @@ class Node:
         """A majority has replied: goes to the second phase, or answers."""
         if call.phase == 2 or (call.value is None and self.in_one_phase):
             self.answered += 1
-            self.end_call(number, b"+OK\r\n" if call.value is not None else bulk(call.found[1]))
+            self.end_call(number, b"+OK\r\n" if call.value is not None else READINGS[call.wanted](call.found[1]))
             return
         if call.value is not None:
             call.found = ((call.found[0][0] + 1, *(int(part) for part in number.split(b"."))), call.value)
@@ -147,10 +158,10 @@ class Node:
             if to not in call.replied and call.phase == phase:
                 self.send(to, *call.request)
 
-    def begin(self, client, name, value):
+    def begin(self, client, name, value, wanted=b"GET"):
         self.counter += 1
         number = b"%d.%d.%d" % (self.number, self.start, self.counter)
-        call = self.calls[number] = Call(client, name, value)
+        call = self.calls[number] = Call(client, name, value, wanted)
         call.request = [b"query", number, name]
         self.ask(call)
 
@@ -192,8 +203,11 @@ class Node:
 
     def carry_out(self, client, frame):
         command, words = frame[0].upper(), frame[1:]
-        if command == b"GET" and len(words) == 1:
-            self.begin(client, words[0], None)
+        is_call = (command, len(words)) in ((b"GET", 1), (b"STRLEN", 1), (b"EXISTS", 1), (b"SET", 2))
+        if is_call and (len(words[0]) > 255 or len(words[-1]) > 16 << 20):
+            self.answer(client, b"-ERR name too long\r\n" if len(words[0]) > 255 else b"-ERR value too long\r\n")
+        elif command in READINGS and len(words) == 1:
+            self.begin(client, words[0], None, command)
         elif command == b"SET" and len(words) == 2:
             self.begin(client, words[0], words[1])
         else:
@@ -231,14 +245,38 @@ def plain_answer(client, command, words, info):
     if command == b"INFO":
         return bulk(info())
     if command == b"COMMAND":
-        return b"*0\r\n"
-    if command == b"CLIENT" and words and words[0].upper() == b"ID":
-        return b":%d\r\n" % client
+        return b":14\r\n" if words and words[0].upper() == b"COUNT" else b"*0\r\n"
+    if command == b"CLIENT" and words and words[0].upper() in (b"ID", b"GETNAME"):
+        return b":%d\r\n" % client if words[0].upper() == b"ID" else NIL
     if command == b"CLIENT" or command == b"QUIT":
         return b"+OK\r\n"
-    if command == b"SET" and len(words) > 2:
+    return answer_to_connection(client, command, words) or error_answer(command, words)
+
+
+def answer_to_connection(client, command, words):
+    """The answer to a command about the connection, if it is one."""
+    if command == b"SELECT" and len(words) == 1:
+        return b"+OK\r\n" if words[0] == b"0" else b"-ERR DB index is out of range\r\n"
+    if command == b"AUTH" and 0 < len(words) < 3:
+        return NO_PASSWORD if len(words) == 1 else b"+OK\r\n" if words[0] == b"default" else WRONG_USER
+    if command == b"HELLO" and words[:1] in ([], [b"2"]):
+        is_login = len(words) > 3 and words[1].upper() == b"AUTH"
+        return WRONG_USER if is_login and words[2] != b"default" else GREETING % client
+    return b"-NOPROTO unsupported protocol version\r\n" if command == b"HELLO" else None
+
+
+def error_answer(command, words):
+    """The error that answers a command with wrong words, or one that nodes do not have."""
+    option = words[2].upper() if command == b"SET" and len(words) > 2 else b""
+    if command in EXPIRING or option in (b"EX", b"PX", b"EXAT", b"PXAT", b"KEEPTTL"):
+        return b"-ERR values do not expire in this store; nothing was changed\r\n"
+    if command in CONDITIONAL or option in (b"NX", b"XX", b"GET"):
+        return b"-ERR a write does not depend on the value before it in this store; nothing was changed\r\n"
+    if command in (b"MGET", b"MSET", b"MSETNX") or (command == b"EXISTS" and words):
+        return b"-ERR a command has one name in this store; nothing was done\r\n"
+    if option:
         return b"-ERR syntax error\r\n"
-    if command in (b"GET", b"SET", b"PING", b"ECHO"):
+    if command in (b"SET", b"PING", b"ECHO", b"SELECT", b"AUTH", *READINGS):
         return b"-ERR wrong number of arguments for '%s' command\r\n" % command.lower()
     return b"-ERR unknown command\r\n"
 
@@ -250,6 +288,19 @@ def time_of_start():
 
 def bulk(value):
     return b"$%d\r\n%b\r\n" % (len(value), value)
+
+
+NIL = b"$-1\r\n"
+# What the commands that read a name answer for its value. The empty value counts as none.
+READINGS = {b"GET": lambda value: bulk(value) if value else NIL, b"STRLEN": lambda value: b":%d\r\n" % len(value),
+            b"EXISTS": lambda value: b":1\r\n" if value else b":0\r\n"}
+EXPIRING = {b"SETEX", b"PSETEX", b"EXPIRE", b"PEXPIRE", b"EXPIREAT", b"PEXPIREAT", b"GETEX"}
+CONDITIONAL = {b"SETNX", b"GETSET", b"GETDEL", b"APPEND", b"INCR", b"DECR", b"INCRBY", b"DECRBY", b"SETRANGE"}
+GREETING = (b"*14\r\n$6\r\nserver\r\n$4\r\ncasd\r\n$7\r\nversion\r\n$5\r\n1.0.0\r\n$5\r\nproto\r\n:2\r\n$2\r\nid\r\n:%d\r\n"
+            b"$4\r\nmode\r\n$10\r\nstandalone\r\n$4\r\nrole\r\n$6\r\nmaster\r\n$7\r\nmodules\r\n*0\r\n")
+WRONG_USER = b"-WRONGPASS invalid username-password pair or user is disabled.\r\n"
+NO_PASSWORD = (b"-ERR AUTH <password> called without any password configured for the default user. "
+               b"Are you sure your configuration is correct?\r\n")
 
 
 def main(words):
