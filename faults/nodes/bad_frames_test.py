@@ -1,8 +1,8 @@
 #!/usr/bin/env python3
 """Gives a node program bad frames: bad_frames_test.py PROGRAM [COUNT].
 
-Frames that are cut or changed, from clients and from nodes; after them the node must answer and keep its values. COUNT
-changed frames of nodes are drawn at random, 300 if not said otherwise."""
+Frames that are cut or changed, or have tags near the greatest one, from clients and from nodes; after them the node must
+answer and keep its values. COUNT changed frames of nodes are drawn at random, 300 if not said otherwise."""
 import random
 import shlex
 import sys
@@ -50,9 +50,13 @@ class BadFrames(unittest.TestCase):
         [frame] = [frame for frame in node.give([b"client 7", *words]) if frame[0] == b"client 7"]
         return b"".join(frame[1:])
 
-    def dropped(self, node):
+    def line(self, node, key):
+        """The value of a line of INFO."""
         lines = self.answer(node, b"INFO").split(b"\r\n")
-        return int(next(line for line in lines if line.startswith(b"frames_dropped:")).partition(b":")[2])
+        return next(line.partition(b":")[2] for line in lines if line.startswith(key + b":"))
+
+    def dropped(self, node):
+        return int(self.line(node, b"frames_dropped"))
 
     def test_addresses(self):
         node = self.start(CLUSTER)
@@ -93,6 +97,30 @@ class BadFrames(unittest.TestCase):
             self.assertTrue(all(frame[0] in (b"node 1", b"node 2", b"node 3") for frame in sent), strings)
         self.assertGreater(self.dropped(node), self.count // 2)
         self.assertEqual(self.answer(node, b"PING"), b"+PONG\r\n")
+
+    def test_tags_near_the_greatest(self):
+        """A tag near the greatest one would block the object for good, since no write would find a greater one. Frames
+        with a tag above the limit are dropped; one at the limit is not."""
+        node = self.start(CLUSTER.replace("later", "later 2"))
+        self.assertEqual(self.answer(node, b"SET", b"a", b"1"), b"+OK\r\n")
+        digest = bytes.fromhex(self.line(node, b"cluster").decode())
+
+        def message(name, *words):
+            return [b"node 2", digest, name, b"\x01\x01", b"7", b"1", b"0", b"0", *words]
+
+        great = [message(b"a", b"request", b"finalize", b"%d" % number, b"1") for number in (2**64 - 1, 2**62 + 1)]
+        great += [message(b"a", b"request", b"pre-write", b"%d" % (2**64 - 1), b"1", b"0", b"1", b"x"),
+                  message(b"a", b"request", b"fetch", b"%d" % (2**64 - 1), b"1"),
+                  message(b"a", b"reply", b"query", b"0", b"%d" % (2**64 - 1), b"1"),
+                  message(b"a", b"reply", b"finalize", b"%d" % (2**64 - 1), b"1", b"0")]
+        for count, frame in enumerate(great, 1):
+            self.assertEqual(node.give(frame), [], frame)
+            self.assertEqual(self.dropped(node), count, frame)
+        self.assertEqual(self.answer(node, b"SET", b"a", b"2"), b"+OK\r\n")
+        self.assertEqual(self.answer(node, b"GET", b"a"), b"$1\r\n2\r\n")
+        sent = node.give(message(b"b", b"request", b"finalize", b"%d" % 2**62, b"1"))
+        self.assertEqual([frame[0] for frame in sent], [b"node 2"])
+        self.assertEqual(self.dropped(node), len(great))
 
     @staticmethod
     def spoil(source, strings):

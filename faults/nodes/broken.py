@@ -9,6 +9,7 @@ skips    every third write is answered and not carried out
 stale    a read is answered with the value that the node read or wrote last under that name, where there is one
 """
 import ctypes
+import fcntl
 import os
 import signal
 import subprocess
@@ -20,9 +21,7 @@ sys.path[:0] = [str(Path(__file__).resolve().parents[2] / "deploy" / "test")]
 sys.dont_write_bytecode = True
 
 from frames import Frames, encode, frame_at  # noqa: E402
-
-# The bytes before each frame of a log.
-HEAD = 16
+from log_form import HEAD, log_of  # noqa: E402
 
 
 def forget(log):
@@ -30,9 +29,16 @@ def forget(log):
     data, kept, place = log.read_bytes() if log.exists() else b"", [], 0
     while place < len(data) and (entry := frame_at(data, place + HEAD)) is not None:
         if entry[0][0] in (b"cluster", b"start"):
-            kept.append(data[place:entry[1]])
+            kept.append(data[place + HEAD:entry[1]])
         place = entry[1]
-    log.write_bytes(b"".join(kept))
+    log.write_bytes(log_of(kept))
+
+
+def wait_for(folder):
+    """Waits until no program has the folder locked: one that was killed may not have ended yet."""
+    locked = os.open(folder, os.O_RDONLY)
+    fcntl.flock(locked, fcntl.LOCK_EX)
+    os.close(locked)
 
 
 class Between:
@@ -103,6 +109,7 @@ def end_with_parent():
 
 
 def main(kind, program, *words):
+    wait_for(words[2])
     if kind == "forgets":
         forget(Path(words[2]) / "log")
         os.execv(program, [program, *words])

@@ -211,7 +211,7 @@ class Cluster:
     def take_move_answer(self, answer):
         """A move that is still open, or that the node refuses because an earlier one is open, is no fault."""
         self.history.moves += answer == b"+OK\r\n"
-        if not answer.startswith((b"+OK", b"-ERR refused: 11 MovePending", b"-ERR no quorum")):
+        if not answer.startswith((b"+OK", b"-ERR another move of this name is under way", b"-ERR no quorum")):
             raise NodeEnded(f"unexpected answer: {answer[:80]}")
 
     def leave(self, connection):

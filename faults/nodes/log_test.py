@@ -2,7 +2,10 @@
 """Tests what a node program has again from a log that was cut or changed: log_test.py PROGRAM [EVERY].
 
 A node writes a log. Then the log is cut at every byte of its last three entries, also with zeros behind the cut, and
-each of their bytes is changed. With a number EVERY, one place in so many is tried."""
+each of their bytes is changed. Each entry is left out, doubled, or put behind the next one. With a number EVERY, one
+place in so many is tried."""
+import resource
+import subprocess
 import sys
 import unittest
 from pathlib import Path
@@ -11,44 +14,26 @@ sys.path[:0] = [str(Path(__file__).resolve().parent), str(Path(__file__).resolve
 sys.dont_write_bytecode = True
 
 from frames import encode  # noqa: E402
+from log_form import HEAD, bodies_of, log_of, old_log_of, said_of, shifted, split  # noqa: E402
 from one_node import OneNode, command  # noqa: E402
 
 QUESTIONS = command(b"GET", b"a") + command(b"GET", b"b")
 # Each byte is changed to these: other digits, and others.
 CHANGES = (lambda byte: byte ^ 1, lambda byte: byte ^ 8, lambda byte: 57 if byte != 57 else 0)
-HEAD = 16
-
-
-def crc32c(data):
-    """The CRC-32C, one bit after another."""
-    state = 0xFFFFFFFF
-    for byte in data:
-        state ^= byte
-        for _ in range(8):
-            state = state >> 1 ^ (0x82F63B78 if state & 1 else 0)
-    return state ^ 0xFFFFFFFF
-
-
-def entry_of(body):
-    """An entry with this body: the body's length and digest, the digest of these, and the body."""
-    says = len(body).to_bytes(8, "big") + crc32c(body).to_bytes(4, "big")
-    return says + crc32c(says).to_bytes(4, "big") + body
+CONVERT = Path(__file__).resolve().parents[2] / "deploy" / "convert-log"
+LONGEST_BODY = (1 << 56) - 1
 
 
 def places(log):
     """The places at which entries begin, and the end of the last one."""
     found = [0]
-    while found[-1] < len(log):
-        begin = found[-1]
-        body = log[begin + HEAD:][:int.from_bytes(log[begin:begin + 8], "big")]
-        if log[begin:begin + HEAD + len(body)] != entry_of(body):
-            raise AssertionError(f"no entry at byte {begin}")
-        found.append(begin + HEAD + len(body))
+    for entry in split(log):
+        found.append(found[-1] + len(entry))
     return found
 
 
 class Logs(unittest.TestCase):
-    program, every = None, 1
+    program, every, memory = None, 1, 64 << 20
 
     def setUp(self):
         self.node = self.enterContext(OneNode(self.program))
@@ -57,7 +42,7 @@ class Logs(unittest.TestCase):
             self.assertEqual(self.node.answers(command(b"SET", *write)), [b"+OK\r\n"])
         self.whole = self.node.log.read_bytes()
         self.places = places(self.whole)
-        self.assertEqual(self.places[-1], len(self.whole))
+        self.assertEqual(self.whole, log_of(bodies_of(self.whole)))
 
     def read(self, log, cut=0):
         """What a node with this log answers, and its log afterwards. So many bytes are cut off."""
@@ -111,14 +96,87 @@ class Logs(unittest.TestCase):
         for first in range(begin, end, self.every):
             self.is_reported(self.whole[:first] + bytes(end - first) + self.whole[end:], begin)
 
+    def test_entries_in_other_places(self):
+        """Each entry that is left out is reported at the entry that follows, each that is doubled at the second one, and
+        each that is behind the next one at that one. What is left out at the end of a log nobody can know."""
+        self.node.answers(*(command(b"SET", b"a", b"%d" % number) for number in range(8)))
+        whole = self.node.log.read_bytes()
+        entries, found = split(whole), places(whole)
+        self.assertGreater(len(entries), 24)
+        for place, begin in enumerate(found[:-2]):
+            before, entry, following, behind = entries[:place], *entries[place:place + 2], entries[place + 2:]
+            for damaged, log in ((begin, [*before, following, *behind]),
+                                 (found[place + 1], [*before, entry, entry, following, *behind]),
+                                 (begin, [*before, following, entry, *behind])):
+                self.is_reported(b"".join(log), damaged)
+        self.is_reported(whole + entries[-1], found[-1])
+        self.assertTrue(self.read(whole[:found[-2]])[1].startswith(whole[:found[-2]]))
+        print(f"log: each of {len(entries)} entries was left out, doubled, and put behind the next one")
+
     def test_other_logs(self):
-        """Bytes before the first entry, entries in another order, entries that no node makes, and a log of the form of
-        before heads."""
-        older = encode([b"cluster", bytes(16), b"1", bytes(8)])
-        end = len(self.whole)
-        for log, begin in ((b"x" + self.whole, 0), (self.whole[self.places[1]:], 0), (self.whole * 2, end), (older, 0),
-                           (self.whole + entry_of(b"*0\r\n"), end), (self.whole + entry_of(b"no frame"), end)):
+        """Bytes before the first entry, a log behind itself, and entries that no node makes."""
+        end, bodies = len(self.whole), bodies_of(self.whole)
+        for log, begin in ((b"x" + self.whole, 0), (self.whole * 2, end),
+                           (self.whole + log_of([b"*0\r\n"], bodies), end), (self.whole + log_of([b"no frame"], bodies), end)):
             self.is_reported(log, begin)
+
+    def test_lengths_beyond_the_end(self):
+        """A head with a right checksum, and with a length beyond the end of the log, costs no memory: the entry is cut off."""
+        bodies = bodies_of(self.whole)
+        chain = shifted(0xFFFFFFFF, b"".join(said_of(body) for body in bodies))
+        for length in (100, 1 << 24, 1 << 34, LONGEST_BODY):
+            says = bytes([2]) + length.to_bytes(7, "big") + bytes(4)
+            head = says + (shifted(chain, says) ^ 0xFFFFFFFF).to_bytes(4, "big")
+            self.node.log.write_bytes(self.whole + head + b"x" * 50)
+            answers = self.node.answers(QUESTIONS, cut=HEAD + 50, **limited(self.memory))
+            self.assertEqual(answers, [b"$1\r\n3\r\n", b"$1\r\n3\r\n"], length)
+            self.assertTrue(self.node.log.read_bytes().startswith(self.whole))
+
+    def test_logs_of_the_form_before(self):
+        """A log of the form before is left as it is, and the message names the program that converts it, which keeps it,
+        cuts off its end, and refuses damage. Frames without heads, of the form before that one, are damage."""
+        bodies = bodies_of(self.whole)
+        old, end = old_log_of(bodies), len(old_log_of(bodies[:-1]))
+        text = "casd: the log has an older form; deploy/convert-log FOLDER writes it in today's form\n"
+        for log in (old, old_log_of(bodies[:1]), old + b"x" * 20):
+            self.node.log.write_bytes(log)
+            self.assertEqual(self.node.run(QUESTIONS), (1, b"", text))
+            self.assertEqual(self.node.log.read_bytes(), log)
+        self.is_reported(encode([b"cluster", bytes(16), b"1", bytes(8)]), 0)
+        before = self.node.folder / "log.before"
+        for log, kept in ((old, bodies), (old[:-1], bodies[:-1]), (old[:end + 10], bodies[:-1]),
+                          (old[:end + 10] + bytes(500), bodies[:-1]), (old + bytes(9), bodies), (b"", [])):
+            self.node.log.write_bytes(log)
+            self.assertEqual(self.convert(), (0, ""))
+            self.assertEqual((self.node.log.read_bytes(), before.read_bytes()), (log_of(kept), log))
+            self.assertEqual(self.node.log.stat().st_mode & 0o777, 0o600)
+            before.unlink()
+        self.node.log.write_bytes(log_of(bodies))
+        self.assertEqual(self.node.answers(QUESTIONS), [b"$1\r\n3\r\n", b"$1\r\n3\r\n"])
+
+    def convert(self):
+        """The status of the program that converts the log, and what it says of its failure."""
+        ended = subprocess.run([CONVERT, self.node.folder], capture_output=True, text=True, check=False)
+        return ended.returncode, ended.stderr
+
+    def test_logs_that_are_not_converted(self):
+        """A log of today's form, damaged ones, and one of a node that runs stay as they are."""
+        bodies = bodies_of(self.whole)
+        old, end = bytearray(old_log_of(bodies)), len(old_log_of(bodies[:-1]))
+        old[end + 30] ^= 1
+        for log, said in ((self.whole, "the log has today's form already"),
+                          (bytes(old), f"the log, from byte {end}: wrong checksum")):
+            self.node.log.write_bytes(log)
+            self.assertEqual(self.convert(), (1, f"convert-log: {said}\n"))
+            self.assertEqual(([file.name for file in self.node.folder.iterdir()], self.node.log.read_bytes()), (["log"], log))
+        self.node.log.write_bytes(self.whole)
+        with self.node.running():
+            self.assertEqual(self.convert(), (1, f"convert-log: a process runs in {self.node.folder}; stop the node first\n"))
+
+
+def limited(memory):
+    """Has a program refused more memory than so many bytes."""
+    return {"preexec_fn": lambda: resource.setrlimit(resource.RLIMIT_AS, (memory, memory))} if memory else {}
 
 
 if __name__ == "__main__":

@@ -1,4 +1,5 @@
 """Runs of one node program by itself, for tests: a cluster of one node, whose folder and log the test sees."""
+import contextlib
 import subprocess
 import tempfile
 from pathlib import Path
@@ -38,11 +39,27 @@ class OneNode:
                                check=False, **options)
         return ended.returncode, ended.stdout, ended.stderr.decode()
 
-    def answers(self, *frames, cut=0):
+    @contextlib.contextmanager
+    def running(self):
+        """The program while it runs, as a function that asks whether it answers. It is killed in the end."""
+        words = [self.program, self.file, "1", self.folder]
+        with subprocess.Popen(words, stdin=subprocess.PIPE, stdout=subprocess.PIPE, bufsize=0) as process:
+            def is_alive():
+                process.stdin.write(command(b"PING"))
+                wanted = encode([b"client 1", b"+PONG\r\n"])
+                return process.stdout.read(len(wanted)) == wanted
+            try:
+                if not is_alive():
+                    raise AssertionError("no answer")
+                yield is_alive
+            finally:
+                process.kill()
+
+    def answers(self, *frames, cut=0, **options):
         """What the program answers to frames of clients, each as the bytes that a client gets. It has to say that it cut
         so many bytes off its log, and nothing else."""
         says = f"casd: the log's last entry was cut short; {cut} bytes were cut off\n" if cut else ""
-        status, written, text = self.run(b"".join(frames))
+        status, written, text = self.run(b"".join(frames), **options)
         if (status, text) != (0, says):
             raise AssertionError(f"status {status}: {text}")
         return [b"".join(strings[1:]) for strings in Frames().take(written)]

@@ -16,6 +16,7 @@ from frames import encode  # noqa: E402
 from one_node import CLUSTER, OneNode, command  # noqa: E402
 
 PING = command(b"PING")
+MIB = 1 << 20
 
 
 class Program(unittest.TestCase):
@@ -64,6 +65,7 @@ class Files(Program):
 
     def test_folder(self):
         self.fails(1, "FOLDER is not there", self.node.file, "1", "/nowhere")
+        self.fails(1, "cannot open the log: Not a directory (os error 20)", self.node.file, "1", self.node.file)
         self.node.log.mkdir()
         self.fails(1, "cannot open the log: Is a directory (os error 21)")
 
@@ -76,6 +78,31 @@ class Files(Program):
         self.fails(1, "the log, from byte 0: the log is of another cluster: a setting that is fixed at the first start "
                       "differs in the cluster file")
         self.assertEqual(self.node.log.read_bytes(), log)
+
+    def test_modes(self):
+        """Nobody but the owner may read a log, whatever the umask, also one that was written anew."""
+        for umask in (0o000, 0o022, 0o077):
+            self.node.log.unlink(missing_ok=True)
+            status, _, said = self.node.run(PING, preexec_fn=lambda mask=umask: os.umask(mask))
+            self.assertEqual((status, said, self.node.log.stat().st_mode & 0o777), (0, "", 0o600))
+
+    def test_second_process(self):
+        """A second process in the same folder ends at once and changes nothing, however long the log is, and the first
+        one goes on. Once that was killed, the folder is free."""
+        self.node.file.write_text(CLUSTER.replace("delta 8", "delta 0"))
+        writes = [command(b"SET", b"a", bytes([number]) * MIB) for number in range(20)]
+        self.node.answers(*writes, command(b"SET", b"b", b"1"))
+        long_log = self.node.log.read_bytes()
+        self.assertGreater(len(long_log), 19 * MIB)
+        self.node.log.write_bytes(b"")
+        with self.node.running() as is_alive:
+            self.node.log.write_bytes(long_log)
+            for data in (b"", PING):
+                self.fails(1, "another process runs in FOLDER", data=data)
+                self.assertEqual([file.name for file in self.node.folder.iterdir()], ["log"])
+                self.assertEqual(self.node.log.read_bytes(), long_log)
+                self.assertTrue(is_alive())
+        self.assertEqual(self.node.answers(command(b"GET", b"b")), [b"$1\r\n1\r\n"])
 
     def test_what_may_change(self):
         self.assertEqual(self.node.answers(PING), [b"+PONG\r\n"])

@@ -84,7 +84,7 @@ class Syncs(unittest.TestCase):
         for _, *reply in nodes[2].give([b"node 1", *request]):
             self.assertEqual(nodes[1].give([b"node 2", *reply]), [])
         values = {self.value(nodes, number) for number in (2, 3, 1)}
-        self.assertIn(values, ({b"$3\r\nnew\r\n"}, {b"$0\r\n\r\n"}))
+        self.assertIn(values, ({b"$3\r\nnew\r\n"}, {b"$-1\r\n"}))
 
 
 if __name__ == "__main__":

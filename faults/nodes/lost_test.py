@@ -1,0 +1,137 @@
+#!/usr/bin/env python3
+"""Tests what docs/nodes.md says of nodes that are lost and of nodes that join later: lost_test.py PROGRAM. The nodes are
+on pipes, and each frame arrives at once if both nodes run."""
+import subprocess
+import sys
+import tempfile
+import unittest
+from pathlib import Path
+
+sys.dont_write_bytecode = True
+sys.path.append(str(Path(__file__).resolve().parent.parent.parent / "deploy" / "test"))
+
+from cluster import Node  # noqa: E402
+
+PROGRAM = sys.argv.pop(1)
+FILE = "nodes 1 2 3 4 5\nn 5\nk 3\ndelta 8\nmover {mover}\nlater {later}\nticks 10\n"
+NO_QUORUM = b"-ERR no quorum answered in time\r\n"
+MOST_TICKS = 200
+
+
+class Cluster:
+    """Five nodes, and later ones. A quorum of five nodes with k = 3 has four."""
+
+    def __init__(self, folder, later=""):
+        self.folder, self.file, self.nodes, self.connections = Path(folder), Path(folder) / "cluster", {}, 0
+        self.answers = {}
+        self.write(later=later)
+        self.start(1, 2, 3, 4, 5)
+
+    def write(self, later="", mover=1):
+        self.file.write_text(FILE.format(later=later, mover=mover))
+
+    def start(self, *numbers):
+        for number in numbers:
+            (self.folder / str(number)).mkdir(exist_ok=True)
+            self.nodes[number] = Node([PROGRAM], number, self.folder / str(number), self.file)
+            self.route(number, self.nodes[number].start())
+
+    def stop(self, *numbers):
+        for number in numbers:
+            self.nodes.pop(number).kill()
+
+    def route(self, sender, frames):
+        """Brings frames to the nodes that run, and what these write, until nothing is on its way."""
+        waiting = [(sender, frame) for frame in frames]
+        while waiting:
+            sender, (address, *strings) = waiting.pop(0)
+            kind, number = address.split()
+            if kind == b"client":
+                self.answers[int(number)] = b"".join(strings)
+            elif int(number) in self.nodes:
+                written = self.nodes[int(number)].give([b"node %d" % sender, *strings])
+                waiting += [(int(number), frame) for frame in written]
+
+    def ask(self, number, *words):
+        """What the node answers to a command, with ticks at all nodes until it does."""
+        self.connections += 1
+        client = self.connections
+        self.route(number, self.nodes[number].give([b"client %d" % client, *words]))
+        for _ in range(MOST_TICKS):
+            if client in self.answers:
+                return self.answers[client]
+            for other in list(self.nodes):
+                self.route(other, self.nodes[other].give([b"tick"]))
+        raise AssertionError(f"node {number} does not answer {words}")
+
+
+class Lost(unittest.TestCase):
+    def cluster(self, later=""):
+        folder = tempfile.TemporaryDirectory()
+        self.addCleanup(folder.cleanup)
+        cluster = Cluster(folder.name, later)
+        self.addCleanup(lambda: cluster.stop(*cluster.nodes))
+        return cluster
+
+    def test_moved_object_needs_its_first_nodes(self):
+        """A move does not free an object from its first nodes: of them, too, a quorum has to be up."""
+        cluster = self.cluster(later="6 7")
+        cluster.start(6, 7)
+        self.assertEqual(cluster.ask(2, b"SET", b"a", b"value"), b"+OK\r\n")
+        self.assertEqual(cluster.ask(1, b"MOVE", b"a", b"3", b"1", b"2", b"3", b"6", b"7"), b"+OK\r\n")
+        cluster.stop(4)
+        self.assertEqual(cluster.ask(6, b"GET", b"a"), b"$5\r\nvalue\r\n")
+        cluster.stop(5)
+        for number in (1, 2, 3, 6, 7):
+            self.assertEqual(cluster.ask(number, b"GET", b"a"), NO_QUORUM)
+        self.assertEqual(cluster.ask(2, b"SET", b"a", b"other"), NO_QUORUM)
+        cluster.start(5)
+        self.assertIn(cluster.ask(7, b"GET", b"a"), (b"$5\r\nvalue\r\n", b"$5\r\nother\r\n"))
+
+    def test_every_layout_needs_a_quorum(self):
+        """Of the nodes between the first and the last ones, too, a quorum has to be up."""
+        cluster = self.cluster(later="6 7 8 9")
+        cluster.start(6, 7, 8, 9)
+        self.assertEqual(cluster.ask(2, b"SET", b"a", b"value"), b"+OK\r\n")
+        self.assertEqual(cluster.ask(1, b"MOVE", b"a", b"3", b"1", b"2", b"3", b"6", b"7"), b"+OK\r\n")
+        self.assertEqual(cluster.ask(1, b"MOVE", b"a", b"3", b"1", b"2", b"3", b"8", b"9"), b"+OK\r\n")
+        cluster.stop(6, 7)
+        self.assertEqual(cluster.ask(2, b"GET", b"a"), NO_QUORUM)
+        cluster.start(7)
+        self.assertEqual(cluster.ask(2, b"GET", b"a"), b"$5\r\nvalue\r\n")
+
+    def test_later_nodes_need_the_new_file_everywhere(self):
+        """A node that has the old file does not hear a node that joined later."""
+        cluster = self.cluster()
+        self.assertEqual(cluster.ask(2, b"SET", b"a", b"value"), b"+OK\r\n")
+        cluster.write(later="6")
+        cluster.start(6)
+        move = [b"MOVE", b"a", b"3", b"1", b"2", b"3", b"5", b"6"]
+        self.assertEqual(cluster.ask(1, *move)[:4], b"-ERR")
+        cluster.stop(1)
+        cluster.start(1)
+        self.assertEqual(cluster.ask(6, b"GET", b"a"), NO_QUORUM)
+        cluster.stop(2, 3, 4, 5)
+        cluster.start(2, 3, 4, 5)
+        self.assertEqual(cluster.ask(6, b"GET", b"a"), b"$5\r\nvalue\r\n")
+        self.assertEqual(cluster.ask(1, *move), b"+OK\r\n")
+        cluster.stop(4)
+        self.assertEqual(cluster.ask(6, b"GET", b"a"), b"$5\r\nvalue\r\n")
+
+    def test_lost_mover(self):
+        """Without the mover nothing can be moved, and all can be read and written. No file can name another mover."""
+        cluster = self.cluster()
+        self.assertEqual(cluster.ask(2, b"SET", b"a", b"value"), b"+OK\r\n")
+        cluster.stop(1)
+        self.assertEqual(cluster.ask(2, b"SET", b"a", b"other"), b"+OK\r\n")
+        self.assertEqual(cluster.ask(3, b"GET", b"a"), b"$5\r\nother\r\n")
+        self.assertEqual(cluster.ask(2, b"MOVE", b"a", b"3", b"2", b"3", b"4", b"5")[:4], b"-ERR")
+        cluster.stop(2)
+        cluster.write(mover=2)
+        started = subprocess.run([PROGRAM, cluster.file, "2", cluster.folder / "2"], stdin=subprocess.DEVNULL,
+                                 capture_output=True, timeout=60, check=False)
+        self.assertEqual(started.returncode, 1)
+
+
+if __name__ == "__main__":
+    unittest.main()

@@ -1,0 +1,172 @@
+#!/usr/bin/env python3
+"""Tests what a node program does by what it knows of other nodes: peers_test.py PROGRAM. Its host tells at each tick
+which nodes it hears, so that a move to nodes of which too few are heard is refused; and nodes with another cluster file
+are told of once and counted."""
+import subprocess
+import sys
+import tempfile
+import unittest
+from pathlib import Path
+
+sys.path[:0] = [str(Path(__file__).resolve().parent), str(Path(__file__).resolve().parents[2] / "deploy" / "test")]
+sys.dont_write_bytecode = True
+
+from cluster import Node  # noqa: E402
+from frames import Frames, encode  # noqa: E402
+from one_node import CLUSTER, OneNode, command  # noqa: E402
+
+# Node 1 moves objects and keeps all of them at first. The other nodes joined later.
+MOVER = "nodes 1\nn 1\nk 1\ndelta 8\nmover 1\nlater 2 3 4 5 6 7\nticks 50\n"
+FEW = b"-ERR fewer than a quorum of the new nodes answer: node %d is not heard\r\n"
+
+
+def tick(*heard):
+    """The frame of a tick, at which the host tells that it hears these nodes."""
+    return [b"tick", *(b"%d" % node for node in heard)]
+
+
+class Moves(unittest.TestCase):
+    program = None
+
+    def setUp(self):
+        self.home = Path(self.enterContext(tempfile.TemporaryDirectory()))
+        (self.home / "cluster").write_text(MOVER)
+        self.connection = 0
+
+    def start(self, number=1):
+        folder = self.home / str(number)
+        folder.mkdir(exist_ok=True)
+        node = Node([self.program], number, folder, self.home / "cluster")
+        self.addCleanup(lambda: node.process and node.kill())
+        node.start()
+        return node
+
+    def move(self, node, name, k, *members):
+        """What a new client gets at once for a move; nothing while the move is open."""
+        self.connection += 1
+        client = b"client %d" % self.connection
+        words = [b"MOVE", name, b"%d" % k, *(b"%d" % member for member in members)]
+        return b"".join(b"".join(frame[1:]) for frame in node.give([client, *words]) if frame[0] == client)
+
+    def test_too_few_are_heard(self):
+        """A quorum of four nodes with k = 2 is three of them; the node itself is heard."""
+        node = self.start()
+        self.assertEqual(node.give(tick(1, 2, 3)), [])
+        for members, missing in ((1, 2, 6, 7), 6), ((2, 3, 6, 7), 6), ((7, 6, 3, 1), 7):
+            self.assertEqual(self.move(node, b"a", 2, *members), FEW % missing)
+        self.assertEqual(self.answer(node, b"SET", b"a", b"1"), b"+OK\r\n")
+        self.assertEqual(self.answer(node, b"GET", b"a"), b"$1\r\n1\r\n")
+
+    def test_nodes_outside_the_layout_do_not_count(self):
+        node = self.start()
+        node.give(tick(1, 2, 3, 4, 5))
+        self.assertEqual(self.move(node, b"a", 1, 5, 6, 7), FEW % 6)
+        self.assertEqual(self.move(node, b"a", 1, 6), FEW % 6)
+
+    def test_a_quorum_is_heard(self):
+        node = self.start()
+        node.give(tick(3, 2))
+        self.assertEqual(self.move(node, b"a", 2, 1, 2, 3, 7), b"")
+        self.assertEqual(self.move(node, b"a", 2, 1, 2, 3, 7), b"-ERR another move of this name is under way\r\n")
+        self.assertEqual(self.move(node, b"b", 1, 1), b"+OK\r\n")
+
+    def test_the_last_tick_counts(self):
+        node = self.start()
+        node.give(tick(1, 2, 3))
+        node.give(tick(1))
+        self.assertEqual(self.move(node, b"a", 1, 2, 3), FEW % 2)
+        node.give(tick(2, 3))
+        self.assertEqual(self.move(node, b"a", 1, 2, 3), b"")
+
+    def test_a_host_that_does_not_tell(self):
+        """Nothing is checked before the first tick, and after a tick without numbers."""
+        node = self.start()
+        self.assertEqual(self.move(node, b"a", 1, 6, 7), b"")
+        node.give(tick(1))
+        self.assertEqual(self.move(node, b"b", 1, 6, 7), FEW % 6)
+        node.give(tick())
+        self.assertEqual(self.move(node, b"b", 1, 6, 7), b"")
+
+    def test_order_of_refusals(self):
+        node, other = self.start(), self.start(2)
+        other.give(tick(2))
+        self.assertEqual(self.move(other, b"a", 1, 6, 9), b"-ERR only the mover moves objects\r\n")
+        node.give(tick(1))
+        self.assertEqual(self.move(node, b"a", 1, 6, 9, 10), b"-ERR node 9 is not in the cluster file\r\n")
+        self.assertEqual(self.move(node, b"a", 3, 6, 7), b"-ERR bad layout\r\n")
+        node.give(tick(1, 6, 7))
+        self.assertEqual(self.move(node, b"a", 1, 6, 7), b"")
+        node.give(tick(1))
+        self.assertEqual(self.move(node, b"a", 1, 6, 7), FEW % 6)
+
+    def test_ticks_that_are_none(self):
+        node = self.start()
+        node.give(tick(1, 2))
+        for count, words in enumerate([[b""], [b"x"], [b"01"], [b"256"], [b"1", b"-2"]], 1):
+            self.assertEqual(node.give([b"tick", *words]), [])
+            self.assertEqual(self.line(node, b"frames_dropped"), b"%d" % count)
+        self.assertEqual(self.move(node, b"a", 1, 2), b"")
+
+    def answer(self, node, *words):
+        [frame] = [frame for frame in node.give([b"client 99", *words]) if frame[0] == b"client 99"]
+        return b"".join(frame[1:])
+
+    def line(self, node, key):
+        lines = self.answer(node, b"INFO").split(b"\r\n")
+        return next(line.partition(b":")[2] for line in lines if line.startswith(key + b":"))
+
+
+class OtherClusters(unittest.TestCase):
+    program = None
+
+    def setUp(self):
+        self.node = self.enterContext(OneNode(self.program, CLUSTER.replace("later", "later 2")))
+        self.own = self.value(self.node.answers(command(b"INFO"))[0], b"cluster")
+
+    @staticmethod
+    def value(info, key):
+        return next(line.partition(b":")[2] for line in info.split(b"\r\n") if line.startswith(key + b":"))
+
+    @staticmethod
+    def message(sender, digest):
+        """The frame of a node that asks for a pointer, with the digest of its cluster file."""
+        return encode([b"node %d" % sender, digest, b"a", b"\x01\x01", b"7", b"1", b"0", b"0", b"request", b"next"])
+
+    def said(self, sender, digest):
+        return (f"casd: node {sender} has another cluster file: the digest of that file is {digest.hex()}, and that of "
+                f"this node's file is {self.own.decode()}; its messages are dropped\n")
+
+    def test_two_frames_and_one_line(self):
+        other = b"0123456789abcdef"
+        data = self.message(2, other) * 2 + command(b"INFO")
+        status, written, text = self.node.run(data)
+        self.assertEqual((status, text), (0, self.said(2, other)))
+        [[_, *strings]] = [frame for frame in Frames().take(written) if frame[0] == b"client 1"]
+        info = b"".join(strings)
+        self.assertEqual(self.value(info, b"frames_of_other_clusters"), b"2")
+        self.assertEqual(self.value(info, b"frames_dropped"), b"2")
+
+    def test_each_node_and_digest_once(self):
+        """A node that is not in the cluster file is told of too, and a node of the same cluster file is not."""
+        senders = [(2, b"x" * 16), (3, b"x" * 16), (2, b"y" * 16), (2, b"x" * 16)]
+        with subprocess.Popen([self.program, self.node.file, "1", self.node.folder], stdin=subprocess.PIPE,
+                              stdout=subprocess.PIPE, stderr=subprocess.PIPE, bufsize=0) as process:
+            for sender, digest in [*senders, (2, bytes.fromhex(self.own.decode()))]:
+                process.stdin.write(self.message(sender, digest) + command(b"PING"))
+                frames, wanted = Frames(), [b"client 1", b"+PONG\r\n"]
+                while wanted not in frames.take(process.stdout.read(1 << 16)):
+                    pass
+            _, text = process.communicate(encode([b"tick"]), timeout=60)
+        self.assertEqual(text.decode(), "".join(self.said(*sender) for sender in senders[:3]))
+
+    def test_standard_error_that_cannot_be_written(self):
+        with open("/dev/full", "wb") as full:
+            ended = subprocess.run([self.program, self.node.file, "1", self.node.folder], stdout=subprocess.PIPE,
+                                   input=self.message(2, b"x" * 16) + command(b"PING"), stderr=full, check=False)
+        self.assertEqual(ended.returncode, 0)
+        self.assertIn([b"client 1", b"+PONG\r\n"], Frames().take(ended.stdout))
+
+
+if __name__ == "__main__":
+    Moves.program = OtherClusters.program = str(Path(sys.argv.pop(1)).resolve())
+    unittest.main()
