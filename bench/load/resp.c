@@ -30,7 +30,7 @@ static enum answer take(struct connection *connection) {
     if (line == NULL)
         return NOT_YET;
     size_t whole = (size_t)(line - front) + 1;
-    if (*front == '$')
+    if (*front == '$' && front[1] != '-')  // $-1 is nil, behind which no bytes come
         whole += strtoul(front + 1, NULL, 10) + 2;
     if (waiting(in) < whole)
         return NOT_YET;
