@@ -18,7 +18,7 @@ use Rattle.deeds.specs.Laws.{EventsAreHandled, MoreMayCome, NothingIsHandled, Re
 use Rattle.deeds.proofs.DeedListLemmas.{deeds_append, notices_append, objects_append, sent_append}
 use Rattle.deeds.proofs.FedLemmas.{fed_append, fed_more}
 use Rattle.deeds.proofs.IdLemmas.{ids_append, ids_node}
-use Rattle.deeds.proofs.ListLemmas.{all_append}
+use Rattle.open_calls.proofs.ListLemmas.{all_append}
 use Rattle.deeds.proofs.OneNameLemmas.{allowed_at, at_name, fed_at, may_at, notices_at, objects_at, sent_at}
 
 -- objects that are the same name by name are the same

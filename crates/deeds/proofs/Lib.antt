@@ -1,8 +1,8 @@
-pub mod ListLemmas
 pub mod NameLemmas
 pub mod DeedListLemmas
 pub mod FedLemmas
 pub mod IdLemmas
+pub mod UsedIdLemmas
 pub mod OneNameLemmas
 pub mod HandledLemmas
 pub mod MethodLemmas

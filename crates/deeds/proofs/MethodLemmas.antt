@@ -17,7 +17,7 @@ use Rattle.deeds.specs.Ids.{IsLater, IsNextId, begun_id}
 use Rattle.deeds.specs.May.{IsEventAllowed, IsEventFed}
 use Rattle.deeds.proofs.HandledLemmas.{done_handled, handled_as}
 use Rattle.deeds.proofs.IdLemmas.{no_ids, one_id}
-use Rattle.deeds.proofs.ListLemmas.{all_weaker}
+use Rattle.open_calls.proofs.ListLemmas.{all_weaker}
 
 -- a fact of one event, where there may be one
 pub if_all : (P : LocalEvent → Type 0) (event : LocalEvent) (b : Bool) → P event → AllByRecursion P (cond b (event ∷ []) [])

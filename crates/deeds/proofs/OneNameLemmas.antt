@@ -6,7 +6,7 @@ use Rattle.record.specs.Fragments.{Code}
 use Rattle.local_object.specs.Local.{LocalObject}
 use Rattle.local_object.specs.Events.{LocalEvent, all_done, done_here}
 use Rattle.local_object.specs.May.{MayAllHappen}
-use Rattle.deeds.proofs.ListLemmas.{all_weaker}
+use Rattle.open_calls.proofs.ListLemmas.{all_weaker}
 use Rattle.deeds.specs.Named.{NamedLetter, with_names, with_named}
 use Rattle.deeds.specs.Deeds.{Deed, after_deed, after_deeds, all_noticed, noticed}
 use Rattle.deeds.specs.May.{AreFed, IsAllowed, IsEventAllowed, IsEventFed, MayAllBeDone}

@@ -6,3 +6,4 @@ pub mod Kept
 pub mod Laws
 pub mod May
 pub mod Named
+pub mod Restarts

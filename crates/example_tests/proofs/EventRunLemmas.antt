@@ -8,8 +8,9 @@ use Rattle.mail.specs.declared.phase.Taken.{Taken}
 use Rattle.mail.specs.Phase.{lacks_pieces}
 use Rattle.record.specs.Fragments.{IsFetch, IsValue}
 use Rattle.record.specs.Wants.{is_fetch}
-use Rattle.network.specs.Worlds.{NodeCall, World, known_layout}
-use Rattle.network.specs.Events.{Event, IsFetched, IsReady, happens, world_after}
+use Rattle.open_calls.specs.OpenCalls.{NodeCall, IsReady}
+use Rattle.network.specs.Worlds.{World, known_layout}
+use Rattle.network.specs.Events.{Event, IsFetched, happens, world_after}
 use Rattle.network.specs.Premises.{MayHappenInTurn}
 use Rattle.example_tests.specs.RecordExamples.{whole}
 use Rattle.example_tests.specs.Scripts.{letter}

@@ -6,8 +6,9 @@ use Rattle.bank.specs.declared.request.Request.TheVariants as request
 use Rattle.bank.specs.Serve.{answer_to, kind_of}
 use Rattle.mail.specs.declared.message.Body.TheVariants as body
 use Rattle.mail.specs.declared.message.Message.{Message}
-use Rattle.network.specs.Worlds.{NodeCall, World, member_bank, open_call, with_open}
-use Rattle.network.specs.Events.{Event, MayHappen, happens, on_open, world_after, taking_open}
+use Rattle.open_calls.specs.OpenCalls.{NodeCall, open_call, with_open, taking_open}
+use Rattle.network.specs.Worlds.{World, member_bank}
+use Rattle.network.specs.Events.{Event, MayHappen, happens, on_open, world_after}
 use Rattle.network.specs.Premises.{IsPremised, MayHappenInTurn, WasSent}
 use Rattle.example_tests.specs.RecordExamples.{whole}
 use Rattle.example_tests.specs.Scripts.{served, taken, write_tag}

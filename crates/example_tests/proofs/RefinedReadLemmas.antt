@@ -1,13 +1,21 @@
 -- The read, part by part.
-use Rattle.std.proofs.Common.{[], ◌∷◌, ◌≤◌, inl, refl, sym, subst, ap, le_refl, arith}
+use Rattle.std.proofs.Common.{◌≡◌, [], ◌∷◌, ◌≤◌, inl, refl, sym, subst, ap, le_refl, arith}
+use Rattle.std.proofs.Common.{Bool, true, false, cond, Some, None}
 use Rattle.tag.specs.Tag.{opening_tag}
 use Rattle.layout.specs.Layout.{Layout}
+use Rattle.bank.specs.Bank.{opened_bank}
+use Rattle.bank.specs.Pointer.{status_of}
+use Rattle.bank.specs.Serve.{served_bank}
+use Rattle.bank.specs.declared.request.Request.TheVariants as request
+use Rattle.bank.specs.declared.status.Status.TheVariants.{Unset}
+use Rattle.local_object.specs.ChangedBanks.{changes_bank}
+use Rattle.local_object.specs.Local.{bank_or_opened}
 use Rattle.refinement.specs.Systems.{MayRunIn, System, system_run}
 use Rattle.example_tests.specs.RecordExamples.{whole}
 use Rattle.example_tests.proofs.EventRunLemmas.{one_distinct, ready, ready_settled}
 use Rattle.example_tests.proofs.KeptRowLemmas.{opened_greatest, opened_piece}
 use Rattle.example_tests.specs.RefinedExamples.{read_asked, read_begun, read_ended, read_settled, start}
-use Rattle.example_tests.proofs.RunLemmas.{knows, piece_told, tag_told}
+use Rattle.example_tests.proofs.RunLemmas.{knows, piece_told, pointer_told, tag_told}
 
 abbrev pub after_query : System
 after_query = system_run whole read_asked start
@@ -80,11 +88,21 @@ settles = (
   ),
 )
 
+-- whether or not node 0 keeps a bank after the fetch, the bank's pointer is unset
+still_unset : (keeps : Bool) →
+    status_of (bank_or_opened (cond keeps (Some (served_bank (opened_bank 0 None 0) (request.Fetch opening_tag) 0)) None) 0 None).pointer
+    ≡ Unset
+still_unset true = refl
+still_unset false = refl
+
 pub ends : MayRunIn whole read_ended after_fetch
 ends = (
   ((_, refl, inl (ready_settled _ refl refl, refl), knows (after_fetch.objects 1) _ _ refl refl), tt),
   (
     (((_, refl), (_, refl, refl)), (6, refl)),
-    (((_, _, refl), (7, refl)), (((_, refl, ready _ refl refl, refl), tt), tt)),
+    (
+      ((_, _, refl), (7, ap (pointer_told 3 4) (still_unset (changes_bank (opened_bank 0 None 0) (request.Fetch opening_tag))))),
+      (((_, refl, ready _ refl refl, refl), tt), tt),
+    ),
   ),
 )

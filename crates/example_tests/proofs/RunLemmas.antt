@@ -1,13 +1,15 @@
 -- Events of all nodes, a part at a time, and what each part needs.
-use Rattle.std.proofs.Common.{◌≡◌, ℕ, List, [], ◌∷◌, ◌++◌, Option, Some, IsSome, refl, sym, subst, ap, ◌∙◌}
+use Rattle.std.proofs.Common.{◌≡◌, ℕ, List, [], ◌∷◌, ◌++◌, Option, None, Some, IsSome, refl, sym, subst, ap, ◌∙◌}
 use Rattle.std.proofs.lemmas.Option.{same_Some}
 use Rattle.tag.specs.declared.tag.Tag.{Tag}
 use Rattle.piece.specs.declared.piece.Piece.{Piece}
 use Rattle.bank.specs.declared.kind.Kind.{Kind}
-use Rattle.bank.specs.declared.kind.Kind.TheVariants.{Fetch, Query}
+use Rattle.bank.specs.declared.kind.Kind.TheVariants.{Fetch, Next, Query}
 use Rattle.bank.specs.declared.reply.Answer.TheVariants as answer
+use Rattle.bank.specs.declared.status.Status.{Status}
 use Rattle.mail.specs.declared.message.Body.TheVariants as body
 use Rattle.local_object.specs.declared.letter.Letter.{Letter}
+use Rattle.local_object.specs.Events.{if_pointed}
 use Rattle.local_object.specs.Local.{LocalObject, layout_here}
 use Rattle.refinement.specs.Systems.{MayRunIn, System, SystemEvent, system_after, system_run}
 use Rattle.example_tests.specs.RecordExamples.{whole}
@@ -30,7 +32,13 @@ pub knows : (local : LocalObject) (o : Option (Kind × ℕ)) (next : Kind × ℕ
 knows local o next e known kind position is =
     subst (λ n. IsSome (layout_here local n)) (ap (λ (pair : Kind × ℕ). pair.1) (same_Some next (kind, position) (sym e ∙ is))) known
 
--- a letter with an answer to a query, and one with an answer to a fetch
+-- a letter with the answer to a question for the pointer, one with an answer to a query, and one with an answer to a fetch
+abbrev pub pointer_told : (call phase : ℕ) → Status → Option Letter
+pointer_told call phase found =
+    Some (record (about call phase (body.Reply Next (record { step = 0; answer = answer.Pointer found }))) {
+      next = if_pointed found None;
+    })
+
 abbrev pub tag_told : (call phase : ℕ) → Tag → Option Letter
 tag_told call phase tag =
     Some (about call phase (body.Reply Query (record { step = 0; answer = answer.Greatest tag })))

@@ -14,13 +14,14 @@ use Rattle.record.specs.Records.{Call, Object}
 use Rattle.record.specs.Steps.{Step, on_call, answered_object}
 use Rattle.record.specs.Wants.{want_after, want_for}
 use Rattle.soundness.proofs.ListLemmas.{get_set, set_here}
-use Rattle.network.specs.Worlds.{World, NodeCall, without_call}
+use Rattle.network.specs.Worlds.{World}
+use Rattle.open_calls.specs.OpenCalls.{NodeCall, without_call}
 use Rattle.network.specs.Events.{Event, on_open, answered_entry, answered_world}
 use Rattle.network.specs.Following.{Follows, LeadsOn, IsOpenIn, IsOpenMove, entry_in_steps, last_step_after}
 use Rattle.network.specs.Followed.{IsFollowed}
 use Rattle.network.proofs.ChangedCallLemmas.{other_open, own_entry, with_new}
 use Rattle.network.proofs.CurrentPhaseLemmas.{ended_is, kind_is, next_is, want_is}
-use Rattle.network.proofs.OpenCallLemmas.{found, found_filter}
+use Rattle.open_calls.proofs.OpenCallLemmas.{found, found_filter}
 use Rattle.network.proofs.StepLemmas.{one_step}
 
 -- Entries

@@ -23,7 +23,8 @@ use Rattle.record.specs.Steps.{Step, stepped, called_object, new_call, new_phase
 use Rattle.soundness.proofs.ListLemmas.{all_push, all_weaker, get_push}
 use Rattle.soundness.specs.Sound.{IsSound}
 use Rattle.network.specs.Unstamped.{unstamped_message}
-use Rattle.network.specs.Worlds.{World, NodeCall, known_layout, open_call}
+use Rattle.network.specs.Worlds.{World, known_layout}
+use Rattle.open_calls.specs.OpenCalls.{NodeCall, open_call}
 use Rattle.network.specs.Events.{Event, begun_world, called_world}
 use Rattle.network.specs.Following.{Follows, LeadsOn, IsOpenIn, IsOpenMove, entry_in_steps, last_step_after}
 use Rattle.network.specs.Followed.{IsFollowed}
@@ -34,7 +35,7 @@ use Rattle.network.proofs.ChangedCallLemmas.{own_entry}
 use Rattle.network.proofs.CurrentPhaseLemmas.{base_zero}
 use Rattle.network.proofs.EntryOfCallLemmas.{new_id}
 use Rattle.network.proofs.OneFileLemmas.{layouts_known}
-use Rattle.network.proofs.OpenCallLemmas.{found_last, found_push}
+use Rattle.open_calls.proofs.OpenCallLemmas.{found_last, found_push}
 use Rattle.network.proofs.StepLemmas.{get_end, one_step}
 
 -- One more call

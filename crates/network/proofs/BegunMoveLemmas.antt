@@ -23,7 +23,7 @@ use Rattle.network.proofs.BegunCallLemmas.{added_follow, with_begun}
 use Rattle.network.proofs.ChangedCallLemmas.{still_open}
 use Rattle.network.proofs.EntryOfCallLemmas.{new_id}
 use Rattle.network.proofs.OneFileLemmas.{banks_opened}
-use Rattle.network.proofs.OpenCallLemmas.{found}
+use Rattle.open_calls.proofs.OpenCallLemmas.{found}
 use Rattle.network.proofs.StepLemmas.{one_step}
 use Rattle.network.proofs.WorldRunLemmas.{opened_banks-bare}
 

@@ -22,15 +22,16 @@ use Rattle.record.specs.Wants.{current_phase, is_fetch, want_after, want_for, wa
 use Rattle.soundness.proofs.ListLemmas.{set_here}
 use Rattle.soundness.proofs.Sound.ChangedCallLemmas.{moves_set}
 use Rattle.network.specs.Unstamped.{unstamped_message}
-use Rattle.network.specs.Worlds.{World, NodeCall, known_layout, due_phase, open_call, stage_reached}
-use Rattle.network.specs.Events.{Event, IsLacking, IsReady, advanced_world, call_pieces, on_open, phase_requests}
+use Rattle.network.specs.Worlds.{World, known_layout}
+use Rattle.open_calls.specs.OpenCalls.{NodeCall, due_phase, open_call, stage_reached, IsLacking, IsReady}
+use Rattle.network.specs.Events.{Event, advanced_world, call_pieces, on_open, phase_requests}
 use Rattle.network.specs.Following.{Follows, LeadsOn, IsOpenIn, last_step_after}
 use Rattle.network.specs.Followed.{IsFollowed}
 use Rattle.network.proofs.AnsweredCallLemmas.{want_ready}
 use Rattle.network.proofs.ChangedCallLemmas.{changed_follow, with_new, with_one}
 use Rattle.network.proofs.CurrentPhaseLemmas.{current_is, ended_is, fetch_is, kind_is, lacks_is, next_is, reached_is, want_is}
 use Rattle.network.proofs.OneFileLemmas.{layouts_known}
-use Rattle.network.proofs.OpenCallLemmas.{found}
+use Rattle.open_calls.proofs.OpenCallLemmas.{found}
 use Rattle.network.proofs.StepLemmas.{no_step, one_step, ticked_follow}
 
 -- the call with one more phase, of this kind, at a position with this layout

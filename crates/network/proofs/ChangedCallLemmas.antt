@@ -12,9 +12,10 @@ use Rattle.record.specs.Records.{Call, Object}
 use Rattle.soundness.proofs.ListLemmas.{get_set, set_there}
 use Rattle.soundness.proofs.Sound.ChangedCallLemmas.{Others, moves_set}
 use Rattle.network.specs.Unstamped.{unstamped_message}
-use Rattle.network.specs.Worlds.{World, NodeCall, open_call, with_open}
+use Rattle.network.specs.Worlds.{World}
+use Rattle.open_calls.specs.OpenCalls.{NodeCall, open_call, with_open}
 use Rattle.network.specs.Following.{Follows, IsOpenIn, IsOpenMove}
-use Rattle.network.proofs.OpenCallLemmas.{all_with, found_with}
+use Rattle.open_calls.proofs.OpenCallLemmas.{all_with, found_with}
 
 -- the record with a call changed, and other mail
 abbrev pub with_new : Object → List Message → (index : ℕ) → Call → Object

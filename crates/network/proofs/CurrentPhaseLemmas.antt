@@ -16,7 +16,7 @@ use Rattle.record.specs.PhaseOrder.{greatest_tag, later_status, passed, shown_st
 use Rattle.record.specs.Records.{Object, base_of, no_bank, retired_first, retired_at}
 use Rattle.record.specs.Wants.{current_phase, is_fetch, want_after, want_of}
 use Rattle.network.specs.Unstamped.{unstamped, unstamped_phase, unstamped_taken}
-use Rattle.network.specs.Worlds.{NodeCall, due_phase, stage_reached}
+use Rattle.open_calls.specs.OpenCalls.{NodeCall, due_phase, stage_reached}
 use Rattle.network.specs.Following.{IsOpenIn}
 
 -- Without stamps

@@ -6,7 +6,6 @@ pub mod ChangedCallLemmas
 pub mod CurrentPhaseLemmas
 pub mod EntryOfCallLemmas
 pub mod OneFileLemmas
-pub mod OpenCallLemmas
 pub mod RestartedNodeLemmas
 pub mod ServedRequestLemmas
 pub mod SettledValueLemmas

@@ -4,11 +4,12 @@ use Rattle.std.specs.List.{filter}
 use Rattle.bank.specs.Bank.{Bank}
 use Rattle.record.specs.Records.{Object}
 use Rattle.record.specs.declared.call.CallKind.TheVariants.{Move}
-use Rattle.network.specs.Worlds.{World, NodeCall, open_call}
+use Rattle.network.specs.Worlds.{World}
+use Rattle.open_calls.specs.OpenCalls.{NodeCall, open_call}
 use Rattle.network.specs.Events.{Event}
 use Rattle.network.specs.Following.{Follows, IsOpenIn}
 use Rattle.network.specs.Followed.{IsFollowed}
-use Rattle.network.proofs.OpenCallLemmas.{all_filter, found, found_filter}
+use Rattle.open_calls.proofs.OpenCallLemmas.{all_filter, found, found_filter}
 use Rattle.network.proofs.StepLemmas.{no_step}
 
 -- the world with other calls, one event later

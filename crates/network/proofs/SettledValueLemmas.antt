@@ -15,14 +15,15 @@ use Rattle.record.specs.Wants.{is_fetch, value_len, want_after}
 use Rattle.soundness.proofs.ListLemmas.{all_weaker, set_here}
 use Rattle.soundness.proofs.Sound.ChangedCallLemmas.{moves_set}
 use Rattle.network.specs.Unstamped.{unstamped_phase, unstamped_taken}
-use Rattle.network.specs.Worlds.{World, NodeCall, known_layouts, open_call, parts_of}
+use Rattle.network.specs.Worlds.{World, known_layouts, parts_of}
+use Rattle.open_calls.specs.OpenCalls.{NodeCall, open_call}
 use Rattle.network.specs.Events.{Event, on_open}
 use Rattle.network.specs.Following.{LeadsOn, IsOpenIn, last_step_after}
 use Rattle.network.specs.Followed.{IsFollowed}
 use Rattle.network.proofs.ChangedCallLemmas.{changed_follow, own_entry, with_new, with_one}
 use Rattle.network.proofs.CurrentPhaseLemmas.{current_is, ended_is, fetch_is, kind_is, lacks_is, want_is}
 use Rattle.network.proofs.OneFileLemmas.{layouts_known}
-use Rattle.network.proofs.OpenCallLemmas.{found}
+use Rattle.open_calls.proofs.OpenCallLemmas.{found}
 use Rattle.network.proofs.StepLemmas.{one_step}
 
 taken_there : (xs : List Taken) (place : ℕ) (taken : Taken) → slice_get (map unstamped_taken xs) place ≡ Some taken →

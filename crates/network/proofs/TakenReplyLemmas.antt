@@ -16,12 +16,12 @@ use Rattle.soundness.proofs.ListLemmas.{set_here}
 use Rattle.soundness.proofs.Sound.CallIdLemmas.{found_by_id}
 use Rattle.soundness.proofs.Sound.ChangedCallLemmas.{moves_set}
 use Rattle.network.specs.Unstamped.{unstamped_body, unstamped_message}
-use Rattle.network.specs.Worlds.{NodeCall, open_call}
-use Rattle.network.specs.Events.{Event, on_open, taking_open}
+use Rattle.open_calls.specs.OpenCalls.{NodeCall, open_call, taking_open}
+use Rattle.network.specs.Events.{Event, on_open}
 use Rattle.network.specs.Following.{LeadsOn, IsOpenIn, last_step_after}
 use Rattle.network.specs.Followed.{IsFollowed}
 use Rattle.network.proofs.ChangedCallLemmas.{changed_follow, with_new, with_one}
-use Rattle.network.proofs.OpenCallLemmas.{found}
+use Rattle.open_calls.proofs.OpenCallLemmas.{found}
 use Rattle.network.proofs.StepLemmas.{copy_and_step, get_end, message_there, no_step, ticked_follow}
 use Rattle.network.proofs.UnstampedPhaseLemmas.{position_kept, take-bare, taking_last}
 

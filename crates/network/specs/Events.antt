@@ -1,6 +1,6 @@
 -- The contracts that docs/trusted.md lists do not depend on this file; other contracts and proofs do.
 -- What may happen in a world, and the world after each event.
-use Rattle.std.specs.Prelude.{◌≡◌, ◌≢◌, ◌⊎◌, ℕ, suc, ◌==◌, true, false, if◌then◌else◌, IsSome}
+use Rattle.std.specs.Prelude.{◌≡◌, ◌≢◌, ◌⊎◌, ℕ, suc, ◌==◌, false, if◌then◌else◌, IsSome}
 use Rattle.std.specs.Prelude.{List, [], ◌∷◌, ◌++◌, length, map, Option, None, Some, get_or, slice_set}
 use Rattle.std.specs.List.{AllByRecursion}
 use Rattle.layout.specs.Layout.{Layout, IsLawful}
@@ -16,7 +16,7 @@ use Rattle.mail.specs.Message.{answered}
 use Rattle.mail.specs.declared.message.Body.{Body}
 use Rattle.mail.specs.declared.message.Body.TheVariants as body
 use Rattle.mail.specs.declared.message.Message.{Message}
-use Rattle.mail.specs.Phase.{after_take, lacks_pieces}
+use Rattle.mail.specs.Phase.{lacks_pieces}
 use Rattle.record.specs.declared.call.CallKind.{CallKind}
 use Rattle.record.specs.declared.call.CallKind.TheVariants.{Read, Write, Move}
 use Rattle.record.specs.declared.call.Entry.{Entry}
@@ -27,8 +27,9 @@ use Rattle.record.specs.Legal.{first_stage}
 use Rattle.record.specs.PhaseOrder.{begun_at}
 use Rattle.record.specs.Sending.{fragment_piece, requests, sent_value, value_or_empty}
 use Rattle.record.specs.Steps.{new_phase}
-use Rattle.network.specs.Worlds.{World, NodeCall, new_banks, known_layout, member_bank, parts_of, open_call, with_open}
-use Rattle.network.specs.Worlds.{without_call, stage_reached, due_phase}
+use Rattle.open_calls.specs.OpenCalls.{NodeCall, IsLacking, IsReady, due_phase, open_call, stage_reached, taking_open}
+use Rattle.open_calls.specs.OpenCalls.{with_open, without_call}
+use Rattle.network.specs.Worlds.{World, new_banks, known_layout, member_bank, parts_of}
 
 -- the events of a world; a call is named by its id, and a request or a reply is the message itself
 pub data Event : Type 0 where
@@ -133,10 +134,6 @@ abbrev pub served_world : World → Message → Body → World
 served_world world message (body.Request asked) = handled_world world message asked
 served_world world message (body.Reply kind made) = world
 
--- the call after its current phase takes the message
-abbrev pub taking_open : Message → NodeCall → NodeCall
-taking_open message call = record call { phase = after_take call.phase message 0 }
-
 -- the world after a change that needs the call, if a node carries it out
 abbrev pub on_open : World → Option NodeCall → (NodeCall → World) → World
 on_open world None change = world
@@ -171,18 +168,6 @@ world_after fragment [] world = world
 world_after fragment (event ∷ events) world = world_after fragment events (happens fragment world event)
 
 -- When a node may act
-
--- the current phase of the call has a quorum, and if it is a fetch, its value is settled
-pub record IsReady (call : NodeCall) : Type 0 where
-  pub complete : IsSome call.phase.end
-  pub fetched : IsFetch call.phase.kind → IsSome call.settled
-
--- the current phase of the call is a complete fetch that lacks pieces, so the call begins anew
-pub record IsLacking (call : NodeCall) : Type 0 where
-  pub complete : IsSome call.phase.end
-  pub fetch : IsFetch call.phase.kind
-  pub unsettled : call.settled ≡ None
-  pub lacks : lacks_pieces call.phase ≡ true
 
 -- the value may be settled: the current phase is a complete fetch, which took k pieces of it
 pub record IsFetched (fragment : Code) (world : World) (call : NodeCall) (value : List ℕ) : Type 0 where

@@ -8,7 +8,8 @@ use Rattle.record.specs.Fragments.{Code, IsCode}
 use Rattle.record.specs.Records.{Object}
 use Rattle.record.specs.Steps.{opened_object}
 use Rattle.soundness.specs.Sound.{IsSound}
-use Rattle.network.specs.Worlds.{ClusterFile, World, NodeCall, opened_world}
+use Rattle.network.specs.Worlds.{ClusterFile, World, opened_world}
+use Rattle.open_calls.specs.OpenCalls.{NodeCall}
 use Rattle.network.specs.Events.{Event, MayHappen, happens, world_after}
 use Rattle.network.specs.Premises.{IsOneFile, IsPremised, MayHappenInTurn}
 use Rattle.network.specs.Following.{Follows, LeadsOn, last_step_after}

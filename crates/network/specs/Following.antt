@@ -14,7 +14,8 @@ use Rattle.record.specs.Records.{Call, Object, retired_at}
 use Rattle.record.specs.Steps.{Step, stepped}
 use Rattle.soundness.specs.Sound.{IsSound}
 use Rattle.network.specs.Unstamped.{unstamped_bank, unstamped_message, unstamped_phase}
-use Rattle.network.specs.Worlds.{World, NodeCall, known_layouts, open_call}
+use Rattle.network.specs.Worlds.{World, known_layouts}
+use Rattle.open_calls.specs.OpenCalls.{NodeCall, open_call}
 use Rattle.network.specs.Premises.{IsOneFile}
 
 -- the number of the record's last step after this many events: there is room for two steps in each event

@@ -1,27 +1,14 @@
 -- The contracts that docs/trusted.md lists do not depend on this file; other contracts and proofs do.
 -- The world of one object: what its nodes keep of it, and all messages that they ever sent.
-use Rattle.std.specs.Prelude.{ℕ, suc, ◌==◌, ◌&&◌, not, if◌then◌else◌, List, [], ◌∷◌, map, Option, None, Some, get_or}
+use Rattle.std.specs.Prelude.{ℕ, suc, ◌==◌, ◌&&◌, not, List, [], ◌∷◌, Option, get_or}
 use Rattle.std.specs.List.{filter}
 use Rattle.layout.specs.Layout.{Layout}
 use Rattle.bank.specs.Bank.{Bank, opened_bank}
 use Rattle.mail.specs.declared.message.Message.{Message}
-use Rattle.mail.specs.Phase.{Phase, lacks_pieces}
-use Rattle.bank.specs.declared.kind.Kind.{Kind}
-use Rattle.record.specs.declared.call.CallKind.{CallKind}
 use Rattle.record.specs.declared.call.Entry.{Entry}
-use Rattle.record.specs.declared.stage.Stage.{Stage}
 use Rattle.record.specs.Legal.{is_move}
-use Rattle.record.specs.PhaseOrder.{begun_at, due, passed}
 use Rattle.record.specs.Records.{Object, no_bank, no_layout}
-
--- a call that a node carries out: its id, kind, settled value, current phase, and the stage at which that began
-pub record NodeCall : Type 0 where
-  pub node : ℕ
-  pub id : ℕ
-  pub kind : CallKind
-  pub settled : Option (List ℕ)
-  pub stage : Stage
-  pub phase : Phase
+use Rattle.open_calls.specs.OpenCalls.{NodeCall}
 
 -- a cluster file: how many finalized versions banks keep besides the newest (None: all), which node moves objects, and
 -- the layout of the object's position 0
@@ -82,28 +69,6 @@ parts_of world node = record {
   calls = [];
 }
 
--- the open call with this id, if a node carries it out
-abbrev pub open_call : List NodeCall → (id : ℕ) → Option NodeCall
-open_call [] id = None
-open_call (call ∷ calls) id = if call.id == id then Some call else open_call calls id
-
--- the calls with this one in the place of the one with its id
-abbrev pub with_open : NodeCall → List NodeCall → List NodeCall
-with_open call calls = map (λ other. if other.id == call.id then call else other) calls
-
--- the calls without the one with this id
-abbrev pub without_call : (id : ℕ) → List NodeCall → List NodeCall
-without_call id calls = filter (λ call. not (call.id == id)) calls
-
 -- the calls that are there after a node stopped and started again: its reads and writes are gone
 abbrev pub after_restart : (node : ℕ) → List NodeCall → List NodeCall
 after_restart node calls = filter (λ call. not (call.node == node && not (is_move call.kind))) calls
-
--- the stage to which the current phase of a call leads
-abbrev pub stage_reached : NodeCall → Stage
-stage_reached call =
-    passed call.kind call.id call.stage call.phase.end call.phase.replies (lacks_pieces call.phase)
-
--- the phase that is due for a call, with its position; a first reading begins at position 0
-abbrev pub due_phase : NodeCall → Option (Kind × ℕ)
-due_phase call = due (begun_at (stage_reached call) 0)

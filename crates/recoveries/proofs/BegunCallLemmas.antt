@@ -14,12 +14,12 @@ use Rattle.record.specs.declared.stage.Stage.{Stage}
 use Rattle.record.specs.Legal.{first_stage, is_move}
 use Rattle.record.specs.PhaseOrder.{begun_at}
 use Rattle.record.specs.Steps.{new_phase}
-use Rattle.network.specs.Worlds.{NodeCall, open_call}
+use Rattle.open_calls.specs.OpenCalls.{NodeCall, open_call}
 use Rattle.local_object.specs.Doing.{give_up_events, gives_up, is_client_call, move_refusal, read_refusal, unless_open, write_refusal}
 use Rattle.local_object.specs.Events.{LocalEvent, all_done, begun_here}
 use Rattle.local_object.specs.Local.{LocalObject, last_position, layout_here, with_heard}
-use Rattle.refinement.specs.Refined.{IsKeptHere}
-use Rattle.refinement.proofs.LastPositionLemmas.{below_last, last_known}
+use Rattle.local_object.specs.Restarts.{IsKeptHere}
+use Rattle.local_object.proofs.LastPositionLemmas.{below_last, last_known}
 use Rattle.recoveries.proofs.KeptPlaceLemmas.{both_moving, layouts_kept}
 use Rattle.recoveries.proofs.KeptCallLemmas.{IsObjectCopy, moves_call, plus_client, plus_move, without_client}
 

@@ -7,8 +7,7 @@ use Rattle.layout.specs.Layout.{Layout}
 use Rattle.call.specs.declared.next.Next.{Next}
 use Rattle.call.specs.declared.next.Next.TheVariants as next
 use Rattle.std.specs.List.{list_any}
-use Rattle.network.specs.Worlds.{NodeCall, due_phase, open_call}
-use Rattle.network.specs.Events.{taking_open}
+use Rattle.open_calls.specs.OpenCalls.{NodeCall, due_phase, open_call, taking_open, NodeCallsDiffer}
 use Rattle.local_object.specs.declared.letter.Letter.{Letter}
 use Rattle.local_object.specs.declared.progress.Ended.{Ended}
 use Rattle.local_object.specs.Agreement.{knows_all_of}
@@ -19,8 +18,7 @@ use Rattle.local_object.specs.Going.{next_if}
 use Rattle.local_object.specs.Local.{LocalObject, layout_here}
 use Rattle.local_object.specs.Taking.{AreSettling, GoesOn, IsTaken, begin_events, call_events, can_begin, lead_events, machine_of}
 use Rattle.local_object.specs.Taking.{repeats, step_events}
-use Rattle.refinement.specs.WellFormed.{NodeCallsDiffer}
-use Rattle.refinement.proofs.LearntPartLemmas.{calls_learnt}
+use Rattle.local_object.proofs.HeardLayoutLemmas.{calls_heard}
 use Rattle.recoveries.proofs.KeptPlaceLemmas.{letter_alone}
 use Rattle.recoveries.proofs.KeptCallLemmas.{IsObjectCopy, found_id, moves_call, with_client, without_client}
 use Rattle.recoveries.proofs.TwinLemmas.{advanced_is, found_new, settled_is, taken_is}
@@ -94,14 +92,14 @@ module _ (moves : Type 0) (local copy : LocalObject) (is : IsObjectCopy moves lo
   pub learnt_alone : IsObjectCopy moves (learnt_from local letter) copy
   learnt_alone = record {
     kept = letter_alone moves local copy is.kept letter knows;
-    distinct = subst NodeCallsDiffer (sym (calls_learnt local letter)) is.distinct;
-    mover = λ moving. is.mover (ap (list_any moves_call) (sym (calls_learnt local letter)) ∙ moving);
+    distinct = subst NodeCallsDiffer (sym (calls_heard local letter)) is.distinct;
+    mover = λ moving. is.mover (ap (list_any moves_call) (sym (calls_heard local letter)) ∙ moving);
   }
 
   module _ (call : NodeCall) (found : open_call local.calls letter.message.call ≡ Some call)
       (client : moves_call call ≡ false) where
     learnt_found : open_call (learnt_from local letter).calls letter.message.call ≡ Some call
-    learnt_found = ap (λ calls. open_call calls letter.message.call) (calls_learnt local letter) ∙ found
+    learnt_found = ap (λ calls. open_call calls letter.message.call) (calls_heard local letter) ∙ found
 
     client_took : IsObjectCopy moves (done_here fragment local (LocalEvent.Take letter)).local copy
     client_took =

@@ -11,7 +11,7 @@ use Rattle.layout.specs.Layout.{Layout}
 use Rattle.local_object.specs.declared.letter.Letter.{Letter}
 use Rattle.local_object.specs.Local.{LocalObject, layout_here, with_heard}
 use Rattle.local_object.specs.Agreement.{agrees, if_there, is_heard, is_not_another, knows_all_of, same_layout}
-use Rattle.refinement.proofs.PlaceLemmas.{layout_learnt, layout_new, layout_stays}
+use Rattle.local_object.proofs.HeardPlaceLemmas.{layout_learnt, layout_new, layout_stays}
 
 -- the node has heard of no layout for the position, or of this one
 abbrev pub Fits : LocalObject → (position : ℕ) → Layout → Type 0

@@ -4,15 +4,14 @@ use Rattle.std.proofs.Common.{refl, sym, ap, ◌∙◌}
 use Rattle.std.proofs.lemmas.Option.{same_Some}
 use Rattle.std.specs.List.{AllByRecursion, filter, list_any}
 use Rattle.record.specs.Legal.{is_move}
-use Rattle.soundness.proofs.ListLemmas.{all_weaker}
-use Rattle.network.specs.Worlds.{NodeCall, open_call, with_open, without_call}
-use Rattle.network.proofs.OpenCallLemmas.{found_filter}
+use Rattle.open_calls.proofs.ListLemmas.{all_weaker}
+use Rattle.open_calls.specs.OpenCalls.{NodeCall, open_call, with_open, without_call, NodeCallsDiffer}
+use Rattle.open_calls.proofs.OpenCallLemmas.{found_filter}
 use Rattle.local_object.specs.Doing.{is_moving}
 use Rattle.local_object.specs.Local.{LocalObject}
-use Rattle.refinement.specs.Refined.{IsKeptHere}
-use Rattle.refinement.specs.WellFormed.{NodeCallsDiffer}
-use Rattle.refinement.proofs.CallsOfNodeLemmas.{append_nothing, filter_push, filter_swap, filter_within, only_one, with_here, with_there}
-use Rattle.refinement.proofs.OpenCallLemmas.{distinct_filter, distinct_push, distinct_with}
+use Rattle.local_object.specs.Restarts.{IsKeptHere}
+use Rattle.open_calls.proofs.CallsOfNodeLemmas.{append_nothing, filter_push, filter_swap, filter_within, only_one, with_here, with_there}
+use Rattle.open_calls.proofs.DistinctCallLemmas.{distinct_filter, distinct_push, distinct_with}
 
 -- the copy has what a restart keeps; no two calls have the same id; and where a move is open, the node moves objects
 pub record IsObjectCopy (moves : Type 0) (local copy : LocalObject) : Type 0 where

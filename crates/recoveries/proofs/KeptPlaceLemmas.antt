@@ -8,9 +8,9 @@ use Rattle.local_object.specs.declared.letter.Letter.{Letter}
 use Rattle.local_object.specs.Local.{LocalObject, bank_here, bank_or_opened, layout_here, with_heard, learnt_if, with_bank_here}
 use Rattle.local_object.specs.Events.{learnt_from}
 use Rattle.local_object.specs.Agreement.{agrees, knows_all_of}
-use Rattle.refinement.specs.Refined.{IsKeptHere}
-use Rattle.refinement.proofs.PlaceLemmas.{bank_learnt, bank_with_here, bank_with_there, layout_learnt, layout_stays, layout_with}
-use Rattle.refinement.proofs.PlaceLemmas.{no_bank_here}
+use Rattle.local_object.specs.Restarts.{IsKeptHere}
+use Rattle.local_object.proofs.HeardPlaceLemmas.{bank_learnt, bank_with_here, bank_with_there, layout_learnt, layout_stays, layout_with}
+use Rattle.local_object.proofs.HeardPlaceLemmas.{no_bank_here}
 use Rattle.recoveries.proofs.HeardLayoutLemmas.{Fits, fits_known, fits_later, layout_after, letter_fits, letter_heard, next_fits}
 use Rattle.recoveries.proofs.HeardLayoutLemmas.{next_heard, or_heard}
 
@@ -164,18 +164,24 @@ module _ (moves : Type 0) (local copy : LocalObject) (kept : IsKeptHere moves lo
 
 -- A bank changes
 
-module _ (moves : Type 0) (local copy : LocalObject) (kept : IsKeptHere moves local copy) (p : ℕ) (bank : Bank) where
-  -- both have this bank at a position of which the copy has heard
-  pub both_banks : IsSome (layout_here copy p) → IsKeptHere moves
-      (record local { places = with_bank_here local.places p bank }) (record copy { places = with_bank_here copy.places p bank })
-  both_banks known = record {
+module _ (moves : Type 0) (local copy : LocalObject) (kept : IsKeptHere moves local copy) (p : ℕ) (bank other : Option Bank) where
+  -- the copy has this bank as the member that the node is at the position
+  abbrev AreOneBank : Type 0
+  AreOneBank = (member : ℕ) (layout : Layout) → layout_here local p ≡ Some layout →
+      slice_get layout.members member ≡ Some local.node →
+      bank_or_opened other member copy.delta ≡ bank_or_opened bank member local.delta
+
+  -- both have a bank at a position of which the copy has heard, or have none there
+  pub both_banks : IsSome (layout_here copy p) → AreOneBank → IsKeptHere moves
+      (record local { places = with_bank_here local.places p bank }) (record copy { places = with_bank_here copy.places p other })
+  both_banks known one = record {
     node = kept.node;
     delta = kept.delta;
-    layouts = λ q layout e. layout_with local p bank q ∙ kept.layouts q layout (sym (layout_with copy p bank q) ∙ e);
-    first = subst IsSome (sym (layout_with copy p bank 0)) kept.first;
+    layouts = λ q layout e. layout_with local p bank q ∙ kept.layouts q layout (sym (layout_with copy p other q) ∙ e);
+    first = subst IsSome (sym (layout_with copy p other 0)) kept.first;
     banks = λ q member layout at holds. go q (eqb p q) refl member layout (sym (layout_with local p bank q) ∙ at) holds;
     calls = kept.calls;
-    mover = λ here q layout e. layout_with copy p bank q ∙ kept.mover here q layout (sym (layout_with local p bank q) ∙ e);
+    mover = λ here q layout e. layout_with copy p other q ∙ kept.mover here q layout (sym (layout_with local p bank q) ∙ e);
   }
     where
       known_both : (o : Option Layout) → layout_here copy p ≡ o → IsSome o → IsSome (layout_here local p)
@@ -184,15 +190,16 @@ module _ (moves : Type 0) (local copy : LocalObject) (kept : IsKeptHere moves lo
 
       go : (q : ℕ) (b : Bool) → eqb p q ≡ b → (member : ℕ) (layout : Layout) → layout_here local q ≡ Some layout →
           slice_get layout.members member ≡ Some local.node →
-          bank_here (record copy { places = with_bank_here copy.places p bank }) q member
+          bank_here (record copy { places = with_bank_here copy.places p other }) q member
           ≡ bank_here (record local { places = with_bank_here local.places p bank }) q member
       go q true t member layout at holds =
-          ap (λ n. bank_here (record copy { places = with_bank_here copy.places p bank }) n member) (sym (eqb-true p q t))
-          ∙ bank_with_here copy p bank member known
+          ap (λ n. bank_here (record copy { places = with_bank_here copy.places p other }) n member) (sym (eqb-true p q t))
+          ∙ bank_with_here copy p other member known
+          ∙ one member layout (ap (layout_here local) (eqb-true p q t) ∙ at) holds
           ∙ sym (bank_with_here local p bank member (known_both (layout_here copy p) refl known))
           ∙ ap (λ n. bank_here (record local { places = with_bank_here local.places p bank }) n member) (eqb-true p q t)
       go q false t member layout at holds =
-          bank_with_there copy p bank q member apart ∙ kept.banks q member layout at holds
+          bank_with_there copy p other q member apart ∙ kept.banks q member layout at holds
           ∙ sym (bank_with_there local p bank q member apart)
         where
           apart : p ≡ q → ⊥

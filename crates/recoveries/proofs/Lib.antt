@@ -11,3 +11,10 @@ pub mod LoggedLemmas
 pub mod RecoveredLemmas
 pub mod RunLemmas
 pub mod StopLemmas
+pub mod ServedNameLemmas
+pub mod RewrittenLogLemmas
+pub mod OwnObjectLemmas
+pub mod OwnRecoveredLemmas
+pub mod LawfulLetterLemmas
+pub mod OwnHandledLemmas
+pub mod OwnCallLemmas

@@ -7,7 +7,7 @@ use Rattle.encoder.specs.Fragment.{fragment}
 use Rattle.local_object.specs.Doing.{give_up_events, serve_events}
 use Rattle.local_object.specs.Events.{LocalEvent, all_done}
 use Rattle.local_object.specs.Local.{LocalObject}
-use Rattle.refinement.specs.Refined.{IsKeptHere}
+use Rattle.local_object.specs.Restarts.{IsKeptHere}
 use Rattle.deeds.specs.Kept.{KeptNode}
 use Rattle.recoveries.specs.Copies.{IsCopyOf, IsLogged}
 use Rattle.recoveries.specs.Laws.{GivenUpNeedsNoRecord, MovesAreLogged, ReadsNeedNoRecord, SameNeedsNoRecord, ServedIsLogged}
@@ -95,7 +95,8 @@ served_logged old new name letter heeded done =
     (all_done fragment (copy.objects name) (serve_events (copy.objects name) letter)).local is
     (done_put old name (serve_events (old.objects name) letter) new done)
     (done_put copy name (serve_events (copy.objects name) letter) copied again)
-    (both_serve (Moves old) (old.objects name) (copy.objects name) (object_copy old copy is name) letter heeded.agrees))
+    (both_serve (Moves old) (old.objects name) (copy.objects name) (object_copy old copy is name) letter heeded.agrees
+    heeded.lawful))
 
 pub taken_logged : TakenIsLogged
 taken_logged old new name letter move taken =

@@ -2,8 +2,8 @@
 use Rattle.std.proofs.Common.{◌≡◌, ℕ, Bool, true, false, cond, List, [], refl, sym, subst, ap, ◌∙◌}
 use Rattle.std.specs.List.{filter}
 use Rattle.local_object.specs.Local.{LocalObject}
-use Rattle.refinement.specs.WellFormed.{NodeCallsDiffer}
-use Rattle.refinement.proofs.OpenCallLemmas.{distinct_filter}
+use Rattle.open_calls.specs.OpenCalls.{NodeCallsDiffer}
+use Rattle.open_calls.proofs.DistinctCallLemmas.{distinct_filter}
 use Rattle.deeds.specs.Kept.{FileOfNames, KeptNode, new_node}
 use Rattle.deeds.specs.Named.{is_same_name, with_named}
 use Rattle.deeds.proofs.NameLemmas.{same_named}

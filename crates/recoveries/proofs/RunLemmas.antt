@@ -8,7 +8,7 @@ use Rattle.local_object.specs.Doing.{is_taken, serve_events}
 use Rattle.local_object.specs.Events.{LocalEvent, all_done, done_here}
 use Rattle.local_object.specs.Local.{LocalObject}
 use Rattle.local_object.specs.Taking.{IsTaken, repeats}
-use Rattle.refinement.specs.Refined.{IsKeptHere}
+use Rattle.local_object.specs.Restarts.{IsKeptHere}
 use Rattle.deeds.specs.Kept.{KeptNode, new_node}
 use Rattle.deeds.specs.Named.{is_same_name, with_named}
 use Rattle.recoveries.specs.Laws.{CopiesRestart, MoreIsRecorded, NewIsRecorded, RecoveredNodesRestart, TwoAreLogged}

@@ -3,23 +3,27 @@ use Rattle.std.proofs.Common.{◌≡◌, ℕ, suc, ◌+◌, ◌^◌, Bool, true,
 use Rattle.std.proofs.Common.{is_some, slice_get, refl, sym, subst, ap, ◌∙◌}
 use Rattle.std.proofs.lemmas.Option.{same_Some}
 use Rattle.std.specs.List.{filter, list_any}
+use Rattle.bank.specs.Bank.{Bank}
 use Rattle.bank.specs.Serve.{served_bank}
+use Rattle.bank.specs.declared.request.Request.{Request}
 use Rattle.mail.specs.declared.message.Body.{Body}
 use Rattle.mail.specs.declared.message.Body.TheVariants as body
 use Rattle.encoder.specs.Fragment.{fragment}
 use Rattle.layout.specs.Layout.{Layout, IsLawful}
 use Rattle.local_object.specs.declared.letter.Letter.{Letter}
 use Rattle.local_object.specs.Agreement.{agrees, knows_all_of}
+use Rattle.local_object.specs.ChangedBanks.{kept_bank}
 use Rattle.local_object.specs.Changing.{IsUnchangedBy, after_serving}
 use Rattle.local_object.specs.Doing.{is_member, is_served, names_node, serve_events}
 use Rattle.mail.specs.Message.{is_request}
 use Rattle.local_object.specs.Events.{LocalEvent, all_done, learnt_from, served_here}
-use Rattle.local_object.specs.Local.{LocalObject, bank_here, layout_here, with_heard, learnt_if, with_bank_here}
-use Rattle.refinement.specs.Refined.{IsKeptHere}
-use Rattle.refinement.specs.WellFormed.{NodeCallsDiffer}
-use Rattle.refinement.proofs.BankRowLemmas.{one_member}
-use Rattle.refinement.proofs.LearntPartLemmas.{calls_learnt, node_learnt}
-use Rattle.refinement.proofs.PlaceLemmas.{layout_stays}
+use Rattle.local_object.specs.Local.{LocalObject, bank_here, bank_in, bank_or_opened, heard_place, layout_here, with_heard, learnt_if}
+use Rattle.local_object.specs.Restarts.{IsKeptHere}
+use Rattle.open_calls.specs.OpenCalls.{NodeCallsDiffer}
+use Rattle.local_object.proofs.OneMemberLemmas.{one_member}
+use Rattle.local_object.proofs.UnchangedBankLemmas.{kept_served}
+use Rattle.local_object.proofs.HeardLayoutLemmas.{calls_heard, node_heard}
+use Rattle.local_object.proofs.HeardPlaceLemmas.{layout_stays}
 use Rattle.recoveries.proofs.HeardLayoutLemmas.{Fits, both, fits_known, letter_fits}
 use Rattle.recoveries.proofs.KeptPlaceLemmas.{bank_kept, both_banks, fits_copy, letter_alone, letter_fitting}
 use Rattle.recoveries.proofs.KeptCallLemmas.{IsObjectCopy, moves_call}
@@ -42,12 +46,16 @@ named_by None node e = absurd (cc)
 named_by (Some server) node e = ap Some (eqb-true server node e)
 
 module _ (moves : Type 0) (local copy : LocalObject) (is : IsObjectCopy moves local copy) (letter : Letter)
-    (agreed : agrees local letter ≡ true) where
+    (agreed : agrees local letter ≡ true) (lawful : IsLawful letter.layout) where
   abbrev first : LocalObject
   first = learnt_from local letter
 
   abbrev second : LocalObject
   second = learnt_from copy letter
+
+  -- the bank that one of them keeps at the letter's position after it served a request
+  abbrev kept_by : LocalObject → Request → Option Bank
+  kept_by it asked = kept_bank (bank_in (heard_place it.places letter.message.position)) letter.message.member it.delta asked
 
   known_first : layout_here first letter.message.position ≡ Some letter.layout
   known_first = from_letter local letter (letter_fits local letter agreed)
@@ -77,8 +85,8 @@ module _ (moves : Type 0) (local copy : LocalObject) (is : IsObjectCopy moves lo
   learnt_both : IsObjectCopy moves first second
   learnt_both = record {
     kept = letter_fitting moves local copy is.kept letter agreed;
-    distinct = subst NodeCallsDiffer (sym (calls_learnt local letter)) is.distinct;
-    mover = λ moving. is.mover (ap (list_any moves_call) (sym (calls_learnt local letter)) ∙ moving);
+    distinct = subst NodeCallsDiffer (sym (calls_heard local letter)) is.distinct;
+    mover = λ moving. is.mover (ap (list_any moves_call) (sym (calls_heard local letter)) ∙ moving);
   }
 
   -- the copy's bank is the node's
@@ -86,21 +94,32 @@ module _ (moves : Type 0) (local copy : LocalObject) (is : IsObjectCopy moves lo
       ≡ bank_here first letter.message.position letter.message.member
   one_bank e =
       learnt_both.kept.banks letter.message.position letter.message.member letter.layout known_first
-      (addressed e ∙ ap Some (sym (node_learnt local letter)))
+      (addressed e ∙ ap Some (sym (node_heard local letter)))
+
+  -- the bank that the copy keeps is the one that the node keeps
+  one_kept : is_served local letter ≡ true → (asked : Request) (member : ℕ) (layout : Layout) →
+      layout_here first letter.message.position ≡ Some layout → slice_get layout.members member ≡ Some first.node →
+      bank_or_opened (kept_by second asked) member second.delta ≡ bank_or_opened (kept_by first asked) member first.delta
+  one_kept e asked member layout at holds =
+      let position = letter.message.position in
+      let same : letter.message.member ≡ member =
+      one_member letter.layout letter.message.member member local.node lawful (addressed e)
+      (ap (λ (l : Layout). slice_get l.members member) (same_Some letter.layout layout (sym known_first ∙ at)) ∙ holds
+      ∙ ap Some (node_heard local letter)) in
+      subst (λ m. bank_or_opened (kept_by second asked) m second.delta ≡ bank_or_opened (kept_by first asked) m first.delta) same
+      (kept_served (bank_in (heard_place second.places position)) letter.message.member second.delta asked
+      ∙ ap (λ b. served_bank b asked 0) (one_bank e)
+      ∙ sym (kept_served (bank_in (heard_place first.places position)) letter.message.member first.delta asked))
 
   served_both : is_served local letter ≡ true → (b : Body) →
       IsObjectCopy moves (served_here first letter b).local (served_here second letter b).local
   served_both e (body.Reply kind made) = learnt_both
-  served_both e (body.Request asked) =
-      let position = letter.message.position in
-      let bank = bank_here first position letter.message.member in
-      subst (λ b. IsObjectCopy moves (record first { places = with_bank_here first.places position (served_bank bank asked 0) })
-      (record second { places = with_bank_here second.places position (served_bank b asked 0) })) (sym (one_bank e))
-      (record {
-        kept = both_banks moves first second learnt_both.kept position (served_bank bank asked 0) (ap is_some known_second);
-        distinct = learnt_both.distinct;
-        mover = learnt_both.mover;
-      })
+  served_both e (body.Request asked) = record {
+    kept = both_banks moves first second learnt_both.kept letter.message.position (kept_by first asked) (kept_by second asked)
+        (ap is_some known_second) (one_kept e asked);
+    distinct = learnt_both.distinct;
+    mover = learnt_both.mover;
+  }
 
   -- both serve the letter, or neither does
   pub both_serve : IsObjectCopy moves
@@ -117,20 +136,9 @@ module _ (moves : Type 0) (local copy : LocalObject) (is : IsObjectCopy moves lo
 
   -- Nothing but the layouts that were heard of
 
-  module _ (lawful : IsLawful letter.layout) (knows : moves → knows_all_of local letter ≡ true)
-      (only : IsUnchangedBy local letter) where
+  module _ (knows : moves → knows_all_of local letter ≡ true) (only : IsUnchangedBy local letter) where
     abbrev after : LocalObject
     after = after_serving local letter
-
-    -- the node is no other member of the letter's position
-    own_member : is_served local letter ≡ true → (q member : ℕ) (layout : Layout) → layout_here after q ≡ Some layout →
-        slice_get layout.members member ≡ Some local.node → q ≡ letter.message.position → member ≡ letter.message.member
-    own_member e q member layout at holds same =
-        one_member letter.layout member letter.message.member local.node lawful
-        (ap (λ (l : Layout). slice_get l.members member)
-        (same_Some letter.layout layout
-        (sym known_first ∙ ap (layout_here first) (sym same) ∙ only.heard q layout at)) ∙ holds)
-        (addressed e)
 
     still_kept : is_served local letter ≡ true → IsKeptHere moves after copy
     still_kept e = record {
@@ -142,7 +150,7 @@ module _ (moves : Type 0) (local copy : LocalObject) (is : IsObjectCopy moves lo
           bank_kept moves local copy is.kept q member
           (λ known there. ap (λ (l : Layout). slice_get l.members member)
           (same_Some known layout (sym (only.kept q known there) ∙ at)) ∙ holds ∙ ap Some only.node)
-          ∙ sym (only.banks q member (own_member e q member layout at (holds ∙ ap Some only.node)));
+          ∙ sym (only.banks q member);
       calls = is.kept.calls ∙ ap (filter moves_call) (sym only.calls);
       mover = λ here q layout at.
           (letter_alone moves local copy is.kept letter knows).mover here q layout (only.heard q layout at);

@@ -9,8 +9,7 @@ use Rattle.layout.specs.Layout.{Layout}
 use Rattle.call.specs.declared.next.Next.{Next}
 use Rattle.call.specs.declared.next.Next.TheVariants as next
 use Rattle.call.specs.Call.{OpenCall as Machine}
-use Rattle.network.specs.Worlds.{NodeCall, open_call}
-use Rattle.network.specs.Events.{taking_open}
+use Rattle.open_calls.specs.OpenCalls.{NodeCall, open_call, taking_open}
 use Rattle.local_object.specs.declared.letter.Letter.{Letter}
 use Rattle.local_object.specs.declared.progress.Ended.{Ended}
 use Rattle.local_object.specs.Coding.{is_sendable}
@@ -22,7 +21,7 @@ use Rattle.local_object.specs.Local.{LocalObject, Place, layout_here, layout_in,
 use Rattle.local_object.specs.Pieces.{first_pieces}
 use Rattle.local_object.specs.Taking.{AreSettling, CanSettle, GoesOn, IsTaken, begin_events, call_events, can_begin, is_repeated}
 use Rattle.local_object.specs.Taking.{lead_events, machine_of, repeats, step_events}
-use Rattle.refinement.proofs.LearntPartLemmas.{calls_learnt}
+use Rattle.local_object.proofs.HeardLayoutLemmas.{calls_heard}
 use Rattle.recoveries.proofs.KeptPlaceLemmas.{layouts_kept}
 use Rattle.recoveries.proofs.KeptCallLemmas.{IsObjectCopy, found_copy, found_id, found_moves, moves_call}
 use Rattle.recoveries.proofs.TwinLemmas.{both_advance, both_answer, both_settle, both_take, found_new, settled_is, taken_is}
@@ -195,7 +194,7 @@ module _ (moves : Type 0) (here : moves) (local copy : LocalObject) (is : IsObje
   found_first =
       ap (λ (l : LocalObject). open_call l.calls letter.message.call) (taken_is fragment local letter call found)
       ∙ found_new (learnt_from local letter).calls letter.message.call call (taking_open letter.message call)
-      (ap (λ calls. open_call calls letter.message.call) (calls_learnt local letter) ∙ found) refl
+      (ap (λ calls. open_call calls letter.message.call) (calls_heard local letter) ∙ found) refl
 
   found_second : open_call second.calls letter.message.call ≡ Some (taking_open letter.message call)
   found_second =

@@ -4,14 +4,12 @@ use Rattle.std.proofs.Common.{refl, sym, subst, ap, ◌∙◌}
 use Rattle.layout.specs.Layout.{Layout}
 use Rattle.bank.specs.declared.kind.Kind.{Kind}
 use Rattle.record.specs.Fragments.{Code}
-use Rattle.network.specs.Worlds.{NodeCall, due_phase, open_call, with_open}
-use Rattle.network.specs.Events.{taking_open}
-use Rattle.network.proofs.OpenCallLemmas.{found_with}
+use Rattle.open_calls.specs.OpenCalls.{NodeCall, due_phase, open_call, with_open, taking_open, NodeCallsDiffer}
+use Rattle.open_calls.proofs.OpenCallLemmas.{found_with}
 use Rattle.local_object.specs.declared.letter.Letter.{Letter}
 use Rattle.local_object.specs.Local.{LocalObject, layout_here}
 use Rattle.local_object.specs.Events.{LocalEvent, advanced_at, advanced_here, done_here, learnt_from, on_open_call, silent}
-use Rattle.refinement.specs.WellFormed.{NodeCallsDiffer}
-use Rattle.refinement.proofs.LearntPartLemmas.{calls_learnt}
+use Rattle.local_object.proofs.HeardLayoutLemmas.{calls_heard}
 use Rattle.recoveries.proofs.KeptPlaceLemmas.{layouts_kept, letter_moving}
 use Rattle.recoveries.proofs.KeptCallLemmas.{IsObjectCopy, found_id, moves_call, with_move, without_move}
 
@@ -32,7 +30,7 @@ taken_is fragment local letter call found =
     let next = learnt_from local letter in
     ap (λ o. (on_open_call next o
     (λ call. silent (record next { calls = with_open (taking_open letter.message call) next.calls }))).local)
-    (ap (λ calls. open_call calls letter.message.call) (calls_learnt local letter) ∙ found)
+    (ap (λ calls. open_call calls letter.message.call) (calls_heard local letter) ∙ found)
 
 pub settled_is : (fragment : Code) (local : LocalObject) (id : ℕ) (value : List ℕ) (call : NodeCall) →
     open_call local.calls id ≡ Some call → (done_here fragment local (LocalEvent.Settle id value)).local
@@ -93,7 +91,7 @@ module _ (fragment : Code) (moves : Type 0) (here : moves) (local copy : LocalOb
   learnt_copy : IsObjectCopy moves (learnt_from local letter) (learnt_from copy letter)
   learnt_copy = record {
     kept = letter_moving moves local copy is.kept letter here;
-    distinct = subst NodeCallsDiffer (sym (calls_learnt local letter)) is.distinct;
+    distinct = subst NodeCallsDiffer (sym (calls_heard local letter)) is.distinct;
     mover = λ moving. here;
   }
 
@@ -108,4 +106,4 @@ module _ (fragment : Code) (moves : Type 0) (here : moves) (local copy : LocalOb
       (subst (IsObjectCopy moves (record first { calls = with_open new first.calls }))
       (sym (taken_is fragment copy letter call again))
       (with_move moves first second learnt_copy here letter.message.call call new
-      (ap (λ calls. open_call calls letter.message.call) (calls_learnt local letter) ∙ found) move refl move))
+      (ap (λ calls. open_call calls letter.message.call) (calls_heard local letter) ∙ found) move refl move))

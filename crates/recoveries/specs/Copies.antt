@@ -5,8 +5,8 @@ use Rattle.layout.specs.Layout.{IsLawful}
 use Rattle.local_object.specs.declared.letter.Letter.{Letter}
 use Rattle.local_object.specs.Agreement.{agrees, knows_all_of}
 use Rattle.local_object.specs.Doing.{is_moving}
-use Rattle.refinement.specs.Refined.{IsKeptHere}
-use Rattle.refinement.specs.WellFormed.{NodeCallsDiffer}
+use Rattle.local_object.specs.Restarts.{IsKeptHere}
+use Rattle.open_calls.specs.OpenCalls.{NodeCallsDiffer}
 use Rattle.deeds.specs.Kept.{KeptNode}
 use Rattle.recoveries.specs.Records.{LogRecord, Recovers}
 

@@ -9,7 +9,7 @@ use Rattle.local_object.specs.Doing.{give_up_events, has_move_open, move_refusal
 use Rattle.local_object.specs.Doing.{write_refusal}
 use Rattle.local_object.specs.Events.{LocalEvent}
 use Rattle.deeds.specs.Kept.{FileOfNames, KeptNode, new_node}
-use Rattle.node_runs.specs.Premises.{IsRestarted}
+use Rattle.deeds.specs.Restarts.{IsRestarted}
 use Rattle.recoveries.specs.Copies.{IsCopyOf, IsHeeded, IsLogged, IsRecorded}
 use Rattle.recoveries.specs.Records.{IsDoneTo, IsSame, IsStarted, IsTakenBy, LogRecord, Recovers}
 

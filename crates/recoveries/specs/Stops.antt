@@ -8,7 +8,7 @@ use Rattle.deeds.specs.Handled.{IsHandled}
 use Rattle.deeds.specs.Ids.{IsLater}
 use Rattle.deeds.specs.Kept.{KeptNode}
 use Rattle.deeds.specs.Named.{NamedLetter, IsOneOf}
-use Rattle.node_runs.specs.Premises.{IsRestarted}
+use Rattle.deeds.specs.Restarts.{IsRestarted}
 use Rattle.recoveries.specs.Copies.{IsLogged, IsRecorded}
 use Rattle.recoveries.specs.Records.{IsStarted, LogRecord, Recovers}
 

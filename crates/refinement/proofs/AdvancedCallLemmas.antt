@@ -10,7 +10,8 @@ use Rattle.record.specs.PhaseOrder.{begun_at}
 use Rattle.record.specs.Records.{no_layout}
 use Rattle.record.specs.Sending.{requests}
 use Rattle.record.specs.Steps.{new_phase}
-use Rattle.network.specs.Worlds.{World, NodeCall, known_layout, known_layouts, due_phase, open_call, stage_reached}
+use Rattle.network.specs.Worlds.{World, known_layout, known_layouts}
+use Rattle.open_calls.specs.OpenCalls.{NodeCall, due_phase, open_call, stage_reached}
 use Rattle.network.specs.Events.{Event, advanced_world, on_open}
 use Rattle.local_object.specs.Local.{LocalObject, layout_here}
 use Rattle.local_object.specs.Events.{LocalEvent, advanced_at, advanced_here, on_open_call, pieces_here, silent}
@@ -22,7 +23,7 @@ use Rattle.refinement.proofs.ChangedCallLemmas.{IsCarried, carried, changed_kept
 use Rattle.refinement.proofs.PartLemmas.{IsKept, refined, unchanged}
 use Rattle.refinement.proofs.LetterLemmas.{behind, in_front, letters_were_sent, requests_speak}
 use Rattle.refinement.proofs.LearntPartLemmas.{known_by_all}
-use Rattle.refinement.proofs.LastPositionLemmas.{some_layout}
+use Rattle.local_object.proofs.LastPositionLemmas.{some_layout}
 
 module _ (fragment : Code) (world : World) (local : LocalObject) (id : ℕ) (call : NodeCall) (formed : IsWellFormed fragment world)
     (part : IsPartOf world local) (is : IsCarried world local id call) (next : Kind × ℕ) where

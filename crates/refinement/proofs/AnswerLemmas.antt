@@ -8,11 +8,12 @@ use Rattle.record.specs.declared.call.CallKind.TheVariants.{Read, Write, Move}
 use Rattle.record.specs.declared.call.Entry.{Entry}
 use Rattle.record.specs.Fragments.{Code}
 use Rattle.record.specs.Journals.{entry_value, operation_of}
-use Rattle.network.specs.Worlds.{World, NodeCall, opened_world}
+use Rattle.network.specs.Worlds.{World, opened_world}
+use Rattle.open_calls.specs.OpenCalls.{NodeCall}
 use Rattle.network.specs.Events.{Event, answered_entry, world_after}
 use Rattle.network.specs.Premises.{MayHappenInTurn}
 use Rattle.network.specs.Laws.{IsReached, KeepsValues}
-use Rattle.network.proofs.OpenCallLemmas.{found}
+use Rattle.open_calls.proofs.OpenCallLemmas.{found}
 use Rattle.network.proofs.WorldLawLemmas.{values_kept}
 use Rattle.local_object.specs.Events.{LocalEvent}
 use Rattle.refinement.specs.Laws.{AnsweredReadsHaveValues, AnswersAreInHistory}

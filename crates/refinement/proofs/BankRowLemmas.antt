@@ -1,15 +1,13 @@
 -- The banks of a world by position and member, after one of them changes.
-use Rattle.std.proofs.Common.{◌≡◌, ℕ, zero, suc, ◌<◌, Bool, true, false, eqb, nat_eq, length, List, [], ◌∷◌, map, set}
+use Rattle.std.proofs.Common.{◌≡◌, ℕ, zero, suc, ◌<◌, Bool, true, false, eqb, length, List, [], ◌∷◌, map, set}
 use Rattle.std.proofs.Common.{Some, get_or, slice_get, refl, sym, subst, ap, ◌∙◌, eqb-true, eq-eqb, arith}
 use Rattle.std.proofs.lemmas.List.{get_or-set_same, get_or-set_other}
-use Rattle.std.proofs.lemmas.Option.{get_or_from_slice_get, same_Some, slice_get_within}
+use Rattle.std.proofs.lemmas.Option.{get_or_from_slice_get, slice_get_within}
 use Rattle.std.proofs.Math.ListN.{get_or-map, length-set}
 use Rattle.std.proofs.Math.Seq.{map-set_same}
-use Rattle.std.specs.List.{IsDistinct}
-use Rattle.layout.specs.Layout.{Layout, IsLawful}
+use Rattle.layout.specs.Layout.{Layout}
 use Rattle.bank.specs.Bank.{Bank}
 use Rattle.record.specs.Records.{no_bank, no_layout}
-use Rattle.soundness.proofs.ListLemmas.{all_get}
 use Rattle.refinement.specs.WellFormed.{member_count}
 
 -- a member of a layout has a bank
@@ -58,22 +56,3 @@ module _ (banks : List (List Bank)) (p member : ℕ) (new : Bank) where
 
   pub counts_set : map length with_served ≡ map length banks
   counts_set = map-set_same length banks p (set (get_or banks p []) member new) [] (length-set (get_or banks p []) member new)
-
--- a server is one member of a lawful layout at most
-one_place : (servers : List ℕ) (i j server : ℕ) → IsDistinct nat_eq servers → slice_get servers i ≡ Some server →
-    slice_get servers j ≡ Some server → i ≡ j
-unfolding IsDistinct
-one_place [] i j server distinct at there = absurd (cc)
-one_place (first ∷ servers) zero zero server distinct at there = refl
-one_place (first ∷ servers) zero (suc j) server distinct at there =
-    absurd (let apart = all_get (λ y. eqb first y ≡ false) servers j server distinct.0 there in
-    let wrong : false ≡ true = sym apart ∙ eq-eqb first server (same_Some first server at) in cc)
-one_place (first ∷ servers) (suc i) zero server distinct at there =
-    absurd (let apart = all_get (λ y. eqb first y ≡ false) servers i server distinct.0 at in
-    let wrong : false ≡ true = sym apart ∙ eq-eqb first server (same_Some first server there) in cc)
-one_place (first ∷ servers) (suc i) (suc j) server distinct at there =
-    ap suc (one_place servers i j server distinct.1 at there)
-
-pub one_member : (layout : Layout) (i j server : ℕ) → IsLawful layout → slice_get layout.members i ≡ Some server →
-    slice_get layout.members j ≡ Some server → i ≡ j
-one_member layout i j server lawful at there = one_place layout.members i j server lawful.distinct at there

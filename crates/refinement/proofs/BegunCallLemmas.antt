@@ -21,7 +21,8 @@ use Rattle.record.specs.Sending.{request_to, requests}
 use Rattle.record.specs.Steps.{new_phase}
 use Rattle.soundness.proofs.ListLemmas.{all_push, all_weaker}
 use Rattle.record.specs.Fragments.{Code}
-use Rattle.network.specs.Worlds.{World, NodeCall, known_layout, known_layouts}
+use Rattle.network.specs.Worlds.{World, known_layout, known_layouts}
+use Rattle.open_calls.specs.OpenCalls.{NodeCall}
 use Rattle.network.specs.Events.{Event, begun_world, called_world}
 use Rattle.network.specs.Premises.{IsUnused}
 use Rattle.local_object.specs.Local.{LocalObject, layout_here}
@@ -30,8 +31,9 @@ use Rattle.refinement.specs.Laws.{IsEventOfWorld}
 use Rattle.refinement.specs.Parts.{IsPartOf}
 use Rattle.refinement.specs.Refined.{IsRefined, begun_entry}
 use Rattle.refinement.specs.WellFormed.{HasAsked, HasEntry, IsWellFormed}
-use Rattle.refinement.proofs.CallsOfNodeLemmas.{append_nothing, calls_of, differs, filter_push}
-use Rattle.refinement.proofs.OpenCallLemmas.{distinct_push, entry_new, entry_push, unused_apart}
+use Rattle.open_calls.proofs.CallsOfNodeLemmas.{append_nothing, calls_of, differs, filter_push}
+use Rattle.open_calls.proofs.DistinctCallLemmas.{distinct_push}
+use Rattle.refinement.proofs.CallEntryLemmas.{entry_new, entry_push, unused_apart}
 use Rattle.refinement.proofs.PartLemmas.{IsKept, asked_still, changed_world, formed_still}
 use Rattle.refinement.proofs.PartLemmas.{part_still, part_with, refined, sent_still}
 use Rattle.refinement.proofs.LetterLemmas.{behind, in_front, letters_were_sent, requests_speak}

@@ -10,7 +10,8 @@ use Rattle.record.specs.declared.call.CallKind.TheVariants.{Move}
 use Rattle.record.specs.Legal.{first_stage}
 use Rattle.record.specs.Records.{no_layout}
 use Rattle.record.specs.Fragments.{Code}
-use Rattle.network.specs.Worlds.{ClusterFile, World, NodeCall, known_layouts}
+use Rattle.network.specs.Worlds.{ClusterFile, World, known_layouts}
+use Rattle.open_calls.specs.OpenCalls.{NodeCall}
 use Rattle.network.specs.Events.{Event, moving_world}
 use Rattle.network.specs.Premises.{IsUnused}
 use Rattle.local_object.specs.Local.{LocalObject, layout_here, with_heard}
@@ -21,7 +22,7 @@ use Rattle.refinement.specs.Refined.{begun_entry}
 use Rattle.refinement.specs.WellFormed.{IsWellFormed}
 use Rattle.refinement.proofs.BegunCallLemmas.{begun_kept, ticked}
 use Rattle.refinement.proofs.PartLemmas.{IsKept, refined}
-use Rattle.refinement.proofs.PlaceLemmas.{layout_stays}
+use Rattle.local_object.proofs.HeardPlaceLemmas.{layout_stays}
 use Rattle.refinement.proofs.GrownWorldLemmas.{grown, grown_formed, known_still, last_is, other_grown, own_grown}
 
 -- what is so of each call of a node

@@ -4,15 +4,17 @@ use Rattle.std.specs.List.{AllByRecursion}
 use Rattle.mail.specs.declared.message.Message.{Message}
 use Rattle.soundness.proofs.ListLemmas.{all_weaker}
 use Rattle.record.specs.Fragments.{Code}
-use Rattle.network.specs.Worlds.{World, NodeCall, open_call, with_open}
+use Rattle.network.specs.Worlds.{World}
+use Rattle.open_calls.specs.OpenCalls.{NodeCall, open_call, with_open}
 use Rattle.network.specs.Premises.{WasSent}
-use Rattle.network.proofs.OpenCallLemmas.{all_with, found}
+use Rattle.open_calls.proofs.OpenCallLemmas.{all_with, found}
 use Rattle.local_object.specs.declared.letter.Letter.{Letter}
 use Rattle.local_object.specs.Local.{LocalObject}
 use Rattle.refinement.specs.Parts.{IsPartOf, WasSentAs}
 use Rattle.refinement.specs.WellFormed.{HasAsked, HasEntry, IsWellFormed}
-use Rattle.refinement.proofs.CallsOfNodeLemmas.{calls_of, differs, found_there, only_one, with_here, with_there}
-use Rattle.refinement.proofs.OpenCallLemmas.{distinct_with, entry_of}
+use Rattle.open_calls.proofs.CallsOfNodeLemmas.{calls_of, differs, found_there, only_one, with_here, with_there}
+use Rattle.open_calls.proofs.DistinctCallLemmas.{distinct_with}
+use Rattle.refinement.proofs.CallEntryLemmas.{entry_of}
 use Rattle.refinement.proofs.PartLemmas.{IsKept, asked_still, changed_world, formed_still, part_still, part_with, sent_still}
 
 -- the call is open in the world, and the node carries it out

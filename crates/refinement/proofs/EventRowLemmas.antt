@@ -6,7 +6,7 @@ use Rattle.local_object.specs.Events.{all_done, done_here}
 use Rattle.local_object.specs.May.{MayAllHappen}
 use Rattle.refinement.specs.Laws.{EventsInARowAreEvents}
 use Rattle.refinement.specs.Systems.{SystemEvent, system_after, with_object_at}
-use Rattle.refinement.proofs.CallsOfNodeLemmas.{differs}
+use Rattle.open_calls.proofs.CallsOfNodeLemmas.{differs}
 
 append_none : {A : Type 0} (xs : List A) → xs ≡ xs ++ []
 append_none [] = refl

@@ -1,17 +1,12 @@
 -- Events of the world, and then more events.
 use Rattle.std.proofs.Common.{◌≡◌, List, [], ◌∷◌, ◌++◌}
 use Rattle.std.proofs.Common.{refl, sym, subst}
-use Rattle.std.specs.List.{AllByRecursion}
 use Rattle.record.specs.Fragments.{Code}
 use Rattle.network.specs.Worlds.{World}
 use Rattle.network.specs.Events.{Event, happens, world_after}
 use Rattle.network.specs.Premises.{MayHappenInTurn}
 use Rattle.refinement.specs.Systems.{IsWorldOf, System}
 use Rattle.refinement.specs.WellFormed.{IsWellFormed}
-
-pub all_append : {A : Type 0} (P : A → Type 0) (xs ys : List A) → AllByRecursion P xs → AllByRecursion P ys → AllByRecursion P (xs ++ ys)
-all_append P [] ys first second = second
-all_append P (x ∷ xs) ys first second = (first.0, all_append P xs ys first.1 second)
 
 pub run_append : (fragment : Code) (first second : List Event) (world : World) →
     world_after fragment (first ++ second) world ≡ world_after fragment second (world_after fragment first world)

@@ -13,9 +13,9 @@ use Rattle.network.specs.Worlds.{ClusterFile, World, member_bank, known_layouts,
 use Rattle.local_object.specs.Local.{LocalObject, bank_here, bank_or_opened, last_position, layout_here, with_heard}
 use Rattle.refinement.specs.Parts.{IsPartOf}
 use Rattle.refinement.specs.WellFormed.{HasAsked, IsWellFormed, member_count}
-use Rattle.refinement.proofs.PlaceLemmas.{bank_learnt, layout_learnt, layout_new, layout_stays, no_bank_here}
+use Rattle.local_object.proofs.HeardPlaceLemmas.{bank_learnt, layout_learnt, layout_new, layout_stays, no_bank_here}
 use Rattle.refinement.proofs.LetterLemmas.{in_front}
-use Rattle.refinement.proofs.LastPositionLemmas.{below_last, last_known}
+use Rattle.local_object.proofs.LastPositionLemmas.{below_last, last_known}
 
 -- Lists with one more at the end
 

@@ -12,13 +12,12 @@ use Rattle.record.specs.declared.stage.Stage.{Stage}
 use Rattle.record.specs.Fragments.{Code}
 use Rattle.record.specs.Legal.{first_stage}
 use Rattle.record.specs.PhaseOrder.{begun_at}
-use Rattle.network.specs.Worlds.{NodeCall, due_phase, open_call, with_open}
-use Rattle.network.specs.Events.{taking_open}
+use Rattle.open_calls.specs.OpenCalls.{NodeCall, due_phase, open_call, with_open, taking_open}
 use Rattle.local_object.specs.declared.letter.Letter.{Letter}
 use Rattle.local_object.specs.Local.{LocalObject, last_position, layout_here, with_heard}
 use Rattle.local_object.specs.Events.{LocalEvent, Outcome, advanced_at, advanced_here, begun_here, done_here, learnt_from, on_open_call}
 use Rattle.local_object.specs.Events.{served_here, silent}
-use Rattle.refinement.proofs.LearntPartLemmas.{node_learnt}
+use Rattle.local_object.proofs.HeardLayoutLemmas.{node_heard}
 
 begun_node : (local : LocalObject) (id : ℕ) (call_kind : CallKind) (stage : Stage) (kind : Kind) (position : ℕ) (o : Option Layout) →
     (begun_here local id call_kind stage kind position o).local.node ≡ local.node
@@ -55,12 +54,12 @@ node_kept fragment local (LocalEvent.Advance id) =
     call_node local (open_call local.calls id) (λ call. advanced_here fragment local call (due_phase call))
     (λ call. advanced_node fragment local call (due_phase call))
 node_kept fragment local (LocalEvent.Serve letter) =
-    served_node (learnt_from local letter) letter letter.message.body ∙ node_learnt local letter
+    served_node (learnt_from local letter) letter letter.message.body ∙ node_heard local letter
 node_kept fragment local (LocalEvent.Take letter) =
     let next = learnt_from local letter in
     call_node next (open_call next.calls letter.message.call)
     (λ call. silent (record next { calls = with_open (taking_open letter.message call) next.calls })) (λ call. refl)
-    ∙ node_learnt local letter
+    ∙ node_heard local letter
 node_kept fragment local (LocalEvent.Settle id value) =
     call_node local (open_call local.calls id)
     (λ call. silent (record local { calls = with_open (record call { settled = Some value }) local.calls })) (λ call. refl)

@@ -9,7 +9,7 @@ use Rattle.local_object.specs.declared.letter.Letter.{Letter}
 use Rattle.local_object.specs.Local.{LocalObject, layout_here, with_heard, learnt_if}
 use Rattle.local_object.specs.Events.{learnt_from}
 use Rattle.refinement.specs.Parts.{IsPartOf, WasSentAs}
-use Rattle.refinement.proofs.PlaceLemmas.{bank_learnt, layout_learnt, layout_stays}
+use Rattle.local_object.proofs.HeardPlaceLemmas.{bank_learnt, layout_learnt, layout_stays}
 
 -- the layouts that a node knows are those that node 0 knows
 pub known_to_all : (world : World) → IsOneFile world.files → (node position : ℕ) (layout : Layout) →
@@ -46,20 +46,6 @@ pub part_learnt_if : (world : World) (local : LocalObject) (position : ℕ) (o :
     IsPartOf world (learnt_if local position o)
 part_learnt_if world local position None part at = part
 part_learnt_if world local position (Some layout) part at = part_learnt world local position layout part (at layout refl)
-
-node_if : (local : LocalObject) (position : ℕ) (o : Option Layout) → (learnt_if local position o).node ≡ local.node
-node_if local position None = refl
-node_if local position (Some layout) = refl
-
-calls_if : (local : LocalObject) (position : ℕ) (o : Option Layout) → (learnt_if local position o).calls ≡ local.calls
-calls_if local position None = refl
-calls_if local position (Some layout) = refl
-
-pub node_learnt : (local : LocalObject) (letter : Letter) → (learnt_from local letter).node ≡ local.node
-node_learnt local letter = node_if (with_heard local letter.message.position letter.layout) (suc letter.message.position) letter.next
-
-pub calls_learnt : (local : LocalObject) (letter : Letter) → (learnt_from local letter).calls ≡ local.calls
-calls_learnt local letter = calls_if (with_heard local letter.message.position letter.layout) (suc letter.message.position) letter.next
 
 -- what the node keeps after it hears of the layouts of a letter that was sent is its part
 pub part_learnt_from : (world : World) (local : LocalObject) (letter : Letter) → IsOneFile world.files → IsPartOf world local →

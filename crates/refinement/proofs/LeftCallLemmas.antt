@@ -6,9 +6,10 @@ use Rattle.record.specs.declared.call.CallKind.TheVariants.{Move}
 use Rattle.record.specs.declared.call.Entry.{Entry}
 use Rattle.soundness.proofs.ListLemmas.{all_weaker}
 use Rattle.record.specs.Fragments.{Code}
-use Rattle.network.specs.Worlds.{World, NodeCall, open_call, without_call}
+use Rattle.network.specs.Worlds.{World}
+use Rattle.open_calls.specs.OpenCalls.{NodeCall, open_call, without_call}
 use Rattle.network.specs.Events.{Event, answered_entry, answered_world, on_open, world_after}
-use Rattle.network.proofs.OpenCallLemmas.{found}
+use Rattle.open_calls.proofs.OpenCallLemmas.{found}
 use Rattle.local_object.specs.Local.{LocalObject}
 use Rattle.local_object.specs.Events.{LocalEvent, silent}
 use Rattle.refinement.specs.Laws.{IsEventOfWorld}
@@ -16,9 +17,10 @@ use Rattle.refinement.specs.Parts.{IsPartOf}
 use Rattle.refinement.specs.Refined.{IsRefined, if_carried, with_answer}
 use Rattle.refinement.specs.WellFormed.{HasAsked, HasEntry, IsWellFormed}
 use Rattle.refinement.proofs.BegunCallLemmas.{ticked}
-use Rattle.refinement.proofs.CallsOfNodeLemmas.{calls_of, differs, filter_swap, filter_within, nothing_without, only_one}
+use Rattle.open_calls.proofs.CallsOfNodeLemmas.{calls_of, differs, filter_swap, filter_within, nothing_without, only_one}
 use Rattle.refinement.proofs.ChangedCallLemmas.{IsCarried, carried}
-use Rattle.refinement.proofs.OpenCallLemmas.{distinct_filter, entry_answered}
+use Rattle.open_calls.proofs.DistinctCallLemmas.{distinct_filter}
+use Rattle.refinement.proofs.CallEntryLemmas.{entry_answered}
 use Rattle.refinement.proofs.PartLemmas.{IsKept, asked_still, changed_world, formed_still, part_still, part_with, refined, sent_still}
 use Rattle.refinement.proofs.TakenLetterLemmas.{still_kept}
 

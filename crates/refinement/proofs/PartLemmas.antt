@@ -6,7 +6,8 @@ use Rattle.mail.specs.declared.message.Message.{Message}
 use Rattle.record.specs.declared.call.Entry.{Entry}
 use Rattle.record.specs.Fragments.{Code}
 use Rattle.soundness.proofs.ListLemmas.{all_weaker}
-use Rattle.network.specs.Worlds.{World, NodeCall}
+use Rattle.network.specs.Worlds.{World}
+use Rattle.open_calls.specs.OpenCalls.{NodeCall, NodeCallsDiffer}
 use Rattle.network.specs.Events.{Event, world_after}
 use Rattle.network.specs.Premises.{MayHappenInTurn, WasSent}
 use Rattle.local_object.specs.declared.letter.Letter.{Letter}
@@ -14,8 +15,8 @@ use Rattle.local_object.specs.Local.{LocalObject}
 use Rattle.local_object.specs.Events.{Outcome, silent}
 use Rattle.refinement.specs.Parts.{IsPartOf, WasSentAs}
 use Rattle.refinement.specs.Refined.{IsRefined}
-use Rattle.refinement.specs.WellFormed.{HasAsked, HasEntry, NodeCallsDiffer, IsWellFormed}
-use Rattle.refinement.proofs.CallsOfNodeLemmas.{calls_of}
+use Rattle.refinement.specs.WellFormed.{HasAsked, HasEntry, IsWellFormed}
+use Rattle.open_calls.proofs.CallsOfNodeLemmas.{calls_of}
 
 -- What an event leads to
 

@@ -4,7 +4,7 @@ use Rattle.std.proofs.lemmas.Option.{same_Some, slice_get-map}
 use Rattle.mail.specs.declared.message.Message.{Message}
 use Rattle.soundness.proofs.ListLemmas.{all_get}
 use Rattle.network.specs.Worlds.{known_layouts}
-use Rattle.network.proofs.OpenCallLemmas.{found}
+use Rattle.open_calls.proofs.OpenCallLemmas.{found}
 use Rattle.local_object.specs.declared.letter.Letter.{Letter}
 use Rattle.local_object.specs.Events.{letter_of, pieces_here}
 use Rattle.refinement.specs.Laws.{ResentLettersWereSent}

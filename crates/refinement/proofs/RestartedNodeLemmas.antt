@@ -8,17 +8,19 @@ use Rattle.layout.specs.Layout.{Layout}
 use Rattle.record.specs.Legal.{is_move}
 use Rattle.record.specs.Fragments.{Code}
 use Rattle.soundness.proofs.ListLemmas.{all_weaker}
-use Rattle.network.specs.Worlds.{World, NodeCall, after_restart, known_layouts}
-use Rattle.network.proofs.OpenCallLemmas.{all_filter}
+use Rattle.network.specs.Worlds.{World, after_restart, known_layouts}
+use Rattle.open_calls.specs.OpenCalls.{NodeCall}
+use Rattle.open_calls.proofs.OpenCallLemmas.{all_filter}
 use Rattle.local_object.specs.Local.{LocalObject, bank_here, bank_or_opened, layout_here}
 use Rattle.local_object.specs.Events.{silent}
 use Rattle.refinement.specs.Laws.{RestartsAreWorldEvents}
 use Rattle.refinement.specs.Parts.{IsPartOf}
-use Rattle.refinement.specs.Refined.{IsKeptHere, restart_event}
+use Rattle.local_object.specs.Restarts.{IsKeptHere}
+use Rattle.refinement.specs.Refined.{restart_event}
 use Rattle.refinement.specs.WellFormed.{HasAsked, HasEntry, IsWellFormed}
-use Rattle.refinement.proofs.PlaceLemmas.{no_bank_here}
-use Rattle.refinement.proofs.CallsOfNodeLemmas.{calls_of, differs, filter_swap, filter_within}
-use Rattle.refinement.proofs.OpenCallLemmas.{distinct_filter}
+use Rattle.local_object.proofs.HeardPlaceLemmas.{no_bank_here}
+use Rattle.open_calls.proofs.CallsOfNodeLemmas.{calls_of, differs, filter_swap, filter_within}
+use Rattle.open_calls.proofs.DistinctCallLemmas.{distinct_filter}
 use Rattle.refinement.proofs.PartLemmas.{IsKept, asked_still, changed_world, formed_still, part_still, refined, sent_still}
 
 -- whether a call is there after the node started again

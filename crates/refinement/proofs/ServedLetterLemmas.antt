@@ -1,5 +1,5 @@
 -- A node serves a request.
-use Rattle.std.proofs.Common.{◌≡◌, ℕ, suc, ◌<◌, Bool, true, false, eqb, eq-eqb, eqb-true, length, [], ◌∷◌, ◌++◌, Some}
+use Rattle.std.proofs.Common.{◌≡◌, ℕ, suc, ◌<◌, Bool, true, false, eqb, eq-eqb, eqb-true, length, [], ◌∷◌, ◌++◌, Option, Some}
 use Rattle.std.proofs.Common.{IsSome, is_some, get_or, slice_get, refl, sym, subst, ap, ◌∙◌, arith}
 use Rattle.std.proofs.lemmas.Option.{same_Some}
 use Rattle.layout.specs.Layout.{Layout, IsLawful}
@@ -13,16 +13,19 @@ use Rattle.record.specs.Fragments.{Code}
 use Rattle.network.specs.Worlds.{World, member_bank, known_layouts}
 use Rattle.network.specs.Events.{Event, handled_world, served_world}
 use Rattle.local_object.specs.declared.letter.Letter.{Letter}
-use Rattle.local_object.specs.Local.{LocalObject, bank_here, with_bank_here}
+use Rattle.local_object.specs.ChangedBanks.{kept_bank}
+use Rattle.local_object.specs.Local.{LocalObject, bank_here, bank_in, heard_place, with_bank_here}
 use Rattle.local_object.specs.Events.{LocalEvent, handled_here, learnt_from, letter_of, served_here}
 use Rattle.local_object.specs.May.{IsAddressed}
 use Rattle.refinement.specs.Laws.{IsEventOfWorld}
 use Rattle.refinement.specs.Parts.{IsPartOf, WasSentAs}
 use Rattle.refinement.specs.WellFormed.{HasAsked, IsWellFormed}
-use Rattle.refinement.proofs.BankRowLemmas.{bank_set_here, bank_set_there, counts_set, has_bank, one_member, with_served}
+use Rattle.refinement.proofs.BankRowLemmas.{bank_set_here, bank_set_there, counts_set, has_bank, with_served}
+use Rattle.local_object.proofs.OneMemberLemmas.{one_member}
 use Rattle.refinement.proofs.BegunCallLemmas.{ticked}
 use Rattle.refinement.proofs.PartLemmas.{IsKept, refined}
-use Rattle.refinement.proofs.PlaceLemmas.{bank_with_here, bank_with_there, layout_with}
+use Rattle.local_object.proofs.UnchangedBankLemmas.{kept_served}
+use Rattle.local_object.proofs.HeardPlaceLemmas.{bank_with_here, bank_with_there, layout_with}
 use Rattle.refinement.proofs.LetterLemmas.{behind, in_front, letter_was_sent}
 use Rattle.refinement.proofs.LearntPartLemmas.{known_by_all, part_learnt_from}
 
@@ -61,17 +64,23 @@ module _ (fragment : Code) (world : World) (local : LocalObject) (letter : Lette
     now = suc world.now;
   }
 
-  abbrev served_local : Bank → LocalObject
-  served_local bank =
-      record local { places = with_bank_here local.places letter.message.position (served_bank bank asked 0) }
+  -- the bank that the node keeps then, if it keeps one
+  abbrev kept : Option Bank
+  kept = kept_bank (bank_in (heard_place local.places letter.message.position)) letter.message.member local.delta asked
+
+  abbrev served_local : LocalObject
+  served_local = record local { places = with_bank_here local.places letter.message.position kept }
+
+  abbrev bank : Bank
+  bank = bank_here local letter.message.position letter.message.member
 
   -- the node's own bank is the one that changed
-  own_bank : (bank : Bank) (q other : ℕ) (layout : Layout) → slice_get (known_layouts world local.node) q ≡ Some layout →
+  own_bank : (q other : ℕ) (layout : Layout) → slice_get (known_layouts world local.node) q ≡ Some layout →
       slice_get layout.members other ≡ Some local.node →
-      member_bank (served_to bank) q other ≡ bank_here (served_local bank) q other
-  own_bank bank q other layout at is = go (eqb letter.message.position q) refl
+      member_bank (served_to bank) q other ≡ bank_here served_local q other
+  own_bank q other layout at is = go (eqb letter.message.position q) refl
     where
-      here : letter.message.position ≡ q → member_bank (served_to bank) q other ≡ bank_here (served_local bank) q other
+      here : letter.message.position ≡ q → member_bank (served_to bank) q other ≡ bank_here served_local q other
       here same =
           let member : letter.message.member ≡ other =
           one_member addressed.0 letter.message.member other local.node lawful_there addressed.2
@@ -79,31 +88,31 @@ module _ (fragment : Code) (world : World) (local : LocalObject) (letter : Lette
           ap (λ n. member_bank (served_to bank) n other) (sym same)
           ∙ ap (member_bank (served_to bank) letter.message.position) (sym member)
           ∙ bank_set_here world.banks letter.message.position letter.message.member (served_bank bank asked 0) within
-          ∙ sym (bank_with_here local letter.message.position (served_bank bank asked 0) letter.message.member (ap is_some addressed.1))
-          ∙ ap (bank_here (served_local bank) letter.message.position) member
-          ∙ ap (λ n. bank_here (served_local bank) n other) same
+          ∙ sym (kept_served (bank_in (heard_place local.places letter.message.position)) letter.message.member local.delta asked)
+          ∙ sym (bank_with_here local letter.message.position kept letter.message.member (ap is_some addressed.1))
+          ∙ ap (bank_here served_local letter.message.position) member
+          ∙ ap (λ n. bank_here served_local n other) same
 
-      there : (letter.message.position ≡ q → ⊥) → member_bank (served_to bank) q other ≡ bank_here (served_local bank) q other
+      there : (letter.message.position ≡ q → ⊥) → member_bank (served_to bank) q other ≡ bank_here served_local q other
       there apart =
           bank_set_there world.banks letter.message.position letter.message.member (served_bank bank asked 0) within q other
           (λ same member. apart same)
           ∙ part.banks q other layout at is
-          ∙ sym (bank_with_there local letter.message.position (served_bank bank asked 0) q other apart)
+          ∙ sym (bank_with_there local letter.message.position kept q other apart)
 
-      go : (b : Bool) → eqb letter.message.position q ≡ b → member_bank (served_to bank) q other ≡ bank_here (served_local bank) q other
+      go : (b : Bool) → eqb letter.message.position q ≡ b → member_bank (served_to bank) q other ≡ bank_here served_local q other
       go true e = here (eqb-true letter.message.position q e)
       go false e = there (λ same. absurd (let wrong : false ≡ true = sym e ∙ eq-eqb letter.message.position q same in cc))
 
-  served_part : (bank : Bank) → IsPartOf (served_to bank) (served_local bank)
-  served_part bank =
-      let served = served_bank bank asked 0 in
+  served_part : IsPartOf (served_to bank) served_local
+  served_part =
       let position = letter.message.position in record {
         delta = part.delta;
-        layouts = λ q layout e. part.layouts q layout (sym (layout_with local position served q) ∙ e);
-        first = subst IsSome (sym (layout_with local position served 0)) part.first;
-        banks = own_bank bank;
+        layouts = λ q layout e. part.layouts q layout (sym (layout_with local position kept q) ∙ e);
+        first = subst IsSome (sym (layout_with local position kept 0)) part.first;
+        banks = own_bank;
         calls = part.calls;
-        mover = λ moves q layout at. layout_with local position served q ∙ part.mover moves q layout at;
+        mover = λ moves q layout at. layout_with local position kept q ∙ part.mover moves q layout at;
       }
 
   other_part : (bank : Bank) (other : LocalObject) → (other.node ≡ local.node → ⊥) → IsPartOf world other →
@@ -122,10 +131,10 @@ module _ (fragment : Code) (world : World) (local : LocalObject) (letter : Lette
     mover = is.mover;
   }
 
-  served_with : (bank : Bank) →
+  served_with :
       IsKept fragment world (served_to bank)
-      (record { local = served_local bank; sent = letter_of local letter.layout (reply_of bank) ∷ [] }) 1 world.history
-  served_with bank = record {
+      (record { local = served_local; sent = letter_of local letter.layout (reply_of bank) ∷ [] }) 1 world.history
+  served_with = record {
     formed = record {
       one = formed.one;
       lawful = formed.lawful;
@@ -139,7 +148,7 @@ module _ (fragment : Code) (world : World) (local : LocalObject) (letter : Lette
             let was = has.asked place message at in (was.0, in_front world.sent (reply_of bank ∷ []) was.0 message was.1);
       }) world.calls formed.asked;
     };
-    part = served_part bank;
+    part = served_part;
     sent = (
       letter_was_sent (served_to bank) local letter.layout (reply_of bank) (behind world.sent (reply_of bank ∷ []) 0 (reply_of bank) refl)
           was.layout (λ q layout e. known_by_all world formed.one local.node q layout (part.layouts q layout e)),
@@ -159,11 +168,10 @@ module _ (fragment : Code) (world : World) (local : LocalObject) (letter : Lette
   pub served_kept :
       IsKept fragment world (handled_world (ticked world) letter.message asked) (handled_here local letter asked) 1 world.history
   served_kept =
-      let bank = bank_here local letter.message.position letter.message.member in
       let same : member_bank world letter.message.position letter.message.member ≡ bank =
       part.banks letter.message.position letter.message.member addressed.0
       (part.layouts letter.message.position addressed.0 addressed.1) addressed.2 in
-      subst (λ b. IsKept fragment world (served_to b) (handled_here local letter asked) 1 world.history) (sym same) (served_with bank)
+      subst (λ b. IsKept fragment world (served_to b) (handled_here local letter asked) 1 world.history) (sym same) served_with
 
 pub serve_refined : (letter : Letter) → IsEventOfWorld (LocalEvent.Serve letter)
 serve_refined letter fragment world local formed part may premised =

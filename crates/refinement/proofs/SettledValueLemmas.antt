@@ -6,7 +6,8 @@ use Rattle.bank.specs.declared.kind.Kind.{Kind}
 use Rattle.record.specs.Fragments.{Code, IsFetch}
 use Rattle.record.specs.Sending.{request_to}
 use Rattle.record.specs.Records.{no_layout}
-use Rattle.network.specs.Worlds.{World, NodeCall, known_layouts, open_call, parts_of, with_open}
+use Rattle.network.specs.Worlds.{World, known_layouts, parts_of}
+use Rattle.open_calls.specs.OpenCalls.{NodeCall, open_call, with_open}
 use Rattle.network.specs.Events.{Event, IsFetched, on_open}
 use Rattle.local_object.specs.Local.{LocalObject}
 use Rattle.local_object.specs.Events.{LocalEvent, Outcome, on_open_call, pieces_here, silent}

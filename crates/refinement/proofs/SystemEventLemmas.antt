@@ -12,7 +12,8 @@ use Rattle.local_object.specs.Local.{LocalObject}
 use Rattle.local_object.specs.Events.{LocalEvent, done_here}
 use Rattle.local_object.specs.Resent.{IsResent}
 use Rattle.refinement.specs.Parts.{IsPartOf, WasSentAs}
-use Rattle.refinement.specs.Refined.{IsKeptHere, IsPremisedHere, history_after, restart_event, world_events}
+use Rattle.local_object.specs.Restarts.{IsKeptHere}
+use Rattle.refinement.specs.Refined.{IsPremisedHere, history_after, restart_event, world_events}
 use Rattle.refinement.specs.Systems.{IsPremisedIn, IsWorldOf, MayHappenIn, System, SystemEvent, system_after}
 use Rattle.refinement.specs.Systems.{with_object_at}
 use Rattle.refinement.specs.WellFormed.{IsWellFormed}
@@ -20,7 +21,8 @@ use Rattle.refinement.proofs.KeptNodeLemmas.{node_kept}
 use Rattle.refinement.proofs.LocalEventLemmas.{each_refined}
 use Rattle.refinement.proofs.ResentLetterLemmas.{letters_sent}
 use Rattle.refinement.proofs.RestartedNodeLemmas.{restarts_refined}
-use Rattle.refinement.proofs.EventRunLemmas.{HasWorld, all_append}
+use Rattle.refinement.proofs.EventRunLemmas.{HasWorld}
+use Rattle.open_calls.proofs.ListLemmas.{all_append}
 
 module _ (fragment : Code) (world : World) (system : System) (formed : IsWellFormed fragment world) (is : IsWorldOf world system) where
   unused_there : (id : ℕ) → AllByRecursion (λ entry. entry.call ≡ id → ⊥) system.history →

@@ -13,7 +13,7 @@ use Rattle.refinement.specs.Parts.{IsPartOf}
 use Rattle.refinement.specs.Systems.{IsWorldOf, MayRunIn, System, SystemEvent, opened_system, system_after}
 use Rattle.refinement.specs.Systems.{system_run}
 use Rattle.refinement.specs.WellFormed.{IsWellFormed}
-use Rattle.refinement.proofs.CallsOfNodeLemmas.{differs}
+use Rattle.open_calls.proofs.CallsOfNodeLemmas.{differs}
 use Rattle.refinement.proofs.EventRunLemmas.{HasWorld, then_world}
 use Rattle.refinement.proofs.SystemEventLemmas.{one_event}
 use Rattle.refinement.proofs.GrownWorldLemmas.{new_bank, new_count}

@@ -7,8 +7,9 @@ use Rattle.mail.specs.declared.message.Body.TheVariants as body
 use Rattle.mail.specs.declared.message.Message.{Message}
 use Rattle.mail.specs.Phase.{Phase, after_body, after_take, has_taken, is_current, with_reply}
 use Rattle.record.specs.Fragments.{Code}
-use Rattle.network.specs.Worlds.{World, NodeCall, known_layouts, open_call, with_open}
-use Rattle.network.specs.Events.{Event, on_open, world_after, taking_open}
+use Rattle.network.specs.Worlds.{World, known_layouts}
+use Rattle.open_calls.specs.OpenCalls.{NodeCall, open_call, with_open, taking_open}
+use Rattle.network.specs.Events.{Event, on_open, world_after}
 use Rattle.local_object.specs.declared.letter.Letter.{Letter}
 use Rattle.local_object.specs.Local.{LocalObject}
 use Rattle.local_object.specs.Events.{LocalEvent, Outcome, learnt_from, on_open_call, silent}
@@ -19,7 +20,8 @@ use Rattle.refinement.specs.WellFormed.{HasAsked, IsWellFormed}
 use Rattle.refinement.proofs.BegunCallLemmas.{ticked}
 use Rattle.refinement.proofs.ChangedCallLemmas.{carried, changed_kept, changed_to}
 use Rattle.refinement.proofs.PartLemmas.{IsKept, refined, unchanged}
-use Rattle.refinement.proofs.LearntPartLemmas.{calls_learnt, part_learnt_from}
+use Rattle.local_object.proofs.HeardLayoutLemmas.{calls_heard}
+use Rattle.refinement.proofs.LearntPartLemmas.{part_learnt_from}
 
 -- the world without an event
 pub still_kept : (fragment : Code) (world : World) (local : LocalObject) → IsWellFormed fragment world → IsPartOf world local →
@@ -64,7 +66,7 @@ taking_here letter next call = silent (record next { calls = with_open (taking_o
 pub take_refined : (letter : Letter) → IsEventOfWorld (LocalEvent.Take letter)
 take_refined letter fragment world local formed part may premised =
     go (learnt_from local letter) (part_learnt_from world local letter formed.one part premised)
-    (open_call local.calls letter.message.call) (ap (λ calls. open_call calls letter.message.call) (calls_learnt local letter))
+    (open_call local.calls letter.message.call) (ap (λ calls. open_call calls letter.message.call) (calls_heard local letter))
   where
     go : (next : LocalObject) → IsPartOf world next → (o : Option NodeCall) → open_call next.calls letter.message.call ≡ o →
         IsRefined fragment world (if_carried o (Event.Take letter.message))

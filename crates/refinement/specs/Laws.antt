@@ -4,7 +4,8 @@ use Rattle.std.specs.Prelude.{◌≡◌, ℕ, suc, List, [], ◌∷◌, Some, Is
 use Rattle.record.specs.declared.call.CallKind.TheVariants.{Read}
 use Rattle.record.specs.Fragments.{Code, IsCode}
 use Rattle.atomicity.specs.Atomic.{IsAtomic}
-use Rattle.network.specs.Worlds.{World, NodeCall, open_call}
+use Rattle.network.specs.Worlds.{World}
+use Rattle.open_calls.specs.OpenCalls.{NodeCall, open_call}
 use Rattle.network.specs.Events.{world_after}
 use Rattle.network.specs.Laws.{IsReached}
 use Rattle.local_object.specs.declared.letter.Letter.{Letter}
@@ -14,7 +15,8 @@ use Rattle.local_object.specs.May.{MayAllHappen, MayHappenHere}
 use Rattle.local_object.specs.Resent.{IsResent}
 use Rattle.refinement.specs.Parts.{IsPartOf, WasSentAs}
 use Rattle.refinement.specs.WellFormed.{IsWellFormed}
-use Rattle.refinement.specs.Refined.{IsKeptHere, IsPremisedHere, IsRefined, history_after, restart_event, world_events}
+use Rattle.local_object.specs.Restarts.{IsKeptHere}
+use Rattle.refinement.specs.Refined.{IsPremisedHere, IsRefined, history_after, restart_event, world_events}
 use Rattle.refinement.specs.Systems.{ArePremisedIn, IsDoneIn, IsReachedSystem, IsWorldOf, System, SystemEvent}
 use Rattle.refinement.specs.Systems.{system_after}
 use Rattle.refinement.specs.SystemValues.{HasAnswer, KeepsValuesIn}

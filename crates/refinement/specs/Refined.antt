@@ -1,19 +1,18 @@
 -- The contracts that docs/trusted.md lists do not depend on this file; other contracts and proofs do.
 -- Which events of the world an event at a node is, and when the world after them agrees with what all nodes keep.
-use Rattle.std.specs.Prelude.{slice_get, ◌≡◌, ◌≢◌, ◌+◌, ℕ, List, [], ◌∷◌, ◌++◌, length, map, Option, None, Some, IsSome}
-use Rattle.std.specs.List.{AllByRecursion, filter}
-use Rattle.layout.specs.Layout.{Layout}
+use Rattle.std.specs.Prelude.{◌≡◌, ◌≢◌, ◌+◌, ℕ, List, [], ◌∷◌, ◌++◌, length, map, Option, None, Some}
+use Rattle.std.specs.List.{AllByRecursion}
 use Rattle.record.specs.declared.call.CallKind.{CallKind}
 use Rattle.record.specs.declared.call.CallKind.TheVariants.{Read, Write, Move}
 use Rattle.record.specs.declared.call.Entry.{Entry}
 use Rattle.record.specs.Fragments.{Code}
 use Rattle.record.specs.Journals.{operation_of, entry_value}
-use Rattle.record.specs.Legal.{is_move}
-use Rattle.network.specs.Worlds.{World, NodeCall, open_call, after_restart}
+use Rattle.network.specs.Worlds.{World, after_restart}
+use Rattle.open_calls.specs.OpenCalls.{NodeCall, open_call}
 use Rattle.network.specs.Events.{Event, world_after, answered_entry}
 use Rattle.network.specs.Premises.{IsUnused, MayHappenInTurn}
 use Rattle.local_object.specs.declared.letter.Letter.{Letter}
-use Rattle.local_object.specs.Local.{LocalObject, layout_here, bank_here}
+use Rattle.local_object.specs.Local.{LocalObject}
 use Rattle.local_object.specs.Events.{LocalEvent, Outcome}
 use Rattle.refinement.specs.Parts.{IsPartOf, WasSentAs}
 use Rattle.refinement.specs.WellFormed.{IsWellFormed}
@@ -89,22 +88,6 @@ pub record IsRefined (fragment : Code) (world : World) (events : List Event) (af
   pub now : (world_after fragment events world).now ≡ world.now + length events
 
 -- Restarts
-
--- what a node keeps after it has stopped and started again from its log: its moves; the banks that layouts give it (one
--- that was only opened may not be there); and the layouts of some positions, among them position 0 and, if it moves
--- objects, all that it had heard of
-pub record IsKeptHere (moves : Type 0) (before after : LocalObject) : Type 0 where
-  pub node : after.node ≡ before.node
-  pub delta : after.delta ≡ before.delta
-  pub layouts : (position : ℕ) (layout : Layout) → layout_here after position ≡ Some layout →
-      layout_here before position ≡ Some layout
-  pub first : IsSome (layout_here after 0)
-  pub banks : (position member : ℕ) (layout : Layout) → layout_here before position ≡ Some layout →
-      slice_get layout.members member ≡ Some before.node →
-      bank_here after position member ≡ bank_here before position member
-  pub calls : after.calls ≡ filter (λ call. is_move call.kind) before.calls
-  pub mover : moves → (position : ℕ) (layout : Layout) → layout_here before position ≡ Some layout →
-      layout_here after position ≡ Some layout
 
 -- the event of the world that corresponds to a restart of a node
 abbrev pub restart_event : World → (node : ℕ) → Event

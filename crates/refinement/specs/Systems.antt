@@ -14,7 +14,8 @@ use Rattle.local_object.specs.Events.{LocalEvent, Outcome, done_here}
 use Rattle.local_object.specs.May.{MayHappenHere}
 use Rattle.local_object.specs.Resent.{IsResent}
 use Rattle.refinement.specs.Parts.{IsPartOf, WasSentAs}
-use Rattle.refinement.specs.Refined.{IsKeptHere, history_after, world_events}
+use Rattle.local_object.specs.Restarts.{IsKeptHere}
+use Rattle.refinement.specs.Refined.{history_after, world_events}
 
 -- all nodes: the cluster file that each runs with, what each keeps of the object, and all letters ever sent; and as
 -- history the entries of the calls, and how many events there were

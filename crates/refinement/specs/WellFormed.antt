@@ -1,6 +1,6 @@
 -- The contracts that docs/trusted.md lists do not depend on this file; other contracts and proofs do.
 -- What each world that nodes reach keeps, besides what it promises.
-use Rattle.std.specs.Prelude.{◌≡◌, ◌≢◌, ℕ, List, [], ◌∷◌, length, map, None, Some, slice_get}
+use Rattle.std.specs.Prelude.{◌≡◌, ℕ, List, length, map, None, Some, slice_get}
 use Rattle.std.specs.List.{AllByRecursion}
 use Rattle.layout.specs.Layout.{Layout, IsLawful}
 use Rattle.record.specs.declared.call.Entry.{Entry}
@@ -8,14 +8,10 @@ use Rattle.mail.specs.declared.message.Message.{Message}
 use Rattle.record.specs.Fragments.{Code}
 use Rattle.record.specs.Journals.{operation_of}
 use Rattle.record.specs.Sending.{requests}
-use Rattle.network.specs.Worlds.{World, NodeCall, known_layouts}
+use Rattle.network.specs.Worlds.{World, known_layouts}
+use Rattle.open_calls.specs.OpenCalls.{NodeCall, NodeCallsDiffer}
 use Rattle.network.specs.Premises.{IsOneFile, WasSent}
 use Rattle.local_object.specs.Events.{pieces_here}
-
--- no two of the calls have the same id
-abbrev pub NodeCallsDiffer : List NodeCall → Type 0
-NodeCallsDiffer [] = Unit {0}
-NodeCallsDiffer (call ∷ calls) = AllByRecursion (λ other. other.id ≢ call.id) calls × NodeCallsDiffer calls
 
 -- the history has an entry of the call, which has no answer yet
 pub record HasEntry (history : List Entry) (call : NodeCall) : Type 0 where

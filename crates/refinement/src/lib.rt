@@ -1,9 +1,11 @@
-//! What separate nodes do, each by what it keeps itself, are events of the world of all nodes.
+//! What separate nodes do, each by what it keeps itself, are events of the world of all nodes. So what all nodes of a
+//! cluster do with all their objects keeps the promise for each object.
 //!
 //! The definitions, which a reader has to believe, are in `specs/`. Each law is the contract of a function with an
 //! empty body.
 #![tactic(auto)]
 
+pub use clusters::{clusters_are_atomic, clusters_have_systems, clusters_keep_values};
 pub use events::{
     local_events_are_world_events, resent_letters_were_sent, restarts_are_world_events,
 };
@@ -12,5 +14,6 @@ pub use systems::{
     systems_are_atomic, systems_have_worlds, systems_keep_values,
 };
 
+mod clusters;
 mod events;
 mod systems;

@@ -1,9 +1,0 @@
-pub mod TimedLemmas
-pub mod ToldLemmas
-pub mod UsedIdLemmas
-pub mod HistoryLemmas
-pub mod SystemRunLemmas
-pub mod LeadLemmas
-pub mod EventLemmas
-pub mod DeedLemmas
-pub mod ClusterLemmas

@@ -1,4 +1,0 @@
-pub mod Clusters
-pub mod Premises
-pub mod Histories
-pub mod Laws

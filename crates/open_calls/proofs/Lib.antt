@@ -1,0 +1,4 @@
+pub mod ListLemmas
+pub mod OpenCallLemmas
+pub mod CallsOfNodeLemmas
+pub mod DistinctCallLemmas

@@ -1,0 +1,87 @@
+-- What a node carries out again from a log leaves all objects its own.
+use Rattle.std.proofs.Common.{inl, inr, ℕ, Bool, true, false, cond, List, [], ◌∷◌, ◌++◌, Option, None, Some, sym, subst}
+use Rattle.std.specs.List.{AllByRecursion}
+use Rattle.call.specs.Call.{OpenCall as Machine}
+use Rattle.call.specs.declared.next.Next.{Next}
+use Rattle.call.specs.declared.next.Next.TheVariants as next
+use Rattle.deeds.specs.Kept.{KeptNode}
+use Rattle.open_calls.proofs.ListLemmas.{all_append}
+use Rattle.encoder.specs.Fragment.{fragment}
+use Rattle.local_object.specs.declared.letter.Letter.{Letter}
+use Rattle.local_object.specs.declared.progress.Ended.{Ended}
+use Rattle.local_object.specs.Doing.{is_served, is_taken, serve_events}
+use Rattle.local_object.specs.Events.{LocalEvent, all_done}
+use Rattle.local_object.specs.Going.{next_if}
+use Rattle.local_object.specs.Local.{LocalObject, Place}
+use Rattle.local_object.specs.Taking.{AreSettling, IsTaken, call_events, can_begin, lead_events, machine_of, repeats}
+use Rattle.local_object.specs.Taking.{step_events}
+use Rattle.open_calls.specs.OpenCalls.{NodeCall, open_call}
+use Rattle.object_letters.specs.Rebuildable.{HasLawfulLayouts, IsFit}
+use Rattle.recoveries.specs.Records.{IsKeptUnder, LogRecord, RecoversOne}
+use Rattle.recoveries.specs.RewrittenLaws.{HasLawfulLetter, RecoveringKeepsOwn}
+use Rattle.recoveries.specs.RewritingNodes.{HasOwnObjects}
+use Rattle.recoveries.proofs.OwnObjectLemmas.{done_own, same_own, starts_own}
+
+serve_fit : (local : LocalObject) (letter : Letter) → HasLawfulLayouts letter → AllByRecursion IsFit (serve_events local letter)
+serve_fit local letter lawful = go (is_served local letter)
+  where
+    go : (b : Bool) → AllByRecursion IsFit (cond b (LocalEvent.Serve letter ∷ []) [])
+    go true = (lawful, tt)
+    go false = tt
+
+-- the events by which a call goes on have no letter
+begin_fit : (b : Bool) (id : ℕ) → AllByRecursion IsFit (cond b (LocalEvent.Advance id ∷ []) [])
+begin_fit true id = (tt, tt)
+begin_fit false id = tt
+
+step_fit : (places : List Place) (call : Machine) (then : Next) → AllByRecursion IsFit (step_events places call then)
+step_fit places call next.Wait = tt
+step_fit places call next.Settle = tt
+step_fit places call (next.Restart kind position) = begin_fit (can_begin places call kind position) call.id
+step_fit places call (next.Begin kind position) = begin_fit (can_begin places call kind position) call.id
+step_fit places call next.Answer = (tt, tt)
+
+call_fit : (again : Bool) (places : List Place) (call : Option NodeCall) → AllByRecursion IsFit (call_events again places call)
+call_fit again places None = tt
+call_fit again places (Some call) = step_fit places (machine_of call) (next_if again (machine_of call))
+
+lead_fit : (again : Bool) (local : LocalObject) (id : ℕ) → AllByRecursion IsFit (lead_events again local id)
+lead_fit again local id = call_fit again local.places (open_call local.calls id)
+
+settling_fit : (local : LocalObject) (id : ℕ) (events : List LocalEvent) → AreSettling local id events → AllByRecursion IsFit events
+settling_fit local id events (inl none) = subst (λ (es : List LocalEvent). AllByRecursion IsFit es) (sym none.0) tt
+settling_fit local id events (inr some) = subst (λ (es : List LocalEvent). AllByRecursion IsFit es) (sym some.2) (tt, tt)
+
+take_own : (old new : KeptNode) (name : List ℕ) (letter : Letter) (local : LocalObject) (sent : List Letter)
+    (ended : List Ended) → HasLawfulLayouts letter → IsKeptUnder old name local new → HasOwnObjects old → (b : Bool) →
+    IsTaken b (old.objects name) letter local sent ended → HasOwnObjects new
+take_own old new name letter local sent ended lawful put own false taken =
+    done_own old new name local [] sent tt taken.done put own
+take_own old new name letter local sent ended lawful put own true taken =
+    let before = old.objects name in
+    let id = letter.message.call in
+    let first = LocalEvent.Take letter ∷ taken.settling in
+    let again = repeats before letter in
+    let leads = lead_events again (all_done fragment before first).local id in
+    done_own old new name local (LocalEvent.Take letter ∷ taken.settling ++ leads) sent (
+      lawful,
+      all_append IsFit taken.settling leads
+          (settling_fit (all_done fragment before (LocalEvent.Take letter ∷ [])).local id taken.settling taken.settles)
+          (lead_fit again (all_done fragment before first).local id),
+    )
+    taken.leads.done put own
+
+one_own : (old new : KeptNode) (it : LogRecord) → HasLawfulLetter it → RecoversOne it old new → HasOwnObjects old → HasOwnObjects new
+one_own old new LogRecord.Starts lawful started own = (starts_own old new own).1 started
+one_own old new (LogRecord.Serves name letter) lawful done own =
+    done_own old new name done.local (serve_events (old.objects name) letter) done.sent
+    (serve_fit (old.objects name) letter lawful) done.done done.put own
+one_own old new (LogRecord.Takes name letter) lawful done own =
+    take_own old new name letter done.local done.sent done.ended lawful done.put own (is_taken (old.objects name) letter) done.taken
+one_own old new (LogRecord.Moves name id layout) lawful done own =
+    done_own old new name done.local (LocalEvent.BeginMove id layout ∷ []) done.sent (tt, tt) done.done done.put own
+
+pub recovered_own : RecoveringKeepsOwn
+recovered_own old new [] lawful same own = same_own old new own same.file same.node same.objects
+recovered_own old new (it ∷ records) lawful recovers own =
+    recovered_own recovers.0 new records lawful.1 recovers.2 (one_own old recovers.0 it lawful.0 recovers.1 own)

@@ -1,0 +1,170 @@
+-- What a node does with the object of a name is an event of all nodes for that object.
+use Rattle.std.proofs.Common.{◌≡◌, ◌≤◌, ◌+◌, ℕ, zero, suc, List, [], ◌∷◌, ◌++◌}
+use Rattle.std.proofs.Common.{map, Option, None, Some, refl, sym, subst, ap, arith}
+use Rattle.std.proofs.lemmas.List.{append-nil}
+use Rattle.std.specs.List.{AllByRecursion}
+use Rattle.record.specs.declared.call.CallKind.TheVariants.{Read, Write, Move}
+use Rattle.record.specs.declared.call.Entry.{Entry}
+use Rattle.record.specs.Fragments.{Code}
+use Rattle.deeds.specs.CallId.{CallIds, HasRanges}
+use Rattle.open_calls.specs.OpenCalls.{NodeCall, open_call}
+use Rattle.network.specs.Events.{answered_entry}
+use Rattle.local_object.specs.declared.progress.Ended.{Ended}
+use Rattle.local_object.specs.Local.{LocalObject}
+use Rattle.local_object.specs.Events.{LocalEvent, done_here}
+use Rattle.local_object.specs.Ended.{told_if, told_of}
+use Rattle.local_object.specs.May.{MayHappenHere}
+use Rattle.refinement.specs.Refined.{begun_entry, with_answer}
+use Rattle.refinement.specs.WellFormed.{HasEntry}
+use Rattle.refinement.specs.Systems.{IsPremisedIn, System, SystemEvent, system_after}
+use Rattle.deeds.specs.Named.{NamedLetter, with_names}
+use Rattle.deeds.specs.Deeds.{Notice, noticed}
+use Rattle.deeds.specs.Ids.{IsGiven, IsLater, IsNextId, begun_id}
+use Rattle.deeds.specs.May.{IsEventAllowed, IsEventFed}
+use Rattle.deeds.proofs.IdLemmas.{given_later, next_later}
+use Rattle.open_calls.proofs.ListLemmas.{all_append, all_weaker}
+use Rattle.deeds.proofs.NameLemmas.{names_decided}
+use Rattle.refinement.proofs.HistoryLemmas.{AreTold, IsHistoryAt, history_later, history_push}
+use Rattle.refinement.proofs.SystemRunLemmas.{open_entry, reached_next}
+use Rattle.refinement.proofs.ToldLemmas.{IsToldIn, later_told, now_told, open_apart, still_told, told_answer}
+use Rattle.deeds.proofs.UsedIdLemmas.{IsUsed, next_free, used_later, used_now, with_ids}
+use Rattle.refinement.proofs.LeadLemmas.{Follows, Leads, all_map, ended_in, other_object, own_object, posted_more, used_answered}
+
+module _ (fragment : Code) (name : List ℕ) (system : System) (ids : ℕ → CallIds) (number : ℕ) (mine now : CallIds)
+    (letters : List NamedLetter) (notices : List Notice)
+    (follows : Follows fragment name system (with_ids ids number mine) letters notices) (own : mine.node ≡ number)
+    (within : HasRanges mine) where
+  abbrev local : LocalObject
+  local = system.objects number
+
+  abbrev after : LocalEvent → System
+  after event = system_after fragment system (SystemEvent.Acts number event)
+
+  pub still_used : IsLater mine now → AllByRecursion (λ entry. IsUsed (with_ids ids number now) entry.call) system.history
+  still_used later =
+      all_weaker (λ (entry : Entry). IsUsed (with_ids ids number mine) entry.call)
+      (λ (entry : Entry). IsUsed (with_ids ids number now) entry.call)
+      (λ entry used. used_later ids number mine now later entry.call used) system.history follows.used
+
+  leads : (event : LocalEvent) (seen : List Notice) → MayHappenHere fragment local event → IsPremisedIn system number event →
+      AllByRecursion (λ entry. IsUsed (with_ids ids number now) entry.call) (after event).history →
+      IsHistoryAt name (notices ++ seen) (after event).history (after event).now →
+      Leads fragment name system number (done_here fragment local event).local (with_ids ids number now)
+      (letters ++ with_names name (done_here fragment local event).sent) (notices ++ seen)
+  leads event seen may premised used history = record {
+    next = after event;
+    own = own_object system.objects number (done_here fragment local event).local;
+    others = λ other apart. other_object system.objects number (done_here fragment local event).local other apart;
+    files = refl;
+    follows = record {
+      reached = reached_next fragment system (SystemEvent.Acts number event) follows.reached (may, premised);
+      posted = posted_more name system.letters (done_here fragment local event).sent letters follows.posted;
+      used = used;
+      history = history;
+    };
+  }
+
+  -- an event that clients do not see
+  quiet : (later : ℕ) → system.now ≤ later → IsHistoryAt name (notices ++ []) system.history later
+  quiet later more =
+      subst (λ xs. IsHistoryAt name xs system.history later) (sym (append-nil notices))
+      (history_later name notices system.history system.now later more follows.history)
+
+  -- a call begins
+  begun_used : (id : ℕ) (entry : Entry) → entry.call ≡ id → IsNextId mine id now →
+      AllByRecursion (λ entry. IsUsed (with_ids ids number now) entry.call) (system.history ++ entry ∷ [])
+  begun_used id entry same next =
+      all_append (λ (e : Entry). IsUsed (with_ids ids number now) e.call) system.history (entry ∷ [])
+      (still_used (next_later mine now id next))
+      (subst (IsUsed (with_ids ids number now)) (sym same) (used_now ids number mine now id own next), tt)
+
+  free : (id : ℕ) → IsNextId mine id now → AllByRecursion (λ entry. entry.call ≡ id → ⊥) system.history
+  free id next = next_free ids number mine now id own next system.history follows.used
+
+  begun_told : (id : ℕ) (entry : Entry) → entry.call ≡ id → IsNextId mine id now →
+      AreTold name notices (system.history ++ entry ∷ [])
+  begun_told id entry same next place ended at =
+      still_told system.history entry ended (follows.history.told place ended at)
+      (subst (λ i. AllByRecursion (λ (e : Entry). e.call ≡ i → ⊥) system.history) (sym same) (free id next))
+
+  not_told : (notice : Notice) → ((ended : Ended) → Some notice ≡ Some (Notice.Tells name ended) → ⊥) → (history : List Entry) →
+      AreTold name (notice ∷ []) history
+  not_told notice never history zero ended at = absurd (never ended at)
+  not_told notice never history (suc place) ended at = absurd (cc)
+
+  -- a call is answered
+  answered_used : (o : Option NodeCall) → AllByRecursion (λ entry. IsUsed (with_ids ids number now) entry.call) system.history →
+      AllByRecursion (λ entry. IsUsed (with_ids ids number now) entry.call) (with_answer o (suc system.now) system.history)
+  answered_used None used = used
+  answered_used (Some call) used =
+      all_map (λ (entry : Entry). IsUsed (with_ids ids number now) entry.call) (answered_entry call (suc system.now))
+      (λ entry u. used_answered (with_ids ids number now) call (suc system.now) entry u) system.history used
+
+  answered_history : (id : ℕ) (o : Option NodeCall) → open_call local.calls id ≡ o →
+      IsHistoryAt name (notices ++ map (Notice.Tells name) (told_if o)) (with_answer o (suc system.now) system.history) (system.now + 1)
+  answered_history id None e = quiet (system.now + 1) (omega arith)
+  answered_history id (Some call) e =
+      let time = suc system.now in
+      let has = open_entry fragment system number id call follows.reached e in
+      let same = told_answer call time system.history in
+      let told : AreTold name notices (map (answered_entry call time) system.history) =
+      λ place ended at. (let was = follows.history.told place ended at in
+      later_told call time ended (open_apart system.history call ended was has) system.history was) in
+      subst (λ history. IsHistoryAt name (notices ++ Notice.Tells name (told_of call) ∷ []) history (system.now + 1)) (sym same)
+      (history_push name notices (Notice.Tells name (told_of call)) system.history system.now time (system.now + 1)
+      ((names_decided name name).1 refl) (omega arith) (omega arith) follows.history
+      (subst (AreTold name notices) same told)
+      (subst (AreTold name (Notice.Tells name (told_of call) ∷ [])) same (one_told call time has)))
+    where
+      one_told : (call : NodeCall) (time : ℕ) → HasEntry system.history call →
+          AreTold name (Notice.Tells name (told_of call) ∷ []) (map (answered_entry call time) system.history)
+      one_told call time has zero ended at =
+          let equal : told_of call ≡ ended = ap (λ (o : Option Notice). ended_in o ended) at in
+          subst (IsToldIn (map (answered_entry call time) system.history)) equal (now_told system.history call time has)
+      one_told call time has (suc place) ended at = absurd (cc)
+
+  pub acted : (event : LocalEvent) → MayHappenHere fragment local event → IsEventFed letters name event →
+      IsEventAllowed number (system.files number).mover event → IsGiven mine (begun_id event) now →
+      Leads fragment name system number (done_here fragment local event).local (with_ids ids number now)
+      (letters ++ with_names name (done_here fragment local event).sent) (notices ++ noticed name local event)
+  acted (LocalEvent.BeginRead id) may fed allowed given =
+      let time = suc system.now in
+      let entry = begun_entry id Read time in
+      leads (LocalEvent.BeginRead id) (Notice.Reads name id ∷ []) may (free id given) (begun_used id entry refl given)
+      (history_push name notices (Notice.Reads name id) system.history system.now time (system.now + 1)
+      ((names_decided name name).1 refl) (omega arith) (omega arith) follows.history (begun_told id entry refl given)
+      (not_told (Notice.Reads name id) (λ ended e. absurd (cc)) (system.history ++ entry ∷ [])))
+  acted (LocalEvent.BeginWrite id value) may fed allowed given =
+      let time = suc system.now in
+      let entry = begun_entry id (Write value) time in
+      leads (LocalEvent.BeginWrite id value) (Notice.Writes name id value ∷ []) may (free id given) (begun_used id entry refl given)
+      (history_push name notices (Notice.Writes name id value) system.history system.now time (system.now + 1)
+      ((names_decided name name).1 refl) (omega arith) (omega arith) follows.history (begun_told id entry refl given)
+      (not_told (Notice.Writes name id value) (λ ended e. absurd (cc)) (system.history ++ entry ∷ [])))
+  acted (LocalEvent.BeginMove id layout) may fed allowed given =
+      let time = suc system.now in
+      let entry = begun_entry id Move time in
+      leads (LocalEvent.BeginMove id layout) (Notice.Moves name id layout ∷ []) may (free id given, allowed)
+      (begun_used id entry refl given)
+      (history_push name notices (Notice.Moves name id layout) system.history system.now time (system.now + 1)
+      ((names_decided name name).1 refl) (omega arith) (omega arith) follows.history (begun_told id entry refl given)
+      (not_told (Notice.Moves name id layout) (λ ended e. absurd (cc)) (system.history ++ entry ∷ [])))
+  acted (LocalEvent.Advance id) may fed allowed given =
+      leads (LocalEvent.Advance id) [] may tt (still_used (given_later mine now None within given))
+      (quiet (after (LocalEvent.Advance id)).now (omega arith))
+  acted (LocalEvent.Serve letter) may fed allowed given =
+      leads (LocalEvent.Serve letter) [] may (follows.posted letter fed) (still_used (given_later mine now None within given))
+      (quiet (after (LocalEvent.Serve letter)).now (omega arith))
+  acted (LocalEvent.Take letter) may fed allowed given =
+      leads (LocalEvent.Take letter) [] may (follows.posted letter fed) (still_used (given_later mine now None within given))
+      (quiet (after (LocalEvent.Take letter)).now (omega arith))
+  acted (LocalEvent.Settle id value) may fed allowed given =
+      leads (LocalEvent.Settle id value) [] may tt (still_used (given_later mine now None within given))
+      (quiet (after (LocalEvent.Settle id value)).now (omega arith))
+  acted (LocalEvent.GiveUp id) may fed allowed given =
+      leads (LocalEvent.GiveUp id) [] may tt (still_used (given_later mine now None within given))
+      (quiet (after (LocalEvent.GiveUp id)).now (omega arith))
+  acted (LocalEvent.Answer id) may fed allowed given =
+      leads (LocalEvent.Answer id) (map (Notice.Tells name) (told_if (open_call local.calls id))) may tt
+      (answered_used (open_call local.calls id) (still_used (given_later mine now None within given)))
+      (answered_history id (open_call local.calls id) refl)

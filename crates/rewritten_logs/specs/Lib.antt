@@ -1,4 +1,0 @@
-pub mod Records
-pub mod Sound
-pub mod Laws
-pub mod Calls
