@@ -17,7 +17,7 @@ use Rattle.record.specs.declared.call.CallKind.TheVariants.{Write, Move}
 use Rattle.record.specs.Legal.{is_move}
 use Rattle.call.specs.Call.{OpenCall as Machine}
 use Rattle.encoder.specs.Fragment.{fragment}
-use Rattle.network.specs.Worlds.{NodeCall, open_call}
+use Rattle.open_calls.specs.OpenCalls.{NodeCall, open_call}
 use Rattle.local_object.specs.declared.letter.Letter.{Letter}
 use Rattle.local_object.specs.Codes.{at_node, carried}
 use Rattle.local_object.specs.Distinct.{HaveOtherIds, HaveDistinctIds, IsCallAt}

@@ -5,7 +5,7 @@ use Rattle.std.proofs.Common.{Option, Some, None, MatchOption}
 use Rattle.std.specs.List.{position, remove}
 use Rattle.std.proofs.lemmas.Option.{get_or_from_slice_get, slice_get_read}
 use Rattle.call.specs.Call.{OpenCall as Machine}
-use Rattle.network.specs.Worlds.{open_call, with_open, without_call}
+use Rattle.open_calls.specs.OpenCalls.{open_call, with_open, without_call}
 use Rattle.local_object.specs.Codes.{at_node, carried}
 use Rattle.local_object.specs.Distinct.{HaveOtherIds, DifferInIds, IsCallAt}
 use Rattle.local_object.proofs.FoundLemmas.{element, first_of}

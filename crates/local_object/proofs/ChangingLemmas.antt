@@ -5,22 +5,22 @@ use Rattle.std.proofs.lemmas.Bool.{false≢true}
 use Rattle.encoder.specs.Fragment.{fragment}
 use Rattle.layout.specs.Layout.{Layout}
 use Rattle.bank.specs.Bank.{Bank}
-use Rattle.bank.specs.Serve.{served_bank}
 use Rattle.bank.specs.declared.request.Request.{Request}
 use Rattle.mail.specs.declared.message.Body.{Body}
 use Rattle.mail.specs.declared.message.Body.TheVariants as body
 use Rattle.local_object.specs.declared.letter.Letter.{Letter}
-use Rattle.local_object.specs.Changing.{HasOnlyHeard, IsUnchangedBy, changes_bank, changes_in_body, is_changed_by}
+use Rattle.local_object.specs.ChangedBanks.{changes_bank, kept_bank}
+use Rattle.local_object.specs.Changing.{HasOnlyHeard, IsUnchangedBy, changes_in_body, is_changed_by}
 use Rattle.local_object.specs.Distinct.{IsBankInOrderIfOpen}
 use Rattle.local_object.specs.Doing.{is_served}
 use Rattle.local_object.specs.Events.{LocalEvent, all_done, learnt_from, served_here}
 use Rattle.local_object.specs.Local.{LocalObject, Place, bank_here, bank_in, bank_or_opened, new_local, heard_place}
 use Rattle.local_object.specs.Local.{with_bank_here}
-use Rattle.local_object.proofs.HeardLayoutLemmas.{bank_here_heard, bank_put_elsewhere, bank_put_there, calls_heard, delta_heard}
+use Rattle.local_object.proofs.HeardLayoutLemmas.{bank_heard, bank_here_heard, bank_put_elsewhere, bank_put_there, calls_heard, delta_heard}
 use Rattle.local_object.proofs.HeardLayoutLemmas.{layout_kept, node_heard}
 use Rattle.local_object.proofs.LearntLemmas.{known_learnt}
 use Rattle.local_object.proofs.PlaceLemmas.{layout_bank}
-use Rattle.local_object.proofs.UnchangedBankLemmas.{either_in_order, unchanged_bank}
+use Rattle.local_object.proofs.UnchangedBankLemmas.{kept_unchanged}
 
 module _ (local : LocalObject) (letter : Letter) where
   abbrev position : ℕ
@@ -37,7 +37,7 @@ module _ (local : LocalObject) (letter : Letter) where
     calls = calls_heard local letter;
     kept = layout_kept local letter;
     heard = λ m layout e. e;
-    banks = λ m member named. bank_here_heard local letter m member;
+    banks = λ m member. bank_here_heard local letter m member;
   }
 
   -- nothing at all happened
@@ -48,39 +48,41 @@ module _ (local : LocalObject) (letter : Letter) where
     calls = refl;
     kept = λ m layout e. e;
     heard = layout_kept local letter;
-    banks = λ m member named. refl;
+    banks = λ m member. refl;
   }
 
-  abbrev old : Bank
-  old = bank_here local position letter.message.member
+  abbrev old : Option Bank
+  old = bank_in (heard_place local.places position)
 
-  abbrev served : Request → Bank
-  served asked = served_bank (bank_here heard position letter.message.member) asked 0
+  abbrev served : Request → Option Bank
+  served asked = kept_bank (bank_in (heard_place heard.places position)) letter.message.member heard.delta asked
 
   -- the bank is put back as it was
   module _ (order : IsBankInOrderIfOpen (bank_in (heard_place local.places position))) where
-    same : (asked : Request) → changes_bank old asked ≡ false → served asked ≡ old
+    same : (asked : Request) → changes_bank (bank_here local position letter.message.member) asked ≡ false
+        → served asked ≡ bank_in (heard_place local.places position)
     same asked e =
-        ap (λ b. served_bank b asked 0) (bank_here_heard local letter position letter.message.member)
-        ∙ unchanged_bank old asked
-        (either_in_order (bank_in (heard_place local.places position)) letter.message.member local.delta order) e
+        ap (λ o. kept_bank o letter.message.member heard.delta asked) (bank_heard local letter position)
+        ∙ ap (λ d. kept_bank old letter.message.member d asked) (delta_heard local letter)
+        ∙ kept_unchanged old letter.message.member local.delta asked order e
 
-    banks : (asked : Request) → changes_bank old asked ≡ false → (m member : ℕ) → (m ≡ position → member ≡ letter.message.member)
+    banks : (asked : Request) → changes_bank (bank_here local position letter.message.member) asked ≡ false → (m member : ℕ)
         → (b : Bool) → eqb m position ≡ b
         → bank_or_opened (bank_in (heard_place (with_bank_here heard.places position (served asked)) m)) member heard.delta
         ≡ bank_here local m member
-    banks asked e m member named true t =
+    banks asked e m member true t =
         let here = eqb-true m position t in
         ap (λ k. bank_or_opened (bank_in (heard_place (with_bank_here heard.places position (served asked)) k)) member heard.delta) here
         ∙ ap (λ o. bank_or_opened o member heard.delta)
-        (bank_put_there heard.places position (served asked) (known_learnt local letter))
-        ∙ same asked e ∙ ap (bank_here local position) (sym (named here)) ∙ ap (λ k. bank_here local k member) (sym here)
-    banks asked e m member named false t =
+        (bank_put_there heard.places position (served asked) (known_learnt local letter) ∙ same asked e)
+        ∙ ap (λ k. bank_or_opened (bank_in (heard_place local.places k)) member heard.delta) (sym here)
+        ∙ ap (bank_or_opened (bank_in (heard_place local.places m)) member) (delta_heard local letter)
+    banks asked e m member false t =
         ap (λ o. bank_or_opened o member heard.delta)
         (bank_put_elsewhere heard.places position (served asked) m (λ e. false≢true (sym t ∙ eq-eqb m position e)))
         ∙ bank_here_heard local letter m member
 
-    put_back : (asked : Request) → changes_bank old asked ≡ false
+    put_back : (asked : Request) → changes_bank (bank_here local position letter.message.member) asked ≡ false
         → HasOnlyHeard local letter (served_here heard letter (body.Request asked)).local
     put_back asked e = record {
       node = node_heard local letter;
@@ -88,7 +90,7 @@ module _ (local : LocalObject) (letter : Letter) where
       calls = calls_heard local letter;
       kept = λ m layout k. layout_bank heard.places position (served asked) m ∙ layout_kept local letter m layout k;
       heard = λ m layout k. sym (layout_bank heard.places position (served asked) m) ∙ k;
-      banks = λ m member named. banks asked e m member named (eqb m position) refl;
+      banks = λ m member. banks asked e m member (eqb m position) refl;
     }
 
     in_body : (b : Body) → changes_in_body (bank_here local position letter.message.member) b ≡ false

@@ -18,7 +18,7 @@ use Rattle.mail.specs.declared.phase.Taken.{Taken}
 use Rattle.record.specs.Fragments.{answer_piece, HasPiece, HasPieces}
 use Rattle.record.specs.Records.{Object, layout_at}
 use Rattle.call.specs.Call.{OpenCall as Machine}
-use Rattle.network.specs.Worlds.{NodeCall}
+use Rattle.open_calls.specs.OpenCalls.{NodeCall}
 use Rattle.local_object.specs.Codes.{at_node}
 use Rattle.local_object.specs.Going.{IsFetchedValue}
 use Rattle.local_object.specs.Local.{Place, layout_in, heard_place}

@@ -85,18 +85,18 @@ module _ (local : LocalObject) (letter : Letter) where
 
 -- Banks that are put
 
-pub bank_put_there : (places : List Place) (n : ℕ) (bank : Bank) → IsSome (heard_place places n)
-    → bank_in (heard_place (with_bank_here places n bank) n) ≡ Some bank
+pub bank_put_there : (places : List Place) (n : ℕ) (bank : Option Bank) → IsSome (heard_place places n)
+    → bank_in (heard_place (with_bank_here places n bank) n) ≡ bank
 bank_put_there [] n bank known = absurd (false≢true known)
 bank_put_there (p ∷ ps) n bank known = go (eqb p.position n) refl known (λ k. bank_put_there ps n bank k)
   where
     go : (b : Bool) → eqb p.position n ≡ b → IsSome (cond b (Some p) (heard_place ps n))
-        → (IsSome (heard_place ps n) → bank_in (heard_place (with_bank_here ps n bank) n) ≡ Some bank)
-        → bank_in (heard_place (cond b (record p { bank = Some bank } ∷ ps) (p ∷ with_bank_here ps n bank)) n) ≡ Some bank
-    go true t known rest = ap (λ b. bank_in (cond b (Some (record p { bank = Some bank })) (heard_place ps n))) t
+        → (IsSome (heard_place ps n) → bank_in (heard_place (with_bank_here ps n bank) n) ≡ bank)
+        → bank_in (heard_place (cond b (record p { bank = bank } ∷ ps) (p ∷ with_bank_here ps n bank)) n) ≡ bank
+    go true t known rest = ap (λ b. bank_in (cond b (Some (record p { bank = bank })) (heard_place ps n))) t
     go false t known rest = ap (λ b. bank_in (cond b (Some p) (heard_place (with_bank_here ps n bank) n))) t ∙ rest known
 
-pub bank_put_elsewhere : (places : List Place) (n : ℕ) (bank : Bank) (m : ℕ) → (m ≡ n → ⊥)
+pub bank_put_elsewhere : (places : List Place) (n : ℕ) (bank : Option Bank) (m : ℕ) → (m ≡ n → ⊥)
     → bank_in (heard_place (with_bank_here places n bank) m) ≡ bank_in (heard_place places m)
 bank_put_elsewhere [] n bank m other = refl
 bank_put_elsewhere (p ∷ ps) n bank m other =
@@ -104,9 +104,9 @@ bank_put_elsewhere (p ∷ ps) n bank m other =
   where
     go : (a b : Bool) → eqb p.position n ≡ a → eqb p.position m ≡ b
         → bank_in (heard_place (with_bank_here ps n bank) m) ≡ bank_in (heard_place ps m)
-        → bank_in (heard_place (cond a (record p { bank = Some bank } ∷ ps) (p ∷ with_bank_here ps n bank)) m)
+        → bank_in (heard_place (cond a (record p { bank = bank } ∷ ps) (p ∷ with_bank_here ps n bank)) m)
         ≡ bank_in (cond b (Some p) (heard_place ps m))
     go true true s t rest = absurd (other (sym (eqb-true p.position m t) ∙ eqb-true p.position n s))
-    go true false s t rest = ap (λ b. bank_in (cond b (Some (record p { bank = Some bank })) (heard_place ps m))) t
+    go true false s t rest = ap (λ b. bank_in (cond b (Some (record p { bank = bank })) (heard_place ps m))) t
     go false true s t rest = ap (λ b. bank_in (cond b (Some p) (heard_place (with_bank_here ps n bank) m))) t
     go false false s t rest = ap (λ b. bank_in (cond b (Some p) (heard_place (with_bank_here ps n bank) m))) t ∙ rest

@@ -1,6 +1,9 @@
 pub mod CarriedCallLemmas
 pub mod FoundLemmas
 pub mod PlaceLemmas
+pub mod HeardPlaceLemmas
+pub mod LastPositionLemmas
+pub mod OneMemberLemmas
 pub mod PieceLemmas
 pub mod LearntLemmas
 pub mod ServeLemmas
@@ -19,3 +22,4 @@ pub mod AgreementLemmas
 pub mod CappedSumLemmas
 pub mod GivenUpCallLemmas
 pub mod ResentLemmas
+pub mod NewObjectLemmas

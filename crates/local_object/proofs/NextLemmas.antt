@@ -13,7 +13,7 @@ use Rattle.call.specs.declared.next.Next.TheVariants as next
 use Rattle.call.specs.Call.{OpenCall as Machine, reached}
 use Rattle.call.specs.Limits.{is_within_limits}
 use Rattle.call.specs.Next.{is_unsettled, leads_back, leads_to}
-use Rattle.network.specs.Events.{IsLacking, IsReady}
+use Rattle.open_calls.specs.OpenCalls.{IsLacking, IsReady}
 use Rattle.local_object.specs.Codes.{at_node}
 use Rattle.local_object.specs.Going.{next_here, unless_again, unless_unsettled}
 

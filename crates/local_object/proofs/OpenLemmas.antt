@@ -12,8 +12,7 @@ use Rattle.record.specs.PhaseOrder.{due}
 use Rattle.call.specs.declared.next.Next.TheVariants as next
 use Rattle.call.specs.Call.{OpenCall as Machine, reached}
 use Rattle.call.specs.Steps.{entered, phase_next, taken_call}
-use Rattle.network.specs.Events.{taking_open}
-use Rattle.network.specs.Worlds.{NodeCall, open_call, due_phase, with_open, without_call}
+use Rattle.open_calls.specs.OpenCalls.{taking_open, NodeCall, open_call, due_phase, with_open, without_call}
 use Rattle.local_object.specs.declared.letter.Letter.{Letter}
 use Rattle.local_object.specs.declared.progress.Ended.{Ended}
 use Rattle.local_object.specs.Codes.{at_node, carried}

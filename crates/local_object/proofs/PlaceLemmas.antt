@@ -21,7 +21,7 @@ found_there number (p ∷ ps) zero place at is before =
       place = p;
       there = refl;
       found = ap (λ b. cond b (Some p) (heard_place ps number)) test;
-      changed = λ bank. ap (λ b. cond b (record p { bank = Some bank } ∷ ps) (p ∷ with_bank_here ps number bank)) test;
+      changed = λ bank. ap (λ b. cond b (record p { bank = bank } ∷ ps) (p ∷ with_bank_here ps number bank)) test;
     }
 found_there number (p ∷ ps) (suc i) place at is before =
     let rest = found_there number ps i place at is (λ k d h. before (suc k) d (omega arith)) in
@@ -29,7 +29,7 @@ found_there number (p ∷ ps) (suc i) place at is before =
       place = rest.place;
       there = rest.there;
       found = ap (λ b. cond b (Some p) (heard_place ps number)) test ∙ rest.found;
-      changed = λ bank. ap (λ b. cond b (record p { bank = Some bank } ∷ ps) (p ∷ with_bank_here ps number bank)) test
+      changed = λ bank. ap (λ b. cond b (record p { bank = bank } ∷ ps) (p ∷ with_bank_here ps number bank)) test
           ∙ ap (λ ps. p ∷ ps) (rest.changed bank);
     }
 
@@ -64,7 +64,7 @@ known_push number (p ∷ ps) place known = go (eqb p.position number) known (λ 
     go true known rest = known
     go false known rest = rest known
 
-pub known_bank : (number : ℕ) (places : List Place) (at : ℕ) (bank : Bank) → IsSome (heard_place places number)
+pub known_bank : (number : ℕ) (places : List Place) (at : ℕ) (bank : Option Bank) → IsSome (heard_place places number)
     → IsSome (heard_place (with_bank_here places at bank) number)
 known_bank number [] at bank known = known
 known_bank number (p ∷ ps) at bank known =
@@ -72,11 +72,11 @@ known_bank number (p ∷ ps) at bank known =
   where
     go : (a b : Bool) → eqb p.position number ≡ b → IsSome (cond b (Some p) (heard_place ps number))
         → (IsSome (heard_place ps number) → IsSome (heard_place (with_bank_here ps at bank) number))
-        → IsSome (heard_place (cond a (record p { bank = Some bank } ∷ ps) (p ∷ with_bank_here ps at bank)) number)
+        → IsSome (heard_place (cond a (record p { bank = bank } ∷ ps) (p ∷ with_bank_here ps at bank)) number)
     go true true t known rest =
-        subst (λ b. IsSome (cond b (Some (record p { bank = Some bank })) (heard_place ps number))) (sym t) refl
+        subst (λ b. IsSome (cond b (Some (record p { bank = bank })) (heard_place ps number))) (sym t) refl
     go true false t known rest =
-        subst (λ b. IsSome (cond b (Some (record p { bank = Some bank })) (heard_place ps number))) (sym t) known
+        subst (λ b. IsSome (cond b (Some (record p { bank = bank })) (heard_place ps number))) (sym t) known
     go false true t known rest =
         subst (λ b. IsSome (cond b (Some p) (heard_place (with_bank_here ps at bank) number))) (sym t) refl
     go false false t known rest =
@@ -166,25 +166,25 @@ module _ {listed items old : List Place} {number i : ℕ} {read : Place} (same :
   bank_is = sym (ap bank_in (read_at listed items old number i read same view at is))
 
   -- the bank that is put there
-  pub bank_put : (f : Option Bank → Bank) (new : Place) → new ≡ record read { bank = Some (f read.bank) }
+  pub bank_put : (f : Option Bank → Option Bank) (new : Place) → new ≡ record read { bank = f read.bank }
       → set items i new ≡ with_bank_here old number (f (bank_in (heard_place old number)))
   bank_put f new made =
-      ap (set items i) (made ∙ ap (λ (p : Place). record p { bank = Some (f p.bank) }) read_is)
-      ∙ ap (λ (ps : List Place). set ps i (record at.place { bank = Some (f at.place.bank) })) (sym same)
+      ap (set items i) (made ∙ ap (λ (p : Place). record p { bank = f p.bank }) read_is)
+      ∙ ap (λ (ps : List Place). set ps i (record at.place { bank = f at.place.bank })) (sym same)
       ∙ sym (at.changed (f at.place.bank))
       ∙ ap (λ (ps : List Place). with_bank_here ps number (f at.place.bank)) (same ∙ view)
       ∙ ap (λ o. with_bank_here old number (f o)) (ap (λ (p : Place). p.bank) (sym read_is) ∙ bank_is)
 
 -- a bank changes no layout
-pub layout_bank : (places : List Place) (n : ℕ) (bank : Bank) (m : ℕ)
+pub layout_bank : (places : List Place) (n : ℕ) (bank : Option Bank) (m : ℕ)
     → layout_in (heard_place (with_bank_here places n bank) m) ≡ layout_in (heard_place places m)
 layout_bank [] n bank m = refl
 layout_bank (p ∷ ps) n bank m = go (eqb p.position n) (eqb p.position m) refl (layout_bank ps n bank m)
   where
     go : (a b : Bool) → eqb p.position m ≡ b → layout_in (heard_place (with_bank_here ps n bank) m) ≡ layout_in (heard_place ps m)
-        → layout_in (heard_place (cond a (record p { bank = Some bank } ∷ ps) (p ∷ with_bank_here ps n bank)) m)
+        → layout_in (heard_place (cond a (record p { bank = bank } ∷ ps) (p ∷ with_bank_here ps n bank)) m)
         ≡ layout_in (cond b (Some p) (heard_place ps m))
-    go true true t rest = ap (λ b. layout_in (cond b (Some (record p { bank = Some bank })) (heard_place ps m))) t
-    go true false t rest = ap (λ b. layout_in (cond b (Some (record p { bank = Some bank })) (heard_place ps m))) t
+    go true true t rest = ap (λ b. layout_in (cond b (Some (record p { bank = bank })) (heard_place ps m))) t
+    go true false t rest = ap (λ b. layout_in (cond b (Some (record p { bank = bank })) (heard_place ps m))) t
     go false true t rest = ap (λ b. layout_in (cond b (Some p) (heard_place (with_bank_here ps n bank) m))) t
     go false false t rest = ap (λ b. layout_in (cond b (Some p) (heard_place (with_bank_here ps n bank) m))) t ∙ rest

@@ -46,7 +46,7 @@ module _ (local : LocalObject) (letter : Letter) (asked : Request) (is : letter.
     };
   }
 
-  pub handled_sent : (places : List Place) (bank : Bank) (kind : Kind) (reply : Reply) (sent : Letter)
+  pub handled_sent : (places : List Place) (bank : Option Bank) (kind : Kind) (reply : Reply) (sent : Letter)
       → places ≡ with_bank_here local.places position bank → kind ≡ kind_of asked
       → reply ≡ reply_to (bank_here local position letter.message.member) asked 0
       → sent ≡ made (layout_in (heard_place places (suc position))) kind reply

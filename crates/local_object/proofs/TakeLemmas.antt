@@ -5,8 +5,7 @@ use Rattle.encoder.specs.Fragment.{fragment}
 use Rattle.bank.specs.declared.reply.Reply.{Reply}
 use Rattle.mail.specs.declared.message.Body.{Body}
 use Rattle.mail.specs.declared.message.Body.TheVariants as body
-use Rattle.network.specs.Events.{taking_open}
-use Rattle.network.specs.Worlds.{open_call, with_open}
+use Rattle.open_calls.specs.OpenCalls.{taking_open, open_call, with_open}
 use Rattle.std.proofs.Common.{List, ◌∷◌, ◌++◌, subst}
 use Rattle.local_object.specs.declared.letter.Letter.{Letter}
 use Rattle.local_object.specs.declared.progress.Ended.{Ended}

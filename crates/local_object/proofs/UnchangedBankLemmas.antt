@@ -25,7 +25,7 @@ use Rattle.bank.proofs.GreatestTagLemmas.{greatest_final_is, opening-opened}
 use Rattle.bank.proofs.MonotoneLemmas.{served_grows}
 use Rattle.bank.proofs.PieceRetentionLemmas.{no_piece, opened_collected, served_collected}
 use Rattle.bank.proofs.RowChangeLemmas.{Comes, get-with_row}
-use Rattle.local_object.specs.Changing.{changes_bank}
+use Rattle.local_object.specs.ChangedBanks.{changes_bank, kept_bank}
 use Rattle.local_object.specs.Distinct.{IsBankInOrder, IsBankInOrderIfOpen}
 use Rattle.local_object.specs.Local.{bank_or_opened}
 
@@ -122,6 +122,29 @@ unchanged_bank bank request.Query order e = refl
 unchanged_bank bank (request.PreWrite tag piece) order e = absurd (cc)
 unchanged_bank bank (request.Finalize tag) order e = finalize_again bank tag order e
 unchanged_bank bank (request.Fetch tag) order e = finalize_again bank tag order e
+
+-- The bank that is kept after a request
+
+-- it is the bank that served the request, also where it is not there, and counts as a newly opened one
+pub kept_served : (bank : Option Bank) (member : ℕ) (delta : Option ℕ) (asked : Request)
+    → bank_or_opened (kept_bank bank member delta asked) member delta ≡ served_bank (bank_or_opened bank member delta) asked 0
+kept_served (Some bank) member delta asked = refl
+kept_served None member delta asked = go (changes_bank opened asked) refl
+  where
+    opened : Bank
+    opened = opened_bank member delta 0
+
+    go : (b : Bool) → changes_bank opened asked ≡ b
+        → bank_or_opened (cond b (Some (served_bank opened asked 0)) None) member delta ≡ served_bank opened asked 0
+    go true e = refl
+    go false e = sym (unchanged_bank opened asked (opened_in_order member delta) e)
+
+-- a request that does not change the bank leaves it as it is, and opens none
+pub kept_unchanged : (bank : Option Bank) (member : ℕ) (delta : Option ℕ) (asked : Request) → IsBankInOrderIfOpen bank
+    → changes_bank (bank_or_opened bank member delta) asked ≡ false → kept_bank bank member delta asked ≡ bank
+kept_unchanged None member delta asked order e =
+    ap (λ b. cond b (Some (served_bank (opened_bank member delta 0) asked 0)) None) e
+kept_unchanged (Some bank) member delta asked order e = ap Some (unchanged_bank bank asked order e)
 
 -- a bank that served a request, or was refused
 pub kept_in_order : {X E : Type 0} (r : Result X E) (old new : Bank) (asked : Request) → IsBankInOrder old

@@ -1,32 +1,17 @@
 -- The contracts that docs/trusted.md lists do not depend on this file; other contracts and proofs do.
 -- Which letters change more than what the node has heard of, once it serves them; and how many bytes its banks store.
-use Rattle.std.specs.Prelude.{◌≡◌, ℕ, ◌&&◌, not, Bool, true, false, Option, None, Some, sum_by}
-use Rattle.tag.specs.Tag.{tag_eq}
+use Rattle.std.specs.Prelude.{◌≡◌, ℕ, ◌&&◌, Bool, false, Option, None, Some, sum_by}
 use Rattle.encoder.specs.Fragment.{fragment}
 use Rattle.layout.specs.Layout.{Layout}
 use Rattle.bank.specs.Bank.{Bank}
 use Rattle.bank.specs.Bytes.{bank_bytes}
-use Rattle.bank.specs.Knowledge.{status_le}
-use Rattle.bank.specs.Pointer.{status_of}
-use Rattle.bank.specs.Serve.{greatest_final}
-use Rattle.bank.specs.declared.request.Request.{Request}
-use Rattle.bank.specs.declared.request.Request.TheVariants as request
 use Rattle.mail.specs.declared.message.Body.{Body}
 use Rattle.mail.specs.declared.message.Body.TheVariants as body
 use Rattle.local_object.specs.declared.letter.Letter.{Letter}
+use Rattle.local_object.specs.ChangedBanks.{changes_bank}
 use Rattle.local_object.specs.Doing.{is_served, serve_events}
 use Rattle.local_object.specs.Events.{all_done, learnt_from}
 use Rattle.local_object.specs.Local.{LocalObject, Place, bank_here, layout_here}
-
--- whether a request may change a bank: it raises the pointer, brings a piece, or finalizes a tag that is not the
--- greatest finalized one
-abbrev pub changes_bank : Bank → Request → Bool
-changes_bank bank request.Next = false
-changes_bank bank (request.Spread status) = not (status_le status (status_of bank.pointer))
-changes_bank bank request.Query = false
-changes_bank bank (request.PreWrite tag piece) = true
-changes_bank bank (request.Finalize tag) = not (tag_eq (greatest_final bank) tag)
-changes_bank bank (request.Fetch tag) = not (tag_eq (greatest_final bank) tag)
 
 -- whether a message with this body is a request that may change a bank
 abbrev pub changes_in_body : Bank → Body → Bool
@@ -44,8 +29,7 @@ is_changed_by local letter =
 abbrev pub after_serving : LocalObject → Letter → LocalObject
 after_serving local letter = (all_done fragment local (serve_events local letter)).local
 
--- after a letter came, the node keeps what it kept before, except that it may have heard of layouts in the letter, and
--- may have opened its bank at the letter's position as the member that the letter names
+-- after a letter came, the node keeps what it kept before, except that it may have heard of layouts in the letter
 pub record HasOnlyHeard (before : LocalObject) (letter : Letter) (after : LocalObject) : Type 0 where
   pub node : after.node ≡ before.node
   pub delta : after.delta ≡ before.delta
@@ -54,10 +38,9 @@ pub record HasOnlyHeard (before : LocalObject) (letter : Letter) (after : LocalO
       layout_here after position ≡ Some layout
   pub heard : (position : ℕ) (layout : Layout) → layout_here after position ≡ Some layout →
       layout_here (learnt_from before letter) position ≡ Some layout
-  pub banks : (position member : ℕ) → (position ≡ letter.message.position → member ≡ letter.message.member) →
-      bank_here after position member ≡ bank_here before position member
+  pub banks : (position member : ℕ) → bank_here after position member ≡ bank_here before position member
 
--- if the node serves the letter, nothing changes but what the node has heard of, and whether its bank is opened
+-- if the node serves the letter, nothing changes but what the node has heard of
 abbrev pub IsUnchangedBy : LocalObject → Letter → Type 0
 IsUnchangedBy local letter = HasOnlyHeard local letter (after_serving local letter)
 

@@ -5,7 +5,7 @@ use Rattle.std.specs.Coded.{Coded, code_by, coded×, coded_list, coded_ℕ, code
 use Rattle.layout.specs.Layout.{Layout}
 use Rattle.bank.specs.Bank.{Bank}
 use Rattle.call.specs.Call.{OpenCall as Machine}
-use Rattle.network.specs.Worlds.{NodeCall}
+use Rattle.open_calls.specs.OpenCalls.{NodeCall}
 use Rattle.local_object.specs.Local.{Place, LocalObject}
 
 -- how a place is encoded: as the tuple of its parts

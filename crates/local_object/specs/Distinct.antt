@@ -28,13 +28,13 @@ pub record IsCallAt (calls : List Machine) (id index : ℕ) : Type 0 where
   pub there : slice_get calls index ≡ Some call
   pub named : call.id ≡ id
 
--- the place of a position is at this index, and a new bank at the position would change this place
+-- the place of a position is at this index, and another bank at the position would change this place
 pub record IsPlaceAt (places : List Place) (number index : ℕ) : Type 0 where
   pub place : Place
   pub there : slice_get places index ≡ Some place
   pub found : heard_place places number ≡ Some place
-  pub changed : (bank : Bank) →
-      with_bank_here places number bank ≡ slice_set places index (record place { bank = Some bank })
+  pub changed : (bank : Option Bank) →
+      with_bank_here places number bank ≡ slice_set places index (record place { bank = bank })
 
 -- a bank has exactly the pieces that it has to keep, and has finalized the opening tag
 pub record IsBankInOrder (bank : Bank) : Type 0 where

@@ -3,7 +3,7 @@
 use Rattle.std.specs.Prelude.{List, [], ◌∷◌, ◌++◌, Option, None, Some}
 use Rattle.record.specs.Fragments.{Code}
 use Rattle.record.specs.Journals.{operation_of, entry_value}
-use Rattle.network.specs.Worlds.{NodeCall, open_call}
+use Rattle.open_calls.specs.OpenCalls.{NodeCall, open_call}
 use Rattle.local_object.specs.declared.progress.Ended.{Ended}
 use Rattle.local_object.specs.Local.{LocalObject}
 use Rattle.local_object.specs.Events.{LocalEvent, done_here}

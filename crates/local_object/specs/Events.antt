@@ -4,7 +4,7 @@ use Rattle.std.specs.Prelude.{ℕ, suc, List, [], ◌∷◌, ◌++◌, map, Opti
 use Rattle.layout.specs.Layout.{Layout}
 use Rattle.piece.specs.declared.piece.Piece.{Piece}
 use Rattle.bank.specs.Bank.{empty_piece}
-use Rattle.bank.specs.Serve.{served_bank, reply_to}
+use Rattle.bank.specs.Serve.{reply_to}
 use Rattle.bank.specs.declared.kind.Kind.{Kind}
 use Rattle.bank.specs.declared.kind.Kind.TheVariants.{Next, Spread}
 use Rattle.bank.specs.declared.reply.Answer.{Answer as BankAnswer}
@@ -25,11 +25,12 @@ use Rattle.record.specs.Legal.{first_stage}
 use Rattle.record.specs.PhaseOrder.{begun_at}
 use Rattle.record.specs.Sending.{fragment_piece, requests, sent_value, value_or_empty}
 use Rattle.record.specs.Steps.{new_phase}
-use Rattle.network.specs.Worlds.{NodeCall, open_call, with_open, without_call, stage_reached, due_phase}
-use Rattle.network.specs.Events.{taking_open}
+use Rattle.open_calls.specs.OpenCalls.{NodeCall, open_call, with_open, without_call, stage_reached, due_phase}
+use Rattle.open_calls.specs.OpenCalls.{taking_open}
 use Rattle.local_object.specs.declared.letter.Letter.{Letter}
-use Rattle.local_object.specs.Local.{LocalObject, layout_here, bank_here, with_bank_here, with_heard, learnt_if}
-use Rattle.local_object.specs.Local.{last_position}
+use Rattle.local_object.specs.ChangedBanks.{kept_bank}
+use Rattle.local_object.specs.Local.{LocalObject, layout_here, bank_here, bank_in, heard_place, with_bank_here}
+use Rattle.local_object.specs.Local.{last_position, with_heard, learnt_if}
 
 -- what a node does with one object; a call is named by its id
 pub data LocalEvent : Type 0 where
@@ -155,13 +156,16 @@ on_open_call local (Some call) change = change call
 
 -- Messages
 
--- after the node's bank serves a request, and its reply is sent
+-- after the node's bank serves a request, and its reply is sent; a bank that this opens is kept only if the request may
+-- change it
 abbrev pub handled_here : LocalObject → Letter → Request → Outcome
 handled_here local letter asked =
     let place = letter.message.position in
-    let bank = bank_here local place letter.message.member in record {
-      local = record local { places = with_bank_here local.places place (served_bank bank asked 0) };
-      sent = letter_of local letter.layout (answered letter.message (reply_to bank asked 0)) ∷ [];
+    let member = letter.message.member in
+    let old = bank_in (heard_place local.places place) in
+    let reply = reply_to (bank_here local place member) asked 0 in record {
+      local = record local { places = with_bank_here local.places place (kept_bank old member local.delta asked) };
+      sent = letter_of local letter.layout (answered letter.message reply) ∷ [];
     }
 
 -- after the node serves a letter with this body if it is a request; a reply changes nothing

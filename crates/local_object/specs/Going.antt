@@ -21,8 +21,7 @@ use Rattle.local_object.specs.Doing.{IsDone}
 use Rattle.local_object.specs.Ended.{all_told}
 use Rattle.local_object.specs.Events.{LocalEvent, Outcome, on_open_call, silent}
 use Rattle.mail.specs.declared.message.Message.{Message}
-use Rattle.network.specs.Events.{taking_open}
-use Rattle.network.specs.Worlds.{open_call, with_open}
+use Rattle.open_calls.specs.OpenCalls.{taking_open, open_call, with_open}
 use Rattle.local_object.specs.Letters.{letter_in}
 use Rattle.local_object.specs.Pieces.{first_pieces}
 use Rattle.local_object.specs.Local.{LocalObject, Place, layout_in, heard_place}

@@ -1,4 +1,5 @@
 pub mod Local
+pub mod ChangedBanks
 pub mod Events
 pub mod May
 pub mod Codes
@@ -13,4 +14,6 @@ pub mod Taking
 pub mod Agreement
 pub mod Changing
 pub mod Resent
+pub mod New
+pub mod Restarts
 pub mod Sent

@@ -3,9 +3,10 @@
 use Rattle.std.specs.Prelude.{ℕ, ◌==◌, if◌then◌else◌, List, [], ◌∷◌, ◌++◌, Option, None, Some, nat_lt}
 use Rattle.layout.specs.Layout.{Layout}
 use Rattle.bank.specs.Bank.{Bank, opened_bank}
-use Rattle.network.specs.Worlds.{NodeCall}
+use Rattle.open_calls.specs.OpenCalls.{NodeCall}
 
--- what a node keeps for a position that it has heard of: the layout, and its bank once a request for it has come
+-- what a node keeps for a position that it has heard of: the layout, and its bank once a request has come that may
+-- change it
 pub record Place : Type 0 where
   pub position : ℕ
   pub layout : Layout
@@ -52,15 +53,15 @@ abbrev pub bank_in : Option Place → Option Bank
 bank_in None = None
 bank_in (Some place) = place.bank
 
--- the bank that the node keeps for a position as this member; before the first request it is a newly opened one
+-- the bank that the node keeps for a position as this member; before such a request it is a newly opened one
 abbrev pub bank_here : LocalObject → (position member : ℕ) → Bank
 bank_here local position member = bank_or_opened (bank_in (heard_place local.places position)) member local.delta
 
--- the places with this bank at the position
-abbrev pub with_bank_here : List Place → (position : ℕ) → Bank → List Place
+-- the places with this bank at the position, or without a bank there
+abbrev pub with_bank_here : List Place → (position : ℕ) → Option Bank → List Place
 with_bank_here [] position bank = []
 with_bank_here (place ∷ places) position bank =
-    if place.position == position then record place { bank = Some bank } ∷ places
+    if place.position == position then record place { bank = bank } ∷ places
     else place ∷ with_bank_here places position bank
 
 -- the places after the node hears of a position and its layout: one more if it had not heard of that position

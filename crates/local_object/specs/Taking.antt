@@ -11,7 +11,7 @@ use Rattle.call.specs.declared.next.Next.TheVariants as next
 use Rattle.call.specs.Call.{OpenCall as Machine}
 use Rattle.mail.specs.declared.message.Message.{Message}
 use Rattle.mail.specs.Phase.{Phase, has_taken}
-use Rattle.network.specs.Worlds.{NodeCall, open_call}
+use Rattle.open_calls.specs.OpenCalls.{NodeCall, open_call}
 use Rattle.local_object.specs.declared.letter.Letter.{Letter}
 use Rattle.local_object.specs.declared.progress.Ended.{Ended}
 use Rattle.local_object.specs.Coding.{is_sendable}

@@ -4,7 +4,8 @@ ghost use Rattle.std.specs.Prelude.{◌≡◌, ℕ, not, Option, option_copied};
 ghost use Rattle.bank.specs.Knowledge.{status_le};
 ghost use Rattle.bank.specs.Pointer.{status_of};
 ghost use Rattle.bank.specs.Serve.{greatest_final};
-ghost use Rattle.local_object.specs.Changing.{changes_bank, changes_in_body};
+ghost use Rattle.local_object.specs.ChangedBanks.{changes_bank};
+ghost use Rattle.local_object.specs.Changing.{changes_in_body};
 ghost use Rattle.local_object.specs.Local.{bank_or_opened};
 
 use bank::{Answer, Bank, Request, Status};
@@ -23,8 +24,8 @@ pub(crate) fn changes(bank: Option<&Bank>, body: &Body) -> bool
     }
 }
 
-// Whether a request may change a bank.
-fn is_changed(bank: Option<&Bank>, request: &Request) -> bool
+/// Returns whether a request may change a bank. A bank that is not there counts as a newly opened one.
+pub(crate) fn is_changed(bank: Option<&Bank>, request: &Request) -> bool
     ensures { (member : ℕ) (delta : Option ℕ)
         → result ≡ changes_bank (bank_or_opened (option_copied bank.entry) member delta) request.now }
 {

@@ -1,8 +1,12 @@
 //! What a node keeps for one position.
 
-ghost use Rattle.std.specs.Prelude.{◌≡◌, ◌-◌, ◌^◌, min, IfOk, IfErr, OnOk, Some, option_copied};
+ghost use Rattle.std.specs.Prelude.{◌≡◌, ◌-◌, ◌^◌, min, IfOk, IfErr, OnOk, None, option_copied};
 ghost use Rattle.tag.specs.declared.refusal.Refusal.TheVariants.{NoMemory};
+ghost use Rattle.bank.specs.Bank.{opened_bank};
+ghost use Rattle.bank.specs.Serve.{reply_to};
+ghost use Rattle.local_object.specs.ChangedBanks.{kept_bank};
 
+use crate::changes::is_changed;
 use bank::{Bank, Reply, Request};
 use layout::Layout;
 use std::alloc::Global;
@@ -14,7 +18,7 @@ use tag::Refusal;
 pub struct Place {
     position: u32,
     layout: Layout,
-    // The node's bank for this position. None before a request has reached it.
+    // The node's bank for this position. None before a request has changed it.
     bank: Option<Bank>,
 }
 
@@ -35,10 +39,10 @@ impl Model for Place {
 }
 
 impl Place {
-    ghost use Rattle.bank.specs.Serve.{served_bank, reply_to};
     ghost use Rattle.local_object.specs.Changing.{place_bytes};
     ghost use Rattle.local_object.specs.Distinct.{IsBankInOrderIfOpen};
     ghost use Rattle.local_object.specs.Local.{bank_or_opened};
+    ghost use Rattle.local_object.specs.New.{is_new_place};
 
     /// Makes a position of this layout, without a bank.
     pub(crate) fn new(position: u32, layout: Layout) -> Place
@@ -65,12 +69,20 @@ impl Place {
         &self.layout
     }
 
-    /// The bank, once a request for it has come.
+    /// The bank, once a request has changed it.
     pub fn bank(&self) -> Option<&Bank>
         ensures bank { option_copied result ≡ self.now.bank }
         ensures order { IsBankInOrderIfOpen self.now.bank }
     {
         self.bank.as_ref()
+    }
+
+    /// Returns whether the place is position 0 with this layout, and without a bank.
+    pub(crate) fn is_new(&self, first: &Layout) -> bool
+        ensures { result ≡ is_new_place first.now self.now }
+    {
+        let is_first = self.position == 0;
+        is_first && self.bank.is_none() && self.layout == *first
     }
 
     /// The number of bytes of all pieces in the bank, or `u64::MAX` if there are more.
@@ -83,7 +95,8 @@ impl Place {
         }
     }
 
-    /// The node's bank serves a request as this member. If the bank is not there, it is opened first.
+    /// The node's bank serves a request as this member. If the bank is not there, a newly opened one serves the
+    /// request, and is kept if the request may change it.
     ///
     /// `NoMemory` is the only refusal.
     pub(crate) fn serve(
@@ -94,7 +107,7 @@ impl Place {
         request: &Request,
     ) -> Result<Reply, Refusal>
         ensures bank { OnOk result (self.new ≡ record self.old {
-          bank = Some (served_bank (bank_or_opened self.old.bank member delta) request.now 0);
+          bank = kept_bank self.old.bank member delta request.now;
         }) }
 
         ensures reply { IfOk result (λ r. r ≡ reply_to (bank_or_opened self.old.bank member delta) request.now 0) }
@@ -104,11 +117,30 @@ impl Place {
         match &mut self.bank {
             Some(bank) => bank.serve(request, 0),
             None => {
-                let mut bank = Bank::new(alloc, member, delta, 0)?;
-                let reply = bank.serve(request, 0)?;
-                self.bank = Some(bank);
+                let (reply, bank) = serve_opened(alloc, member, delta, request)?;
+                self.bank = bank;
                 Ok(reply)
             }
         }
+    }
+}
+
+// A newly opened bank serves a request as this member. Returns the reply, and the bank if the request may change it.
+fn serve_opened(
+    alloc: Global,
+    member: u8,
+    delta: Option<u32>,
+    request: &Request,
+) -> Result<(Reply, Option<Bank>), Refusal>
+    ensures reply { IfOk result (λ it. it.0 ≡ reply_to (opened_bank member delta 0) request.now 0) }
+    ensures bank { IfOk result (λ it. it.1 ≡ kept_bank None member delta request.now) }
+    ensures refused { IfErr result (λ e. e ≡ NoMemory) }
+{
+    let mut bank = Bank::new(alloc, member, delta, 0)?;
+    let reply = bank.serve(request, 0)?;
+    if is_changed(None, request) {
+        Ok((reply, Some(bank)))
+    } else {
+        Ok((reply, None))
     }
 }

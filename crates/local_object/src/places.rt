@@ -3,11 +3,13 @@
 ghost use Rattle.std.specs.Prelude.{◌≡◌, ◌==◌, [], ◌∷◌, None, IfOk, IfErr, OnOk, IsSome, MatchOption, option_copied};
 ghost use Rattle.std.specs.Prelude.{if◌then◌else◌, nat_lt, position, ◌-◌, ◌^◌, min, sum_by};
 ghost use Rattle.tag.specs.declared.refusal.Refusal.TheVariants.{NoMemory};
-ghost use Rattle.bank.specs.Serve.{served_bank, reply_to};
+ghost use Rattle.bank.specs.Serve.{reply_to};
 ghost use Rattle.local_object.specs.Local.{added_place, bank_in, bank_or_opened, greatest_position, layout_in};
 ghost use Rattle.local_object.specs.Local.{heard_place, with_bank_here};
+ghost use Rattle.local_object.specs.ChangedBanks.{kept_bank};
 ghost use Rattle.local_object.specs.Changing.{place_bytes};
 ghost use Rattle.local_object.specs.Distinct.{IsBankInOrderIfOpen, IsPlaceAt};
+ghost use Rattle.local_object.specs.New.{are_new_places};
 
 use crate::place::Place;
 use bank::{Bank, Reply, Request};
@@ -74,7 +76,7 @@ impl Places {
         }
     }
 
-    /// The bank that the node keeps for a position, if a request for it has come.
+    /// The bank that the node keeps for a position, if a request has changed it.
     pub(crate) fn bank_of(&self, position: u32) -> Option<&Bank>
         ensures bank { option_copied result ≡ bank_in (heard_place self.now position) }
         ensures order { IsBankInOrderIfOpen (bank_in (heard_place self.now position)) }
@@ -83,6 +85,13 @@ impl Places {
             Some(index) => self.places[index].bank(),
             None => None,
         }
+    }
+
+    /// Returns whether position 0 with this layout, and without a bank, is the only position.
+    pub(crate) fn are_new(&self, first: &Layout) -> bool
+        ensures { result ≡ are_new_places first.now self.now }
+    {
+        self.places.len() == 1 && self.places[0].is_new(first)
     }
 
     /// The number of bytes of all pieces in the banks, or `u64::MAX` if there are more.
@@ -127,7 +136,8 @@ impl Places {
         }
     }
 
-    /// The node's bank for a position serves a request as this member.
+    /// The node's bank for a position serves a request as this member. A bank that this opens is kept if the request
+    /// may change it.
     ///
     /// `NoMemory` is the only refusal.
     pub(crate) fn serve(
@@ -139,7 +149,7 @@ impl Places {
     ) -> Result<Reply, Refusal>
         requires known { IsSome (heard_place self.old position) }
         ensures places { OnOk result (self.new ≡ with_bank_here self.old position
-            (served_bank (bank_or_opened (bank_in (heard_place self.old position)) member delta) request.now 0)) }
+            (kept_bank (bank_in (heard_place self.old position)) member delta request.now)) }
 
         ensures reply { IfOk result (λ r. r
             ≡ reply_to (bank_or_opened (bank_in (heard_place self.old position)) member delta) request.now 0) }

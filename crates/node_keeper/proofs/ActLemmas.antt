@@ -10,7 +10,7 @@ use Rattle.deeds.specs.Kept.{KeptNode}
 use Rattle.deeds.specs.Named.{NamedLetter as Named, IsOneOf}
 use Rattle.deeds.proofs.HandledLemmas.{nothing_handled}
 use Rattle.deeds.proofs.IdLemmas.{later_same}
-use Rattle.deeds.proofs.ListLemmas.{all_append, all_weaker}
+use Rattle.open_calls.proofs.ListLemmas.{all_append, all_weaker}
 use Rattle.recoveries.specs.Copies.{IsLogged}
 use Rattle.recoveries.specs.Records.{LogRecord}
 use Rattle.recoveries.specs.Stops.{IsHandledSafely, Output as Left, logged_first, sent_in}
@@ -31,7 +31,7 @@ use Rattle.node_keeper.proofs.SendingLemmas.{to_itself_append}
 use Rattle.node_keeper.proofs.WantLemmas.{in_order, left_append, left_ordered, left_sent, outputs_append, outputs_ordered}
 use Rattle.node_keeper.proofs.WantLemmas.{records_append, records_ordered, sends_append, sends_ordered}
 
--- what leaves the node, and what clients see, may be given in other words
+-- in `IsHandledSafely`, equal outputs and equal notices may take the place of those that are there
 pub safe_as : (old : KeptNode) (got : List Named) (outputs also : List Left) (new : KeptNode) (notices too : List Seen) →
     IsHandledSafely fragment old got outputs new notices → also ≡ outputs → too ≡ notices →
     IsHandledSafely fragment old got also new too
@@ -115,7 +115,7 @@ acts_rest asker got keeper before after growth grown outputs own notices = recor
   digest = refl;
 }
 
--- what a node does twice in a row it does at once, where the second time it uses what had come, or what it sent
+-- two acts, one after the other, are one act, if the second uses only letters that had come or that the first sent
 pub acts_then : (asker other : ℕ) (got more : List Named) (a b c : Keeper) (u v w : Work) →
     (first : Acts asker got a u b v) → Acts other more b v c w →
     ((send : Sending) → IsDirected a.ids.node other send → IsDirected a.ids.node asker send) →
@@ -167,7 +167,7 @@ none_of got letter is = absurd (go is.0 is.1)
     go : (i : ℕ) → slice_get [] i ≡ Some letter → ⊥
     go i e = cc
 
--- the same, where the second time it uses no letter
+-- two acts, one after the other, are one act, if the second uses no letter
 pub acts_more : (asker : ℕ) (got : List Named) (a b c : Keeper) (u v w : Work) → Acts asker got a u b v →
     Acts asker [] b v c w → Acts asker got a u c w
 acts_more asker got a b c u v w first second =

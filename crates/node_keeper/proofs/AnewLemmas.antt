@@ -6,14 +6,14 @@ use Rattle.std.proofs.lemmas.Option.{slice_get-get_or}
 use Rattle.std.specs.List.{AllByRecursion}
 use Rattle.local_object.specs.declared.letter.Letter.{Letter}
 use Rattle.deeds.specs.Kept.{KeptNode}
-use Rattle.deeds.proofs.ListLemmas.{all_append}
+use Rattle.open_calls.proofs.ListLemmas.{all_append}
 use Rattle.node_effects.specs.Errors.{WritesOrFails}
 use Rattle.node_effects.specs.declared.error.NodeError.{NodeError}
 use Rattle.node_effects.proofs.ErrorLemmas.{start_fits}
 use Rattle.node_keeper.specs.Objects.{heard_names}
 use Rattle.object_letters.specs.Letters.{letters_as}
 use Rattle.recoveries.specs.Records.{LogRecord}
-use Rattle.rewritten_logs.specs.Records.{epoch_records, object_records}
+use Rattle.recoveries.specs.RewrittenRecords.{epoch_records, object_records}
 use Rattle.node_strings.specs.Strings.{Strings}
 use Rattle.node_keeper.specs.Anew.{name_records}
 use Rattle.node_keeper.specs.Fitting.{IsLoggable}
@@ -41,6 +41,21 @@ entries_more digest before now after records more first second =
     second ∙ ap (λ (xs : List Strings). xs ++ map entry more) first
     ∙ append_assoc before (map entry records) (map entry more)
     ∙ ap (λ (xs : List Strings). before ++ xs) (sym (map-append entry records more))
+
+-- one more letter was logged
+pub letters_push : (digest name : List ℕ) (before now after : List Strings) (done : List Letter) (letter : Letter) →
+    (now ≡ before ++ map (log_entry_of digest) (map (LogRecord.Serves name) done)) ×
+    AllByRecursion (IsLoggable digest) (map (LogRecord.Serves name) done) →
+    after ≡ now ++ log_entry_of digest (LogRecord.Serves name letter) ∷ [] → IsLoggable digest (LogRecord.Serves name letter) →
+    (after ≡ before ++ map (log_entry_of digest) (map (LogRecord.Serves name) (done ++ letter ∷ []))) ×
+    AllByRecursion (IsLoggable digest) (map (LogRecord.Serves name) (done ++ letter ∷ []))
+letters_push digest name before now after done letter held added fits =
+    subst (λ (records : List LogRecord).
+    (after ≡ before ++ map (log_entry_of digest) records) × AllByRecursion (IsLoggable digest) records)
+    (sym (map-append (LogRecord.Serves name) done (letter ∷ []))) (
+      entries_more digest before now after (map (LogRecord.Serves name) done) (LogRecord.Serves name letter ∷ []) held.0 added,
+      all_append (IsLoggable digest) (map (LogRecord.Serves name) done) (LogRecord.Serves name letter ∷ []) held.1 (fits, tt),
+    )
 
 pub epochs_push : (count : ℕ) → epoch_records (suc count) ≡ epoch_records count ++ LogRecord.Starts ∷ []
 epochs_push zero = refl

@@ -39,7 +39,7 @@ use Rattle.node_keeper.specs.NextIds.{IsNoEpoch}
 use Rattle.node_keeper.specs.Delivering.{CanServe, CanTake}
 use Rattle.node_keeper.specs.Sendings.{Sending, asked, member_or, message_of, reply_sendings, sending}
 use Rattle.node_keeper.specs.declared.keeper.Keeper.{Keeper}
-use Rattle.deeds.proofs.ListLemmas.{all_append}
+use Rattle.open_calls.proofs.ListLemmas.{all_append}
 use Rattle.node_keeper.proofs.SendingLemmas.{asked_append}
 
 -- what needs more to be written does not fit either

@@ -12,8 +12,8 @@ use Rattle.deeds.specs.Named.{is_same_name}
 use Rattle.deeds.proofs.NameLemmas.{names_decided}
 use Rattle.node_keeper.specs.Objects.{first_layout_of, found_or_new, heard_names, new_of, objects_of}
 use Rattle.object_letters.specs.Leading.{can_be_led_to}
-use Rattle.rewritten_logs.specs.Records.{is_among}
-use Rattle.rewritten_logs.specs.Sound.{AreDistinctNames, AreHeardNames, CanBeWrittenAnew, HasOwnObjects}
+use Rattle.recoveries.specs.RewrittenRecords.{is_among}
+use Rattle.recoveries.specs.RewritingNodes.{AreDistinctNames, AreHeardNames, CanBeWrittenAnew, HasOwnObjects}
 use Rattle.node_keeper.specs.Keeping.{kept_of}
 use Rattle.node_keeper.specs.declared.keeper.Keeper.{Keeper}
 

@@ -13,7 +13,7 @@ use Rattle.node_effects.specs.declared.error.NodeError.{NodeError}
 use Rattle.node_effects.specs.declared.error.NodeError.TheVariants as errors
 use Rattle.node_keeper.specs.NextIds.{IsNoEpoch, IsNoId, next_id_of}
 
--- what gives ids afterwards is within its ranges
+-- the source of ids stays within its ranges: the node, the epoch and the count fit into an id
 pub ids_within : (before after : CallIds) (deeds : List Deed) → HaveNextIds before deeds after → HasRanges after
 ids_within before after [] ids = ids.within
 ids_within before after (deed ∷ deeds) ids = ids_within ids.0 after deeds ids.2
@@ -68,7 +68,7 @@ next_then ids next none is = go (nat_lt ids.given (2 ^ 32)) none
     go true e = absurd (cc)
     go false e = is
 
--- where no id is left, none is given away
+-- if no id is left, asking for one changes nothing
 pub after_none : (ids : CallIds) → next_given_id ids ≡ None → after_given ids ≡ ids
 after_none ids none = go (nat_lt ids.given (2 ^ 32)) none
   where

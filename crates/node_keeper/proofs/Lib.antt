@@ -16,4 +16,5 @@ pub mod RequestLemmas
 pub mod ResultLemmas
 pub mod SeenLemmas
 pub mod SendingLemmas
+pub mod SparedLemmas
 pub mod WantLemmas

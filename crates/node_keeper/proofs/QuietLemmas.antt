@@ -7,7 +7,7 @@ use Rattle.call.specs.Call.{OpenCall as Machine}
 use Rattle.call.specs.declared.next.Next.{Next}
 use Rattle.call.specs.declared.next.Next.TheVariants as next
 use Rattle.deeds.specs.CallId.{CallIds}
-use Rattle.network.specs.Worlds.{NodeCall, open_call}
+use Rattle.open_calls.specs.OpenCalls.{NodeCall, open_call}
 use Rattle.local_object.specs.declared.letter.Letter.{Letter}
 use Rattle.local_object.specs.declared.progress.Ended.{Ended}
 use Rattle.local_object.specs.Doing.{IsDone, give_up_events, gives_up, is_served, serve_events}
@@ -22,7 +22,7 @@ use Rattle.deeds.specs.Ids.{IsLater}
 use Rattle.deeds.specs.May.{IsEventFed}
 use Rattle.deeds.specs.Named.{NamedLetter as Named, with_names}
 use Rattle.deeds.proofs.IdLemmas.{later_same}
-use Rattle.deeds.proofs.ListLemmas.{all_append, all_weaker}
+use Rattle.open_calls.proofs.ListLemmas.{all_append, all_weaker}
 use Rattle.deeds.proofs.MethodLemmas.{BeginsNone, if_all, quiet_handled}
 use Rattle.recoveries.specs.Copies.{IsLogged}
 use Rattle.recoveries.specs.Records.{LogRecord}

@@ -10,7 +10,7 @@ use Rattle.encoder.specs.Fragment.{fragment}
 use Rattle.layout.specs.Layout.{Layout}
 use Rattle.mail.specs.declared.message.Body.{Body}
 use Rattle.mail.specs.declared.message.Body.TheVariants as body
-use Rattle.network.specs.Worlds.{NodeCall, due_phase, open_call}
+use Rattle.open_calls.specs.OpenCalls.{NodeCall, due_phase, open_call}
 use Rattle.piece.specs.declared.piece.Piece.{Piece}
 use Rattle.record.specs.declared.call.CallKind.{CallKind}
 use Rattle.record.specs.declared.call.CallKind.TheVariants.{Read, Write, Move}
@@ -26,7 +26,7 @@ use Rattle.local_object.specs.Events.{on_open_call, pieces_here, served_here, si
 use Rattle.local_object.specs.Local.{LocalObject, last_position, layout_here, with_heard}
 use Rattle.local_object.specs.Resent.{IsResent, current_letters}
 use Rattle.deeds.specs.Ids.{begun_id}
-use Rattle.deeds.proofs.ListLemmas.{all_append, all_weaker}
+use Rattle.open_calls.proofs.ListLemmas.{all_append, all_weaker}
 
 -- the letter is a request
 abbrev pub Asks : Letter → Type 0

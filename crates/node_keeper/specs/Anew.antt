@@ -4,7 +4,7 @@ use Rattle.std.specs.Prelude.{ℕ, List, map}
 use Rattle.node_keeper.specs.Objects.{heard_names, objects_of}
 use Rattle.object_letters.specs.Letters.{letters_as}
 use Rattle.recoveries.specs.Records.{LogRecord}
-use Rattle.rewritten_logs.specs.Records.{object_records, rewritten_records}
+use Rattle.recoveries.specs.RewrittenRecords.{object_records, rewritten_records}
 use Rattle.node_keeper.specs.Keeping.{kept_of}
 use Rattle.node_keeper.specs.declared.keeper.Keeper.{Keeper}
 
@@ -12,7 +12,7 @@ use Rattle.node_keeper.specs.declared.keeper.Keeper.{Keeper}
 abbrev pub name_records : (name : List ℕ) → Keeper → List LogRecord
 name_records name keeper = map (LogRecord.Serves name) (letters_as keeper.ids.node (objects_of keeper.objects name))
 
--- those of all objects of which the node has heard
+-- those of all objects in the node's map
 abbrev pub object_records_of : Keeper → List LogRecord
 object_records_of keeper = object_records (kept_of keeper) (heard_names keeper.objects)
 

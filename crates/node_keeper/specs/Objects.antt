@@ -1,6 +1,6 @@
 -- The contracts that docs/trusted.md lists do not depend on this file; other contracts and proofs do.
 -- What a node keeps of all objects, by name.
-use Rattle.std.specs.Prelude.{◌≡◌, ℕ, nat_eq, List, Option, None, Some, slice_get, sum_by}
+use Rattle.std.specs.Prelude.{◌≡◌, ◌≢◌, ℕ, nat_eq, List, Option, None, Some, slice_get, sum_by}
 use Rattle.std.specs.Cmp.Lexicographic.{pointwise}
 use Rattle.indexmap.specs.IndexMap.{get, keys, values}
 use Rattle.layout.specs.Layout.{Layout}
@@ -27,7 +27,7 @@ found_or_new (Some local) new = local
 abbrev pub objects_of : Objects → (name : List ℕ) → LocalObject
 objects_of objects name = found_or_new (get (pointwise nat_eq) objects.by_name name) (new_of objects name)
 
--- the names of the objects of which the node has heard, in the order in which it heard of them
+-- the names of the objects in the map, in the map's order; every other object is a new one
 abbrev pub heard_names : Objects → List (List ℕ)
 heard_names objects = keys objects.by_name
 
@@ -35,6 +35,11 @@ heard_names objects = keys objects.by_name
 pub record IsHeardAt (objects : Objects) (index : ℕ) (name : List ℕ) (local : LocalObject) : Type 0 where
   pub there : slice_get (heard_names objects) index ≡ Some name
   pub found : get (pointwise nat_eq) objects.by_name name ≡ Some local
+
+-- the object of this name takes no memory if it is a new one: it is not in the map
+abbrev pub IsSpared : Objects → (name : List ℕ) → Type 0
+IsSpared objects name =
+    (local : LocalObject) → get (pointwise nat_eq) objects.by_name name ≡ Some local → local ≢ new_of objects name
 
 -- the number of bytes of all pieces in the banks that the node keeps
 abbrev pub bytes_in_banks : Objects → ℕ

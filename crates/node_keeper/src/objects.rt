@@ -1,11 +1,13 @@
 //! All objects of a node, by name.
-ghost use Rattle.std.specs.Prelude.{◌≡◌, ℕ, nat_eq, IfErr, IfOk, IsSome, List, None, OnErr, OnOk};
+ghost use Rattle.std.specs.Prelude.{◌≡◌, ◌↔◌, ℕ, nat_eq, true, IfErr, IfOk, IsSome, List, None, OnErr, OnOk};
+ghost use Rattle.std.specs.Prelude.{Option, Some};
+ghost use Rattle.layout.specs.Layout.{Layout};
 ghost use Rattle.std.specs.Cmp.Lexicographic.{pointwise};
 ghost use Rattle.tag.specs.declared.refusal.Refusal.TheVariants.{NoMemory};
 ghost use Rattle.indexmap.specs.IndexMap.{get};
 ghost use Rattle.cluster_file.specs.Placement.{placed};
-ghost use Rattle.local_object.specs.Local.{new_local};
-ghost use Rattle.node_keeper.specs.Objects.{AreSame, new_of, objects_of};
+ghost use Rattle.local_object.specs.Local.{LocalObject, new_local};
+ghost use Rattle.node_keeper.specs.Objects.{AreSame, IsSpared, new_of, objects_of};
 
 use bytes::Bytes;
 use cluster_file::ClusterNodes;
@@ -21,7 +23,8 @@ mod replies;
 mod requests;
 
 /// What a node keeps of all its objects, each under its name. Any bytes are a name. An object of which the node has not
-/// heard counts as a new one, with the layout that placement gives its name.
+/// heard counts as a new one, with the layout that placement gives its name. So an object that equals a new one leaves
+/// the map as soon as a request was served or a call ended.
 ///
 /// If a function is refused with `NoMemory`, its contract says nothing about the objects, because the node stops and
 /// starts again from its log. Every other refusal changes no object.
@@ -33,7 +36,7 @@ pub struct Objects {
     delta: Option<u32>,
     // The layout that the object of each name has before any move.
     placement: ClusterNodes,
-    // The objects of which the node has heard.
+    // The objects that may differ from new ones.
     by_name: IndexMap<Bytes, LocalObject>,
 }
 
@@ -92,6 +95,31 @@ impl Objects {
         self.add(name.clone()?, object)
     }
 
+    // If the object of a name equals a new one, it is not in the map.
+    fn forget_new(&mut self, name: &Bytes)
+        ensures same { AreSame self.old self.new }
+        ensures spared { IsSpared self.new name.now }
+    {
+        if self.is_new(name) {
+            let _forgotten = self.by_name.swap_remove(name);
+        }
+    }
+
+    // Whether the object of a name is in the map, and equals a new one.
+    fn is_new(&self, name: &Bytes) -> bool
+        ensures new { (local : LocalObject) → get (pointwise nat_eq) self.now.by_name name.now ≡ Some local
+            → (result ≡ true) ↔ (local ≡ new_of self.now name.now) }
+        ensures there { result ≡ true → IsSome (get (pointwise nat_eq) self.now.by_name name.now) }
+    {
+        match self.by_name.get(name) {
+            Some(object) => {
+                may_be_new(object)
+                    && object.is_new(self.number, self.delta, &self.first_layout(name))
+            }
+            None => false,
+        }
+    }
+
     // The object of a name that is not in the map is in it, as a new one.
     fn add(&mut self, name: Bytes, object: LocalObject) -> Result<(), Refusal>
         requires absent { get (pointwise nat_eq) self.old.by_name name ≡ None }
@@ -102,5 +130,20 @@ impl Objects {
     {
         self.by_name.insert(name, object)?;
         Ok(())
+    }
+}
+
+// Whether an object may equal a new one: no call of it is open here, and its first position has no bank. This is quick,
+// whereas the layout of position 0 is a hash of the name.
+fn may_be_new(object: &LocalObject) -> bool
+    ensures { (number : ℕ) (delta : Option ℕ) (first : Layout) → object.now ≡ new_local number delta first
+        → result ≡ true }
+{
+    if object.open_calls() > 0 {
+        return false;
+    }
+    match object.places() {
+        [place] => place.bank().is_none(),
+        _ => false,
     }
 }

@@ -7,7 +7,7 @@ use Rattle.bank.specs.Bank.{opened_bank}
 use Rattle.record.specs.Legal.{is_move}
 use Rattle.local_object.specs.Doing.{is_moving}
 use Rattle.local_object.specs.Local.{LocalObject, bank_in, bank_or_opened, layout_here, layout_in, new_local}
-use Rattle.network.specs.Worlds.{NodeCall}
+use Rattle.open_calls.specs.OpenCalls.{NodeCall}
 use Rattle.object_letters.specs.Laws.{IsBlankOf}
 
 none_left : (calls : List NodeCall) → list_any (λ (call : NodeCall). is_move call.kind) calls ≡ false

@@ -11,9 +11,9 @@ use Rattle.object_letters.proofs.LeadingLemmas.{requests_lead}
 use Rattle.local_object.specs.declared.letter.Letter.{Letter}
 use Rattle.local_object.specs.Local.{LocalObject, Place, bank_here, bank_in, bank_or_opened, layout_here, layout_in, heard_place}
 use Rattle.local_object.proofs.FoundLemmas.{IsFirst, FailsBelow, first_of, element}
-use Rattle.refinement.specs.Refined.{IsKeptHere}
-use Rattle.refinement.proofs.BankRowLemmas.{one_member}
-use Rattle.refinement.proofs.CallsOfNodeLemmas.{differs}
+use Rattle.local_object.specs.Restarts.{IsKeptHere}
+use Rattle.local_object.proofs.OneMemberLemmas.{one_member}
+use Rattle.open_calls.proofs.CallsOfNodeLemmas.{differs}
 use Rattle.object_letters.specs.Letters.{after_letter, after_letters, bank_letters, letter_to, letters_to, place_letters, places_letters}
 use Rattle.object_letters.specs.Leading.{HasNextPosition}
 use Rattle.object_letters.specs.Laws.{IsBlankOf}

@@ -5,7 +5,7 @@ use Rattle.std.specs.List.{AllByRecursion}
 use Rattle.std.proofs.lemmas.Option.{same_Some}
 use Rattle.layout.specs.Layout.{Layout, IsLawful}
 use Rattle.encoder.specs.Fragment.{fragment}
-use Rattle.bank.specs.Bank.{Bank}
+use Rattle.bank.specs.Bank.{Bank, opened_bank}
 use Rattle.bank.specs.Serve.{served_bank}
 use Rattle.bank.specs.declared.kind.Kind.{Kind}
 use Rattle.bank.specs.declared.request.Request.{Request}
@@ -16,15 +16,15 @@ use Rattle.mail.specs.declared.message.Body.{Body}
 use Rattle.mail.specs.declared.message.Body.TheVariants as body
 use Rattle.record.specs.declared.call.CallKind.{CallKind}
 use Rattle.record.specs.declared.stage.Stage.{Stage}
-use Rattle.network.specs.Worlds.{NodeCall, due_phase, open_call, with_open}
-use Rattle.network.specs.Events.{taking_open}
+use Rattle.open_calls.specs.OpenCalls.{NodeCall, due_phase, open_call, with_open, taking_open}
 use Rattle.local_object.specs.declared.letter.Letter.{Letter}
-use Rattle.local_object.specs.Local.{LocalObject, Place, added_place, bank_here, bank_in, bank_or_opened, last_position}
+use Rattle.local_object.specs.ChangedBanks.{changes_bank, kept_bank}
+use Rattle.local_object.specs.Local.{LocalObject, Place, added_place, bank_in, bank_or_opened, last_position}
 use Rattle.local_object.specs.Local.{layout_here, layout_in, with_heard, learnt_if, new_local, heard_place, with_bank_here}
 use Rattle.local_object.specs.Events.{LocalEvent, Outcome, advanced_at, advanced_here, begun_here, done_here, learnt_from, on_open_call}
 use Rattle.local_object.specs.Events.{served_here, silent}
 use Rattle.local_object.specs.May.{MayHappenHere}
-use Rattle.refinement.proofs.BankRowLemmas.{one_member}
+use Rattle.local_object.proofs.OneMemberLemmas.{one_member}
 use Rattle.object_letters.specs.Rebuildable.{HaveApartPositions, AreElsewhere, HasLawfulLayouts, IsFit, IsLawfulIfThere, IsOwnBank}
 use Rattle.object_letters.specs.Rebuildable.{IsOwnIfOpen}
 use Rattle.object_letters.specs.Rebuildable.{IsOwnPlace, IsRebuildable}
@@ -87,34 +87,36 @@ letter_rebuildable local letter lawful is =
 
 -- A bank changes
 
-elsewhere_with : (q p : ℕ) (bank : Bank) (places : List Place) → AreElsewhere q places → AreElsewhere q (with_bank_here places p bank)
+elsewhere_with : (q p : ℕ) (bank : Option Bank) (places : List Place) → AreElsewhere q places
+    → AreElsewhere q (with_bank_here places p bank)
 elsewhere_with q p bank [] elsewhere = tt
 elsewhere_with q p bank (place ∷ places) elsewhere = go (eqb place.position p) (elsewhere_with q p bank places elsewhere.1)
   where
     go : (b : Bool) → AreElsewhere q (with_bank_here places p bank)
-        → AreElsewhere q (cond b (record place { bank = Some bank } ∷ places) (place ∷ with_bank_here places p bank))
+        → AreElsewhere q (cond b (record place { bank = bank } ∷ places) (place ∷ with_bank_here places p bank))
     go true rest = elsewhere
     go false rest = (elsewhere.0, rest)
 
-apart_with : (p : ℕ) (bank : Bank) (places : List Place) → HaveApartPositions places → HaveApartPositions (with_bank_here places p bank)
+apart_with : (p : ℕ) (bank : Option Bank) (places : List Place) → HaveApartPositions places
+    → HaveApartPositions (with_bank_here places p bank)
 apart_with p bank [] apart = tt
 apart_with p bank (place ∷ places) apart = go (eqb place.position p) (apart_with p bank places apart.1)
   where
     go : (b : Bool) → HaveApartPositions (with_bank_here places p bank)
-        → HaveApartPositions (cond b (record place { bank = Some bank } ∷ places) (place ∷ with_bank_here places p bank))
+        → HaveApartPositions (cond b (record place { bank = bank } ∷ places) (place ∷ with_bank_here places p bank))
     go true rest = apart
     go false rest = (elsewhere_with place.position p bank places apart.0, rest)
 
-all_with : (P : Place → Type 0) (p : ℕ) (bank : Bank) (places : List Place) (found : Place) → heard_place places p ≡ Some found
-    → P (record found { bank = Some bank }) → AllByRecursion P places → AllByRecursion P (with_bank_here places p bank)
+all_with : (P : Place → Type 0) (p : ℕ) (bank : Option Bank) (places : List Place) (found : Place) → heard_place places p ≡ Some found
+    → P (record found { bank = bank }) → AllByRecursion P places → AllByRecursion P (with_bank_here places p bank)
 all_with P p bank [] found e here all = tt
 all_with P p bank (place ∷ places) found e here all =
     go (eqb place.position p) e (λ e. all_with P p bank places found e here all.1)
   where
     go : (b : Bool) → cond b (Some place) (heard_place places p) ≡ Some found
         → (heard_place places p ≡ Some found → AllByRecursion P (with_bank_here places p bank))
-        → AllByRecursion P (cond b (record place { bank = Some bank } ∷ places) (place ∷ with_bank_here places p bank))
-    go true e rest = (subst (λ (o : Place). P (record o { bank = Some bank })) (sym (same_Some place found e)) here, all.1)
+        → AllByRecursion P (cond b (record place { bank = bank } ∷ places) (place ∷ with_bank_here places p bank))
+    go true e rest = (subst (λ (o : Place). P (record o { bank = bank })) (sym (same_Some place found e)) here, all.1)
     go false e rest = (all.0, rest e)
 
 delta_stays : (b : Bank) (q : Request) → (served_bank b q 0).delta ≡ b.delta
@@ -144,6 +146,25 @@ served_own node delta place member asked lawful named (Some bank) own = record {
       (one_member place.layout own.member member node lawful own.named named) own.reached);
 }
 
+-- whether a place's bank is its own depends on the place's layout alone
+own_as : (node : ℕ) (delta : Option ℕ) (place : Place) (other o : Option Bank) → IsOwnIfOpen node delta place o
+    → IsOwnIfOpen node delta (record place { bank = other }) o
+own_as node delta place other None own = tt
+own_as node delta place other (Some bank) own =
+    record { member = own.member; named = own.named; limited = own.limited; reached = own.reached }
+
+-- the bank that a place keeps after it served a request, if it keeps one
+kept_own : (node : ℕ) (delta : Option ℕ) (place : Place) (member : ℕ) (asked : Request) → IsLawful place.layout
+    → slice_get place.layout.members member ≡ Some node → (o : Option Bank) → IsOwnIfOpen node delta place o
+    → IsOwnIfOpen node delta place (kept_bank o member delta asked)
+kept_own node delta place member asked lawful named (Some bank) own =
+    served_own node delta place member asked lawful named (Some bank) own
+kept_own node delta place member asked lawful named None own = go (changes_bank (opened_bank member delta 0) asked)
+  where
+    go : (b : Bool) → IsOwnIfOpen node delta place (cond b (Some (served_bank (opened_bank member delta 0) asked 0)) None)
+    go true = served_own node delta place member asked lawful named None tt
+    go false = tt
+
 serve_rebuildable : (heard : LocalObject) (letter : Letter) (asked : Request) → IsRebuildable heard
     → (layout : Layout) → layout_here heard letter.message.position ≡ Some layout
     → slice_get layout.members letter.message.member ≡ Some heard.node
@@ -157,19 +178,15 @@ serve_rebuildable heard letter asked is layout known named = go (heard_place hea
         let at = at_place (IsOwnPlace heard.node heard.delta) heard.places letter.message.position place is.places e in
         let same : layout ≡ place.layout = same_Some layout place.layout (sym known ∙ ap layout_in e) in
         let member = letter.message.member in
-        let new = served_bank (bank_here heard letter.message.position member) asked 0 in
-        let own : IsOwnBank heard.node heard.delta place new =
-        subst (λ (o : Option Place). IsOwnBank heard.node heard.delta place
-        (served_bank (bank_or_opened (bank_in o) member heard.delta) asked 0))
-        (sym e) (served_own heard.node heard.delta place member asked at.0.lawful
+        let new = kept_bank (bank_in (heard_place heard.places letter.message.position)) member heard.delta asked in
+        let own : IsOwnIfOpen heard.node heard.delta place new =
+        subst (λ (o : Option Place). IsOwnIfOpen heard.node heard.delta place (kept_bank (bank_in o) member heard.delta asked))
+        (sym e) (kept_own heard.node heard.delta place member asked at.0.lawful
         (sym (ap (λ (l : Layout). slice_get l.members member) same) ∙ named)
         place.bank at.0.own) in record {
           apart = apart_with letter.message.position new heard.places is.apart;
           places = all_with (IsOwnPlace heard.node heard.delta) letter.message.position new heard.places place e
-              (record {
-                lawful = at.0.lawful;
-                own = record { member = own.member; named = own.named; limited = own.limited; reached = own.reached };
-              }) is.places;
+              (record { lawful = at.0.lawful; own = own_as heard.node heard.delta place new new own }) is.places;
         }
 
 -- Calls

@@ -14,11 +14,14 @@ use Rattle.bank.specs.declared.status.Status.TheVariants.{Unset, Pending, Final}
 use Rattle.object_letters.specs.Reached.{after_requests}
 use Rattle.record.specs.Legal.{is_move}
 use Rattle.local_object.specs.declared.letter.Letter.{Letter}
+use Rattle.local_object.specs.ChangedBanks.{kept_bank}
 use Rattle.local_object.specs.Doing.{is_member, is_served, names_node}
 use Rattle.local_object.specs.Events.{LocalEvent, all_done, learnt_from, next_in_request, served_here}
-use Rattle.local_object.specs.Local.{LocalObject, Place, bank_here, layout_here, with_heard, learnt_if, with_bank_here}
-use Rattle.refinement.proofs.PlaceLemmas.{bank_learnt, bank_with_here, bank_with_there, layout_learnt, layout_new, layout_stays}
-use Rattle.refinement.proofs.PlaceLemmas.{layout_with}
+use Rattle.local_object.specs.Local.{LocalObject, Place, bank_here, bank_in, heard_place, layout_here, with_heard, learnt_if}
+use Rattle.local_object.specs.Local.{with_bank_here}
+use Rattle.local_object.proofs.UnchangedBankLemmas.{kept_served}
+use Rattle.local_object.proofs.HeardPlaceLemmas.{bank_learnt, bank_with_here, bank_with_there, layout_learnt, layout_new, layout_stays}
+use Rattle.local_object.proofs.HeardPlaceLemmas.{layout_with}
 use Rattle.object_letters.specs.Letters.{after_letter, after_letters, letter_to}
 
 -- the copy is as a restart has to keep the object, but for its banks
@@ -91,7 +94,7 @@ module _ (moves : Type 0) (local : LocalObject) where
   heard_if copy p None known towards = towards
   heard_if copy p (Some layout) known towards = heard copy p layout (known layout refl) towards
 
-  put : (copy : LocalObject) (p : ℕ) (bank : Bank) → IsTowards moves local copy
+  put : (copy : LocalObject) (p : ℕ) (bank : Option Bank) → IsTowards moves local copy
       → IsTowards moves local (record copy { places = with_bank_here copy.places p bank })
   put copy p bank towards = record {
     node = towards.node;
@@ -138,8 +141,8 @@ module _ (moves : Type 0) (local : LocalObject) (place : Place) (member : ℕ)
     after_is : after_letter copy letter ≡ (served_here told letter letter.message.body).local
     after_is = ap (λ b. (all_done fragment copy (cond b (LocalEvent.Serve letter ∷ []) [])).local) is_to_copy
 
-    abbrev served : Bank
-    served = served_bank (bank_here told p member) asked 0
+    abbrev served : Option Bank
+    served = kept_bank (bank_in (heard_place told.places p)) member told.delta asked
 
     step_towards : IsTowards moves local (after_letter copy letter)
     step_towards = subst (IsTowards moves local) (sym after_is) (put moves local told p served told_towards)
@@ -148,6 +151,7 @@ module _ (moves : Type 0) (local : LocalObject) (place : Place) (member : ℕ)
     step_bank =
         ap (λ (c : LocalObject). bank_here c p member) after_is
         ∙ bank_with_here told p served member (ap is_some told_known)
+        ∙ kept_served (bank_in (heard_place told.places p)) member told.delta asked
         ∙ ap (λ (b : Bank). served_bank b asked 0) (told_bank p member)
 
     step_others : (q other : ℕ) → (p ≡ q → ⊥) → bank_here (after_letter copy letter) q other ≡ bank_here copy q other

@@ -10,7 +10,7 @@ use Rattle.local_object.specs.Local.{LocalObject, bank_here, layout_here, new_lo
 use Rattle.local_object.specs.Events.{LocalEvent, done_here}
 use Rattle.local_object.specs.Doing.{is_moving}
 use Rattle.local_object.specs.May.{MayHappenHere}
-use Rattle.refinement.specs.Refined.{IsKeptHere}
+use Rattle.local_object.specs.Restarts.{IsKeptHere}
 use Rattle.object_letters.specs.Leading.{HasNextPosition}
 use Rattle.object_letters.specs.Letters.{after_letters, letters_to}
 use Rattle.object_letters.specs.Rebuildable.{IsFit, IsRebuildable}

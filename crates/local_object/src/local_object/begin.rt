@@ -7,7 +7,7 @@ ghost use Rattle.tag.specs.declared.refusal.Refusal.TheVariants.{NoMemory};
 ghost use Rattle.record.specs.Fragments.{AreBytes};
 ghost use Rattle.record.specs.PhaseOrder.{begun_at};
 ghost use Rattle.call.specs.Pieces.{HavePieces};
-ghost use Rattle.network.specs.Worlds.{open_call};
+ghost use Rattle.open_calls.specs.OpenCalls.{open_call};
 ghost use Rattle.local_object.specs.Local.{last_position, layout_here};
 ghost use Rattle.local_object.specs.Events.{LocalEvent, begun_here};
 ghost use Rattle.local_object.specs.Doing.{IsDone, is_moving, move_refusal, read_refusal, unless_open, write_refusal};

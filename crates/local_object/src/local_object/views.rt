@@ -1,12 +1,15 @@
 //! Read access to an object.
 
-ghost use Rattle.std.specs.Prelude.{◌≡◌, ◌-◌, ◌^◌, false, length, min};
+ghost use Rattle.std.specs.Prelude.{◌≡◌, ◌↔◌, ◌-◌, ◌^◌, true, false, length, min};
 ghost use Rattle.local_object.specs.Changing.{IsUnchangedBy, is_changed_by, bytes_at_places};
 ghost use Rattle.local_object.specs.Doing.{is_moving, has_move_open};
+ghost use Rattle.local_object.specs.Local.{new_local};
+ghost use Rattle.local_object.specs.New.{is_new};
 
 use crate::calls::is_move;
 use crate::changes::changes;
 use crate::{Letter, LocalObject, Place};
+use layout::Layout;
 use tag::CallId;
 
 impl LocalObject {
@@ -42,6 +45,26 @@ impl LocalObject {
         self.places.all()
     }
 
+    /// Returns whether the object equals what `LocalObject::new` makes for this node, with this `delta` and this layout
+    /// of position 0: no call is open here, the node has heard of no other position, and keeps no bank. It allocates
+    /// no memory.
+    pub fn is_new(&self, node: u8, delta: Option<u32>, first: &Layout) -> bool
+        ensures { (result ≡ true) ↔ (self.now ≡ new_local node delta first.now) }
+    {
+        self.is_made_of(node, delta, first)
+    }
+
+    // Whether the object has this node, this `delta`, no open call, and no place but position 0 with this layout and
+    // without a bank.
+    fn is_made_of(&self, node: u8, delta: Option<u32>, first: &Layout) -> bool
+        ensures { result ≡ is_new self.now node delta first.now }
+    {
+        self.node == node
+            && self.delta == delta
+            && self.open_calls() == 0
+            && self.places.are_new(first)
+    }
+
     /// The number of bytes of all pieces in the node's banks, or `u64::MAX` if there are more. It takes time linear in
     /// the number of tags.
     pub fn bytes_stored(&self) -> u64
@@ -52,9 +75,9 @@ impl LocalObject {
 
     /// Whether serving a letter may change more than what the node has heard of: the node serves the letter, and its
     /// request raises a pointer, brings a piece, or finalizes a tag that is not the greatest finalized one. If it is
-    /// false and the node serves the letter, the node hears of the layouts in the letter and may open a bank, and
-    /// nothing else changes. It is also true of some requests that change nothing: a pre-write whose piece came before,
-    /// and a request that finalizes a tag which is finalized already and not the greatest one.
+    /// false and the node serves the letter, the node hears of the layouts in the letter, and nothing else changes. It
+    /// is also true of some requests that change nothing: a pre-write whose piece came before, and a request that
+    /// finalizes a tag which is finalized already and not the greatest one.
     ///
     /// So a log need not have a letter for which this is false. A bank that is not there counts as a newly opened one.
     /// A node that has forgotten layouts hears of them again from other letters. Only the node that moves objects must

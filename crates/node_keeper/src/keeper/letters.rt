@@ -200,7 +200,7 @@ fn tell(name: Bytes, ended: Option<Ended>, work: &mut Work) -> Result<Delivered,
     Ok(Delivered::Ended(ended))
 }
 
-// The same once more.
+// A copy of what a client is told. Its value shares its bytes.
 fn copy_of(ended: &Ended) -> Result<Ended, NodeError>
     ensures copied { IfOk result (λ copy. copy ≡ ended.now) }
     ensures refused { IfErr result (λ e. e ≡ NoMemory) }

@@ -3,10 +3,10 @@ use super::Keeper;
 use local_object::LocalObject;
 
 // How many bytes the entries of one tag take, without a piece and without the object's name.
-const TAG_BYTES: u64 = 400;
+const TAG_BYTES: u64 = 250;
 
 impl Keeper {
-    /// About how many bytes a log would have that is written anew: those of all pieces in the banks, some 400 for each
+    /// About how many bytes a log would have that is written anew: those of all pieces in the banks, some 250 for each
     /// tag of a bank, and two names for each tag. It is `u64::MAX` if there are more. This is an estimate, by which a
     /// host may decide when to write the log anew; no promise depends on it.
     ///

@@ -1,4 +1,4 @@
-//! The objects of which a node has heard, one after another.
+//! The objects in a node's map, one after another.
 ghost use Rattle.std.specs.Prelude.{◌≤◌, MatchOption, length, nat_eq};
 ghost use Rattle.std.specs.Cmp.Lexicographic.{pointwise};
 ghost use Rattle.indexmap.specs.IndexMap.{IsUnique};
@@ -9,8 +9,8 @@ use bytes::Bytes;
 use local_object::LocalObject;
 
 impl Objects {
-    /// The name and the object at this place, from 0, in the order in which the node heard of the objects. None if the
-    /// node has heard of no more objects than this.
+    /// The name and the object at this place of the map, from 0. None if the map has no more objects than this. An
+    /// object that is not in the map is a new one.
     pub fn named(&self, index: usize) -> Option<(&Bytes, &LocalObject)>
         ensures named { MatchOption result (length (heard_names self.now) ≤ index)
             (λ it. IsHeardAt self.now index it.0.now it.1.now) }

@@ -29,7 +29,7 @@ impl Objects {
         self.placement.place(name.as_slice())
     }
 
-    /// Returns how many objects the map has: those of which the node has heard.
+    /// Returns how many objects the map has. Every other object is a new one.
     pub fn count(&self) -> usize
         ensures count { result ≡ length (heard_names self.now) }
         ensures unique { IsUnique (pointwise nat_eq) self.now.by_name }
@@ -60,8 +60,8 @@ impl Objects {
     }
 
     /// Returns whether serving a letter may change more of the object of a name than what the node has heard of. If the
-    /// result is false and the node serves the letter, the node hears of the layouts in the letter and may open a bank,
-    /// and nothing else changes.
+    /// result is false and the node serves the letter, the node hears of the layouts in the letter, and nothing else
+    /// changes.
     ///
     /// `NoMemory` is the only refusal.
     pub fn is_changed_by(&self, name: &Bytes, letter: &Letter) -> Result<bool, Refusal>

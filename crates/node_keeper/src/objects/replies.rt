@@ -1,9 +1,9 @@
 //! How calls take replies, and how calls end without an answer.
-ghost use Rattle.std.specs.Prelude.{◌≡◌, [], IfErr, IfOk, option_to_list};
+ghost use Rattle.std.specs.Prelude.{◌≡◌, [], IfErr, IfOk, OnOk, option_to_list};
 ghost use Rattle.tag.specs.declared.refusal.Refusal.TheVariants.{NoMemory};
 ghost use Rattle.local_object.specs.Doing.{give_up_events, gives_up};
 ghost use Rattle.node_keeper.specs.Doing.{IsDoneAt, IsTakenAt};
-ghost use Rattle.node_keeper.specs.Objects.{objects_of};
+ghost use Rattle.node_keeper.specs.Objects.{IsSpared, objects_of};
 
 use super::Objects;
 use bytes::Bytes;
@@ -20,6 +20,19 @@ impl Objects {
         ensures done { IfOk result (λ progress. IsTakenAt self.old name.now letter self.new
             progress.letters.items (option_to_list progress.ended)) }
 
+        ensures spared { OnOk result (IsSpared self.new name.now) }
+        ensures refused { IfErr result (λ e. e ≡ NoMemory) }
+    {
+        let progress = self.take_there(name, letter)?;
+        self.forget_new(name);
+        Ok(progress)
+    }
+
+    // The same, and the object stays in the map.
+    fn take_there(&mut self, name: &Bytes, letter: Letter) -> Result<Progress, Refusal>
+        ensures done { IfOk result (λ progress. IsTakenAt self.old name.now letter self.new
+            progress.letters.items (option_to_list progress.ended)) }
+
         ensures refused { IfErr result (λ e. e ≡ NoMemory) }
     {
         self.hear_of(name)?;
@@ -33,6 +46,17 @@ impl Objects {
     /// may still take effect. Returns whether a call was given up. A move goes on until it is answered. The function
     /// allocates no memory.
     pub fn give_up(&mut self, name: &Bytes, id: CallId) -> bool
+        ensures done { IsDoneAt self.old name.now (give_up_events (objects_of self.old name.now) id) self.new [] }
+        ensures given_up { result ≡ gives_up (objects_of self.old name.now) id }
+        ensures spared { IsSpared self.new name.now }
+    {
+        let given_up = self.give_up_there(name, id);
+        self.forget_new(name);
+        given_up
+    }
+
+    // The same, and the object stays in the map.
+    fn give_up_there(&mut self, name: &Bytes, id: CallId) -> bool
         ensures done { IsDoneAt self.old name.now (give_up_events (objects_of self.old name.now) id) self.new [] }
         ensures given_up { result ≡ gives_up (objects_of self.old name.now) id }
     {

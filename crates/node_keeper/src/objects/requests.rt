@@ -1,12 +1,12 @@
 //! Requests that are served, and requests that are sent again.
-ghost use Rattle.std.specs.Prelude.{◌≡◌, IfErr, IfOk, option_to_list};
+ghost use Rattle.std.specs.Prelude.{◌≡◌, IfErr, IfOk, OnOk, option_to_list};
 ghost use Rattle.std.specs.List.{AllByRecursion};
 ghost use Rattle.tag.specs.declared.refusal.Refusal.TheVariants.{NoMemory};
 ghost use Rattle.encoder.specs.Fragment.{fragment};
 ghost use Rattle.local_object.specs.Doing.{serve_events};
 ghost use Rattle.local_object.specs.Resent.{IsResent, letters_again};
 ghost use Rattle.node_keeper.specs.Doing.{IsDoneAt};
-ghost use Rattle.node_keeper.specs.Objects.{objects_of};
+ghost use Rattle.node_keeper.specs.Objects.{IsSpared, objects_of};
 
 use super::Objects;
 use bytes::Bytes;
@@ -20,6 +20,19 @@ impl Objects {
     ///
     /// `NoMemory` is the only refusal.
     pub fn serve(&mut self, name: &Bytes, letter: Letter) -> Result<Option<Letter>, Refusal>
+        ensures done { IfOk result (λ reply. IsDoneAt self.old name.now
+            (serve_events (objects_of self.old name.now) letter) self.new (option_to_list reply)) }
+
+        ensures spared { OnOk result (IsSpared self.new name.now) }
+        ensures refused { IfErr result (λ e. e ≡ NoMemory) }
+    {
+        let reply = self.serve_there(name, letter)?;
+        self.forget_new(name);
+        Ok(reply)
+    }
+
+    // The same, and the object stays in the map.
+    fn serve_there(&mut self, name: &Bytes, letter: Letter) -> Result<Option<Letter>, Refusal>
         ensures done { IfOk result (λ reply. IsDoneAt self.old name.now
             (serve_events (objects_of self.old name.now) letter) self.new (option_to_list reply)) }
 

@@ -1,6 +1,6 @@
 use Rattle.std.proofs.Common.{sym, subst, ap, ◌∙◌}
 use Rattle.call.specs.Call.{OpenCall as Machine}
-use Rattle.network.specs.Worlds.{open_call}
+use Rattle.open_calls.specs.OpenCalls.{open_call}
 use Rattle.local_object.specs.Distinct.{HaveOtherIds}
 use Rattle.local_object.specs.Local.{LocalObject}
 use Rattle.local_object.proofs.BeginLemmas.{others_of}

@@ -4,7 +4,7 @@ use Rattle.std.proofs.lemmas.Option.{slice_get_within}
 use Rattle.record.specs.Legal.{is_move}
 use Rattle.record.specs.declared.call.CallKind.TheVariants.{Move}
 use Rattle.call.specs.Call.{OpenCall as Machine}
-use Rattle.network.specs.Worlds.{NodeCall, without_call}
+use Rattle.open_calls.specs.OpenCalls.{NodeCall, without_call}
 use Rattle.local_object.specs.Codes.{carried}
 use Rattle.local_object.specs.Doing.{is_client_call}
 use Rattle.local_object.proofs.BeginLemmas.{open_found}

@@ -1,8 +1,8 @@
 use Rattle.std.proofs.Common.{ap, ◌∙◌}
-use Rattle.bank.specs.Serve.{served_bank}
+use Rattle.local_object.specs.ChangedBanks.{kept_bank}
 use Rattle.local_object.specs.Codes.{carried}
 use Rattle.local_object.specs.Events.{served_here}
-use Rattle.local_object.specs.Local.{LocalObject, bank_in, bank_or_opened, heard_place}
+use Rattle.local_object.specs.Local.{LocalObject, bank_in, heard_place}
 use Rattle.local_object.proofs.ServeLemmas.{handled_sent}
 use Rattle.local_object.proofs.local_object.LocalObject.handle.Goals as goal
 
@@ -11,8 +11,9 @@ returns-clause-sent c =
     let o = c.self.inside in
     let letter = c.args.letter in
     let local : LocalObject = record { node = o.node; delta = o.delta; places = o.places; calls = carried o.node o.calls } in
-    let bank = bank_or_opened (bank_in (heard_place o.places letter.message.position)) letter.message.member o.delta in
-    handled_sent local letter c.in-Request.request c.in-Request.is c.serve.new.self (served_bank bank c.in-Request.request 0)
+    let old = bank_in (heard_place o.places letter.message.position) in
+    handled_sent local letter c.in-Request.request c.in-Request.is c.serve.new.self
+    (kept_bank old letter.message.member o.delta c.in-Request.request)
     c.kind.result c.in_ok-reply.reply c.in_ok-letter_of.field-0 c.in_ok-reply.ensures.places c.kind.ensures
     c.in_ok-reply.ensures.reply c.in_ok-letter_of.ensures.letter
     ∙ ap (λ (l : LocalObject). (served_here l letter letter.message.body).sent) c.self.view_is

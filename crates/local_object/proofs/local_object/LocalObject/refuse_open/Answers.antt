@@ -1,6 +1,6 @@
 use Rattle.std.proofs.Common.{Option, Some, None, cond, is_some, sym, ap, ◌∙◌}
 use Rattle.tag.specs.declared.refusal.Refusal.TheVariants.{NotNow}
-use Rattle.network.specs.Worlds.{NodeCall, open_call}
+use Rattle.open_calls.specs.OpenCalls.{NodeCall, open_call}
 use Rattle.local_object.specs.Local.{LocalObject}
 use Rattle.local_object.proofs.BeginLemmas.{open_found}
 use Rattle.local_object.proofs.CarriedCallLemmas.{open_none}

@@ -1,5 +1,5 @@
 use Rattle.std.proofs.Common.{◌∷◌, [], Some, MatchOption, List, ℕ, inl, inr, refl, sym, subst}
-use Rattle.network.specs.Worlds.{open_call, with_open}
+use Rattle.open_calls.specs.OpenCalls.{open_call, with_open}
 use Rattle.local_object.specs.Events.{LocalEvent}
 use Rattle.local_object.specs.Taking.{CanSettle}
 use Rattle.local_object.proofs.DoneLemmas.{by_none, by_one}

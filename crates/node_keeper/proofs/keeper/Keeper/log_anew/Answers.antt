@@ -1,7 +1,7 @@
 use Rattle.std.proofs.Common.{arith}
 use Rattle.std.proofs.lemmas.Grind.{common_steps}
 use Rattle.std.specs.List.{AllByRecursion}
-use Rattle.rewritten_logs.specs.Records.{epoch_records}
+use Rattle.recoveries.specs.RewrittenRecords.{epoch_records}
 use Rattle.node_keeper.specs.Objects.{heard_names}
 use Rattle.node_keeper.specs.Anew.{anew_records, object_records_of}
 use Rattle.node_keeper.specs.Fitting.{IsLoggable}

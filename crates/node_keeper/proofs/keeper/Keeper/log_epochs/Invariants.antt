@@ -1,6 +1,6 @@
 use Rattle.std.proofs.Common.{◌≡◌, ◌++◌, map}
 use Rattle.std.specs.List.{AllByRecursion}
-use Rattle.rewritten_logs.specs.Records.{epoch_records}
+use Rattle.recoveries.specs.RewrittenRecords.{epoch_records}
 use Rattle.node_keeper.specs.Fitting.{IsLoggable}
 use Rattle.node_keeper.specs.Logging.{log_entry_of}
 use Rattle.node_keeper.proofs.keeper.Keeper.log_epochs.Given as goal

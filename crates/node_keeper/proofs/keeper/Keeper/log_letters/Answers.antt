@@ -1,11 +1,12 @@
-use Rattle.std.proofs.Common.{◌≡◌, ◌∙◌, length, map, subst}
+use Rattle.std.proofs.Common.{◌≡◌, ◌∙◌, ◌∷◌, ◌++◌, [], length, map, subst}
 use Rattle.std.proofs.lemmas.Iterator.Adapters.{YieldsList-from_vec}
 use Rattle.std.proofs.lemmas.Iterator.Consumers.{YieldsList-turn}
 use Rattle.std.specs.List.{AllByRecursion}
 use Rattle.recoveries.specs.Records.{LogRecord}
 use Rattle.node_effects.specs.Errors.{IsUnwritten}
 use Rattle.node_keeper.specs.Fitting.{IsLoggable}
-use Rattle.node_keeper.proofs.AnewLemmas.{letter_at}
+use Rattle.node_keeper.specs.Logging.{log_entry_of}
+use Rattle.node_keeper.proofs.AnewLemmas.{letter_at, letters_push}
 use Rattle.node_keeper.proofs.FittingLemmas.{unwritten_more}
 use Rattle.node_keeper.proofs.ResultLemmas.{fails_same}
 use Rattle.node_keeper.proofs.keeper.Keeper.log_letters.Goals as goal
@@ -28,3 +29,15 @@ returns-in_err-log_letter-clause-writes c =
     (λ all. letter_at digest name c.args.letters.items (length c.loop-letter.yielded) letter at all) error
     (subst (λ s. IsUnwritten (IsLoggable digest (LogRecord.Serves s letter)) error) c.in_ok-name.ensures.cases
     c.in_err-log_letter.ensures.writes))
+
+pub loop-letter-preserved : goal.loop-letter-preserved
+loop-letter-preserved c =
+    let digest = c.args.self.now.digest in
+    let name = c.args.name.now in
+    let letter = c.in-Some.letter in
+    letters_push digest name c.args.entries.now.items c.loop-letter.entries.items c.log_letter.new.entries.items
+    c.loop-letter.yielded letter c.loop-letter.invariant
+    (subst (λ s. c.log_letter.new.entries.items
+    ≡ c.loop-letter.entries.items ++ log_entry_of digest (LogRecord.Serves s letter) ∷ []) c.in_ok-name.ensures.cases
+    c.in_ok-log_letter.ensures.appended)
+    (subst (λ s. IsLoggable digest (LogRecord.Serves s letter)) c.in_ok-name.ensures.cases c.in_ok-log_letter.ensures.writes)

@@ -1,7 +1,7 @@
 use Rattle.std.proofs.Common.{◌≡◌, ◌++◌, map, take}
 use Rattle.std.specs.List.{AllByRecursion}
 use Rattle.node_keeper.specs.Objects.{heard_names}
-use Rattle.rewritten_logs.specs.Records.{object_records}
+use Rattle.recoveries.specs.RewrittenRecords.{object_records}
 use Rattle.node_keeper.specs.Fitting.{IsLoggable}
 use Rattle.node_keeper.specs.Keeping.{kept_of}
 use Rattle.node_keeper.specs.Logging.{log_entry_of}
