@@ -6,7 +6,7 @@ use Rattle.std.specs.List.{AllByRecursion}
 use Rattle.encoder.specs.Fragment.{fragment}
 use Rattle.deeds.specs.CallId.{HasRanges}
 use Rattle.deeds.specs.Named.{NamedLetter as Named, IsOneOf}
-use Rattle.deeds.proofs.ListLemmas.{all_append, all_weaker}
+use Rattle.open_calls.proofs.ListLemmas.{all_append, all_weaker}
 use Rattle.deeds.proofs.NameLemmas.{one_of_first, one_of_second}
 use Rattle.node_strings.specs.Arrival.{arrival_at}
 use Rattle.recoveries.specs.Stops.{IsHandledSafely, sent_in}

@@ -36,7 +36,7 @@ ticked id a b u v sends s sent kept =
     let one = one_of a.keeper.file.ticks id a.desk b.desk s.services s.ticks s.serves.has.served in
     record { service = one.0; tick = one.1; done = one.2; sent = sent; kept = kept }
 
--- nothing is put out
+-- if no letters are sent, the outputs stay as they are
 pub nothing_out : (keeper : Keeper) (outputs : List Output) (sends : List Sending) → sends ≡ [] →
     PutsOut keeper sends outputs outputs
 nothing_out keeper outputs sends e = subst (λ xs. PutsOut keeper xs outputs outputs) (sym e) (sym (append-nil outputs))
@@ -102,7 +102,7 @@ ticked_then (x ∷ first) id a b c xs ys f s = (
   ticked_then first id f.0 b c f.2 ys f.5 s,
 )
 
--- no call is older by a tick
+-- no call has grown older yet, so nothing is sent again
 pub none_again : (node : Node) (outputs : List Output) → SendsAgain [] node outputs node outputs
 none_again node outputs = record { sends = []; ticked = (refl, refl); outputs = sym (append-nil outputs) }
 
@@ -122,7 +122,7 @@ again_then first id a b c u v w ys number digest s t out =
 
 -- All that is put out
 
--- more is put out
+-- what comes first among outputs still comes first if more outputs follow
 pub first_stays : (first before after more : List Output) → after ≡ before ++ more → AreFirst first before →
     AreFirst first after
 first_stays first before after more e is =

@@ -16,12 +16,12 @@ use Rattle.node_strings.specs.declared.record.Record.{Record}
 use Rattle.node_strings.specs.declared.record.Record.TheVariants as record_of
 use Rattle.object_letters.specs.Rebuildable.{HasLawfulLayouts, IsLawfulIfThere}
 use Rattle.recoveries.specs.Records.{LogRecord}
-use Rattle.rewritten_logs.specs.Sound.{HasOwnObjects}
-use Rattle.rewritten_logs.specs.Laws.{HasLawfulLetter, IsLawfulLetter}
-use Rattle.rewritten_logs.proofs.OwnCallLemmas.{handled_own_calls}
-use Rattle.rewritten_logs.proofs.OwnHandledLemmas.{handled_own}
-use Rattle.rewritten_logs.proofs.OwnObjectLemmas.{new_own, starts_own}
-use Rattle.rewritten_logs.proofs.OwnRecoveredLemmas.{recovered_own}
+use Rattle.recoveries.specs.RewritingNodes.{HasOwnObjects}
+use Rattle.recoveries.specs.RewrittenLaws.{HasLawfulLetter, IsLawfulLetter}
+use Rattle.recoveries.proofs.OwnCallLemmas.{handled_own_calls}
+use Rattle.recoveries.proofs.OwnHandledLemmas.{handled_own}
+use Rattle.recoveries.proofs.OwnObjectLemmas.{new_own, starts_own}
+use Rattle.recoveries.proofs.OwnRecoveredLemmas.{recovered_own}
 use Rattle.node_strings.specs.Strings.{Strings}
 use Rattle.node_effects.specs.Seen.{named_of}
 use Rattle.node_keeper.specs.Keeping.{heeds, if_heeded, kept_of, names_of}

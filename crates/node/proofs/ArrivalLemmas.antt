@@ -4,7 +4,7 @@ use Rattle.std.proofs.Common.{sym, subst, ap, ◌∙◌}
 use Rattle.std.proofs.lemmas.List.{append-nil, append_assoc}
 use Rattle.std.specs.List.{AllByRecursion}
 use Rattle.cluster_file.specs.File.{FileContents}
-use Rattle.deeds.proofs.ListLemmas.{all_append}
+use Rattle.open_calls.proofs.ListLemmas.{all_append}
 use Rattle.node_strings.specs.declared.arrival.Arrival.{Arrival}
 use Rattle.node_strings.specs.declared.arrival.Arrival.TheVariants as arrived
 use Rattle.node_strings.specs.Strings.{Strings}

@@ -5,7 +5,7 @@ use Rattle.std.specs.List.{AllByRecursion}
 use Rattle.indexmap.specs.IndexMap.{get}
 use Rattle.node_clients.specs.Connections.{has_next}
 use Rattle.node_clients.specs.declared.connections.Connections.{Connections}
-use Rattle.deeds.proofs.ListLemmas.{all_weaker}
+use Rattle.open_calls.proofs.ListLemmas.{all_weaker}
 use Rattle.node_strings.specs.Strings.{Strings}
 use Rattle.node_effects.specs.declared.work.Work.{Work}
 use Rattle.node_clients.specs.Desk.{IsDue, NoneWaits}

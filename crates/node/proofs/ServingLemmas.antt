@@ -4,7 +4,7 @@ use Rattle.std.proofs.Common.{refl, sym, subst, ap, ◌∙◌}
 use Rattle.std.proofs.lemmas.List.{append-nil}
 use Rattle.std.specs.List.{AllByRecursion}
 use Rattle.cluster_file.specs.File.{FileContents}
-use Rattle.deeds.proofs.ListLemmas.{all_append}
+use Rattle.open_calls.proofs.ListLemmas.{all_append}
 use Rattle.node_effects.specs.declared.work.Work.{Work}
 use Rattle.node_clients.specs.Served.{HasServed, IsServiceDone}
 use Rattle.node_clients.specs.Services.{Service, service_dues, service_frames, service_notices}
@@ -63,17 +63,17 @@ serves_then a b c u v w first second f s = record {
   number = s.number ∙ f.number;
 }
 
--- nothing follows up
+-- no further service is done
 pub more_none : (old new : Node) (u v : Work) → ServesClients old u [] new v → ServesMore old u new v
 more_none old new u v serves = record { services = []; serves = serves; follows = tt }
 
--- one thing follows up
+-- one further service is done
 pub more_one : (old new : Node) (u v : Work) (service : Service) → FollowsUp service →
     ServesClients old u (service ∷ []) new v → ServesMore old u new v
 more_one old new u v service follows serves =
     record { services = service ∷ []; serves = serves; follows = (follows, tt) }
 
--- something happens at the desk alone: nobody is sent anything, nothing is seen, and no connection is idle again
+-- one service that changes the desk alone: it sends no frame, no client sees anything, and no connection is idle again
 pub unsent_one : (old new : Node) (work : Work) (service : Service) →
     IsServiceDone old.keeper.file.ticks old.desk service new.desk → service_frames service ≡ [] → service_dues service ≡ [] →
     service_notices service ≡ [] → IsRight old.keeper.ids.node old.keeper.file service → new.keeper ≡ old.keeper →
@@ -94,7 +94,7 @@ pub drops_more : (old new : Node) (work : Work) → IsServiceDone old.keeper.fil
     new.keeper ≡ old.keeper → ServesMore old work new work
 drops_more old new work served same = more_one old new work work Service.Drops tt (drops_one old new work served same)
 
--- the same from a node that knows something else of the other nodes
+-- services do not depend on what the node knows of the other nodes
 pub serves_beside : (old new : Node) (peers : Peers) (u v : Work) (services : List Service) →
     ServesClients (record old { peers = peers }) u services new v → ServesClients old u services new v
 serves_beside old new peers u v services s = record { has = s.has; right = s.right; file = s.file; number = s.number }

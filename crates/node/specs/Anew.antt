@@ -7,8 +7,8 @@ use Rattle.deeds.specs.Kept.{new_node}
 use Rattle.node_log.specs.Entry.{IsEntry}
 use Rattle.recoveries.specs.Copies.{IsCopyOf, IsRecorded}
 use Rattle.recoveries.specs.Records.{IsStarted, LogRecord}
-use Rattle.rewritten_logs.specs.Calls.{HasOwnCalls}
-use Rattle.rewritten_logs.specs.Sound.{HasDistinctCalls, HasOwnObjects}
+use Rattle.recoveries.specs.OwnCalls.{HasOwnCalls}
+use Rattle.recoveries.specs.RewritingNodes.{HasDistinctCalls, HasOwnObjects}
 use Rattle.node_strings.specs.Strings.{Strings}
 use Rattle.node_effects.specs.declared.effects.Effects.{Effects}
 use Rattle.node_keeper.specs.Anew.{anew_records}

@@ -30,7 +30,7 @@ pub fn started_nodes_keep_own()
 {}
 
 /// A law: the ids of a node's open calls stay its own as it handles a frame. With `new_nodes_have_own_calls` and
-/// `restarting_keeps_own_calls` of `rewritten_logs`, they are its own at each moment.
+/// `restarting_keeps_own_calls` of `recoveries`, they are its own at each moment.
 pub fn handled_frames_keep_own_calls()
     ensures { HandledFramesKeepOwnCalls }
 {}

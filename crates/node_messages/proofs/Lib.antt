@@ -1,6 +1,5 @@
-pub mod WordLemmas
-pub mod FieldLemmas
-pub mod KindLemmas
+pub mod NumberLemmas
 pub mod BodyLemmas
+pub mod LayoutLemmas
 pub mod MessageLemmas
 pub mod FrameLemmas

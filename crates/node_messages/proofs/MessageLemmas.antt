@@ -1,189 +1,340 @@
 -- A message that is read is the message that was written, and what was written is read again.
-use Rattle.std.proofs.Common.{◌≡◌, ℕ, ◌-◌, ◌^◌, ◌<◌, ◌≤◌, [], ◌∷◌, ◌++◌, length, Result, Ok, Err, refl, sym, ap, subst, ◌∙◌, arith}
-use Rattle.std.specs.Prelude.{IfOk, is_some}
-use Rattle.std.specs.Fmt.{decimal}
-use Rattle.std.proofs.lemmas.List.{append-nil}
+use Rattle.std.proofs.Common.{◌≡◌, ℕ, ◌<◌, ◌≤◌, ◌^◌, Bool, true, false, ltb, eqb, cond, not, List, [], ◌∷◌, ◌++◌}
+use Rattle.std.proofs.Common.{length, take, drop}
+use Rattle.std.proofs.Common.{Option, Some, None, Result, Ok, Err, refl, sym, ap, ap₂, subst, ◌∙◌, inl, inr, arith, drop_at, length-append}
+use Rattle.std.proofs.Common.{take_all, take-append-drop}
+use Rattle.std.specs.Prelude.{IfOk, IfSome, is_some}
+use Rattle.std.specs.Str.{bytes_eq}
+use Rattle.std.proofs.lemmas.Bool.{ltb-false, le-ltb, lt-ltb, ltb-true, eqb-true, eq-eqb}
+use Rattle.std.proofs.lemmas.List.{take-append-le, length-take-le}
+use Rattle.std.proofs.lemmas.Slice.Eq.{bytes_eq-Decides}
 use Rattle.tag.specs.declared.limits.TheConstants.{LONGEST_NAME, MOST_MEMBERS}
+use Rattle.piece.specs.declared.piece.Piece.{Piece}
 use Rattle.layout.specs.Layout.{Layout, IsLawful}
-use Rattle.node_messages.specs.declared.error.Fault.{Fault}
-use Rattle.node_messages.specs.declared.error.MessageError.{MessageError}
-use Rattle.node_messages.specs.declared.fields.Subject.{Subject}
-use Rattle.node_messages.specs.declared.fields.Numbers.{Numbers}
-use Rattle.node_messages.specs.declared.message.NodeMessage.{NodeMessage}
-use Rattle.cluster_file.specs.declared.file.TheConstants.{DIGEST_LENGTH}
-use Rattle.node_messages.specs.Laws.{WrittenMessageIsRead, ReadMessageWasWritten, StringsNameOneMessage}
-use Rattle.node_messages.specs.Message.{IsMessage}
+use Rattle.mail.specs.declared.message.Body.{Body}
+use Rattle.mail.specs.declared.message.Message.{Message}
 use Rattle.mail.specs.Message.{names_next}
+use Rattle.cluster_file.specs.declared.file.TheConstants.{DIGEST_LENGTH}
 use Rattle.words.specs.Parts.{and_then}
+use Rattle.words.proofs.PartLemmas.{bind_ok, chosen, guarded, guarded_above, ok_is}
 use Rattle.node_strings.specs.Strings.{Strings}
-use Rattle.node_strings.specs.Layouts.{layout_string}
-use Rattle.node_messages.specs.Strings.{body_strings, next_strings, strings_of}
+use Rattle.node_messages.specs.declared.error.Fault.{Fault}
+use Rattle.node_messages.specs.declared.error.Fault.TheVariants.{OtherForm, NameTooLong, NoMember, UnusedPlace}
+use Rattle.node_messages.specs.declared.error.MessageError.{MessageError}
+use Rattle.node_messages.specs.declared.layouts.Layouts.{Layouts}
+use Rattle.node_messages.specs.declared.message.NodeMessage.{NodeMessage}
+use Rattle.node_messages.specs.declared.places.TheConstants.{FORM, NUMBERS_LENGTH, FORM_PLACE, PIECE_PLACE}
+use Rattle.node_messages.specs.declared.places.TheConstants.{POSITION_PLACE, MEMBER_PLACE}
+use Rattle.node_messages.specs.declared.said.Said.{Said}
+use Rattle.node_messages.specs.Codes.{flag_from}
 use Rattle.node_messages.specs.Gives.{Agrees}
-use Rattle.node_messages.specs.Reading.{first_number, first_layout, first_digest, first_name, first_subject, first_member}
-use Rattle.node_messages.specs.Reading.{first_numbers, first_body, first_next}
-use Rattle.node_messages.specs.Reading.{made_of, ending, message_from}
-use Rattle.words.proofs.PartLemmas.{bind_ok, ok_is}
-use Rattle.node_messages.proofs.FieldLemmas.{number_at_ok, number_at_again, layout_ok, layout_again, next_ok, next_again}
-use Rattle.node_messages.proofs.FieldLemmas.{digest_ok, digest_again, name_ok, name_again, member_ok, member_again}
-use Rattle.node_messages.proofs.BodyLemmas.{body_ok, body_again}
+use Rattle.node_messages.specs.Head.{byte_in, short_in, number_bytes, said_of, head_of, layout_bytes, next_bytes}
+use Rattle.node_messages.specs.Laws.{WrittenMessageIsRead, ReadMessageWasWritten, StringsNameOneMessage}
+use Rattle.node_messages.specs.Message.{IsMessage, IsPiece, IsBody}
+use Rattle.node_messages.specs.Reading.{first_string, first_name, ending, split_bytes, parts_of, piece_in, piece_if, last_piece}
+use Rattle.node_messages.specs.Reading.{body_from, layouts_from, made_of, checked_places, message_of_parts, message_from}
+use Rattle.node_messages.specs.Strings.{body_piece, piece_strings, strings_of}
+use Rattle.node_messages.proofs.NumberLemmas.{Says, numbers_say, body_said, long_below, short_below, byte_below, call_again}
+use Rattle.node_messages.proofs.NumberLemmas.{phase_again, position_again, member_again}
+use Rattle.node_messages.proofs.BodyLemmas.{HasPiece, PieceSaid, piece_is_said, last_again, body_again, body_ok}
+use Rattle.node_messages.proofs.LayoutLemmas.{layouts_ok, layouts_again}
 
--- ---- what a message is about
+-- ---- strings and names
 
-abbrev with_subject : Subject → Strings → Strings
-with_subject s rest = s.digest ∷ s.name ∷ layout_string s.layout ∷ rest
+string_ok : (strings : Strings) (x : List ℕ × Strings) → first_string strings ≡ Ok x → strings ≡ x.0 ∷ x.1
+unfolding first_string
+string_ok [] x e = absurd cc
+string_ok (s ∷ rest) x e = ap (λ (p : List ℕ × Strings). p.0 ∷ p.1) (ok_is (s, rest) x e)
 
-record IsSubject (s : Subject) : Type 0 where
-  digest : length s.digest ≡ DIGEST_LENGTH
-  name : length s.name ≤ LONGEST_NAME
-  layout : IsLawful s.layout
+name_ok : (strings : Strings) (x : List ℕ × Strings) → first_name strings ≡ Ok x → (strings ≡ x.0 ∷ x.1) × (length x.0 ≤ LONGEST_NAME)
+unfolding first_name
+name_ok strings x e =
+    let a = bind_ok (first_string strings) (λ string. cond (ltb LONGEST_NAME (length string.0)) (Err NameTooLong) (Ok string)) x e in
+    let g = guarded_above (ltb LONGEST_NAME (length a.0.0)) NameTooLong (Ok a.0) x a.2 in
+    subst (λ (y : List ℕ × Strings). (strings ≡ y.0 ∷ y.1) × (length y.0 ≤ LONGEST_NAME)) (ok_is a.0 x g.1)
+    (string_ok strings a.0 a.1, ltb-false LONGEST_NAME (length a.0.0) g.0)
 
-subject_ok : (strings : Strings) (x : Subject × Strings) → first_subject strings ≡ Ok x → (strings ≡ with_subject x.0 x.1) × IsSubject x.0
-unfolding first_subject
-subject_ok strings x e =
-    let a = bind_ok (first_digest strings) (λ digest. and_then (first_name digest.1) (λ name. and_then (first_layout name.1) (λ layout.
-    Ok (record { digest = digest.0; name = name.0; layout = layout.0 }, layout.1)))) x e in
-    let b = bind_ok (first_name a.0.1) (λ name. and_then (first_layout name.1) (λ layout.
-    Ok (record { digest = a.0.0; name = name.0; layout = layout.0 }, layout.1))) x a.2 in
-    let c = bind_ok (first_layout b.0.1) (λ layout. Ok (record { digest = a.0.0; name = b.0.0; layout = layout.0 }, layout.1)) x b.2 in
-    let digest = digest_ok strings a.0 a.1 in
-    let name = name_ok a.0.1 b.0 b.1 in
-    let layout = layout_ok b.0.1 c.0 c.1 in
-    let made : Subject × Strings = (record { digest = a.0.0; name = b.0.0; layout = c.0.0 }, c.0.1) in
-    subst (λ (y : Subject × Strings). (strings ≡ with_subject y.0 y.1) × IsSubject y.0) (ok_is made x c.2) (
-      digest.0 ∙ ap (λ (r : Strings). a.0.0 ∷ r) (name.0 ∙ ap (λ (r : Strings). b.0.0 ∷ r) layout.0),
-      record { digest = digest.1; name = name.1; layout = layout.1 },
-    )
+name_again : (name : List ℕ) (rest : Strings) → length name ≤ LONGEST_NAME → first_name (name ∷ rest) ≡ Ok (name, rest)
+unfolding first_name first_string
+name_again name rest le =
+    let short : ltb LONGEST_NAME (length name) ≡ false = le-ltb LONGEST_NAME (length name) le in
+    rw short refl
 
-subject_again : (s : Subject) (rest : Strings) → IsSubject s → first_subject (with_subject s rest) ≡ Ok (s, rest)
-unfolding first_subject
-subject_again s rest fits =
+-- ---- the parts of a head
+
+abbrev Parts : Type 0
+Parts = List ℕ × List ℕ × List ℕ
+
+-- the first bytes, and those after them, have this length and are these bytes
+abbrev IsSplit : ℕ → List ℕ → List ℕ × List ℕ → Type 0
+IsSplit n bytes x = (bytes ≡ x.0 ++ x.1) × (length x.0 ≡ n)
+
+split_ok : (n : ℕ) (bytes : List ℕ) (x : List ℕ × List ℕ) → split_bytes n bytes ≡ Ok x → IsSplit n bytes x
+unfolding split_bytes
+split_ok n bytes x e =
+    let g = guarded_above (ltb (length bytes) n) OtherForm (Ok (take n bytes, drop n bytes)) x e in
+    let enough : n ≤ length bytes = ltb-false (length bytes) n g.0 in
+    subst (IsSplit n bytes) (ok_is (take n bytes, drop n bytes) x g.1) (sym (take-append-drop n bytes), length-take-le n bytes enough)
+
+split_again : (n : ℕ) (a b : List ℕ) → length a ≡ n → split_bytes n (a ++ b) ≡ Ok (a, b)
+unfolding split_bytes
+split_again n a b e =
+    let enough : ltb (length (a ++ b)) n ≡ false = le-ltb (length (a ++ b)) n (omega (arith, length-append a b)) in
+    let front : take n (a ++ b) ≡ a = take-append-le n a b (omega arith) ∙ take_all n a (omega arith) in
+    rw (enough, front, drop_at a b n e) refl
+
+-- these are the parts of a head
+abbrev AreParts : List ℕ → Parts → Type 0
+AreParts head x = (head ≡ x.0 ++ (x.1 ++ x.2)) × (length x.1 ≡ DIGEST_LENGTH)
+
+parts_ok : (head : List ℕ) (x : Parts) → parts_of head ≡ Ok x → AreParts head x
+unfolding parts_of
+parts_ok head x e =
+    let a = bind_ok (split_bytes NUMBERS_LENGTH head) (λ numbers. and_then (split_bytes DIGEST_LENGTH numbers.1) (λ digest.
+    cond (eqb (byte_in FORM_PLACE numbers.0) FORM) (Ok (numbers.0, digest.0, digest.1)) (Err OtherForm))) x e in
+    let b = bind_ok (split_bytes DIGEST_LENGTH a.0.1) (λ digest.
+    cond (eqb (byte_in FORM_PLACE a.0.0) FORM) (Ok (a.0.0, digest.0, digest.1)) (Err OtherForm)) x a.2 in
+    let g = guarded (eqb (byte_in FORM_PLACE a.0.0) FORM) (Ok (a.0.0, b.0.0, b.0.1)) OtherForm x b.2 in
+    let numbers = split_ok NUMBERS_LENGTH head a.0 a.1 in
+    let digest = split_ok DIGEST_LENGTH a.0.1 b.0 b.1 in
+    subst (AreParts head) (ok_is (a.0.0, b.0.0, b.0.1) x g.1)
+    (numbers.0 ∙ ap (λ (r : List ℕ). a.0.0 ++ r) digest.0, digest.1)
+
+parts_by : (numbers digest layouts : List ℕ) → length numbers ≡ NUMBERS_LENGTH → length digest ≡ DIGEST_LENGTH
+    → byte_in FORM_PLACE numbers ≡ FORM → parts_of (numbers ++ (digest ++ layouts)) ≡ Ok (numbers, digest, layouts)
+unfolding parts_of
+parts_by numbers digest layouts n d form =
     rw (
-      digest_again s.digest (s.name ∷ layout_string s.layout ∷ rest) fits.digest,
-      name_again s.name (layout_string s.layout ∷ rest) fits.name,
-      layout_again s.layout rest fits.layout,
+      split_again NUMBERS_LENGTH numbers (digest ++ layouts) n,
+      split_again DIGEST_LENGTH digest layouts d,
+      eq-eqb (byte_in FORM_PLACE numbers) FORM form,
     ) refl
 
--- ---- the numbers of a message
+parts_again : (m : Message) (said : Said) (digest layouts : List ℕ) → length digest ≡ DIGEST_LENGTH
+    → parts_of (number_bytes m said ++ (digest ++ layouts)) ≡ Ok (number_bytes m said, digest, layouts)
+parts_again m said digest layouts long = parts_by (number_bytes m said) digest layouts refl long refl
 
-abbrev with_numbers : Numbers → Strings → Strings
-with_numbers n rest = decimal n.call ∷ decimal n.phase ∷ decimal n.position ∷ decimal n.member ∷ rest
+-- ---- the piece
 
-record AreNumbers (n : ℕ) (numbers : Numbers) : Type 0 where
-  call : numbers.call < 2 ^ 64
-  phase : numbers.phase < 2 ^ 32
-  position : numbers.position < 2 ^ 32
-  member : numbers.member < n
-
-numbers_ok : (n : ℕ) (strings : Strings) (x : Numbers × Strings) → first_numbers n strings ≡ Ok x
-    → (strings ≡ with_numbers x.0 x.1) × AreNumbers n x.0
-unfolding first_numbers
-numbers_ok n strings x e =
-    let a = bind_ok (first_number (2 ^ 64 - 1) strings) (λ call. and_then (first_number (2 ^ 32 - 1) call.1) (λ phase.
-    and_then (first_number (2 ^ 32 - 1) phase.1) (λ position. and_then (first_member n position.1) (λ member.
-    Ok (record { call = call.0; phase = phase.0; position = position.0; member = member.0 }, member.1))))) x e in
-    let b = bind_ok (first_number (2 ^ 32 - 1) a.0.1) (λ phase.
-    and_then (first_number (2 ^ 32 - 1) phase.1) (λ position. and_then (first_member n position.1) (λ member.
-    Ok (record { call = a.0.0; phase = phase.0; position = position.0; member = member.0 }, member.1)))) x a.2 in
-    let c = bind_ok (first_number (2 ^ 32 - 1) b.0.1) (λ position. and_then (first_member n position.1) (λ member.
-    Ok (record { call = a.0.0; phase = b.0.0; position = position.0; member = member.0 }, member.1))) x b.2 in
-    let d = bind_ok (first_member n c.0.1) (λ member.
-    Ok (record { call = a.0.0; phase = b.0.0; position = c.0.0; member = member.0 }, member.1)) x c.2 in
-    let call = number_at_ok (2 ^ 64 - 1) strings a.0 (omega arith) (omega arith) a.1 in
-    let phase = number_at_ok (2 ^ 32 - 1) a.0.1 b.0 (omega arith) (omega arith) b.1 in
-    let position = number_at_ok (2 ^ 32 - 1) b.0.1 c.0 (omega arith) (omega arith) c.1 in
-    let member = member_ok n c.0.1 d.0 d.1 in
-    let made : Numbers × Strings = (record { call = a.0.0; phase = b.0.0; position = c.0.0; member = d.0.0 }, d.0.1) in
-    subst (λ (y : Numbers × Strings). (strings ≡ with_numbers y.0 y.1) × AreNumbers n y.0) (ok_is made x d.2) (
-      call.0 ∙ ap (λ (r : Strings). decimal a.0.0 ∷ r) (phase.0 ∙ ap (λ (r : Strings). decimal b.0.0 ∷ r)
-          (position.0 ∙ ap (λ (r : Strings). decimal c.0.0 ∷ r) member.0)),
-      record {
-        call = omega (arith, call.1);
-        phase = omega (arith, phase.1);
-        position = omega (arith, position.1);
-        member = member.1;
-      },
-    )
-
-numbers_again : (n : ℕ) (numbers : Numbers) (rest : Strings) → AreNumbers n numbers → n < 2 ^ 8
-    → first_numbers n (with_numbers numbers rest) ≡ Ok (numbers, rest)
-unfolding first_numbers
-numbers_again n numbers rest fits few =
-    let x = numbers in
-    let call : x.call ≤ 2 ^ 64 - 1 = omega (arith, fits.call) in
-    let phase : x.phase ≤ 2 ^ 32 - 1 = omega (arith, fits.phase) in
-    let position : x.position ≤ 2 ^ 32 - 1 = omega (arith, fits.position) in
-    rw (
-      number_at_again (2 ^ 64 - 1) x.call (decimal x.phase ∷ decimal x.position ∷ decimal x.member ∷ rest) call (omega arith),
-      number_at_again (2 ^ 32 - 1) x.phase (decimal x.position ∷ decimal x.member ∷ rest) phase (omega arith),
-      number_at_again (2 ^ 32 - 1) x.position (decimal x.member ∷ rest) position (omega arith),
-      member_again n x.member rest fits.member few,
-    ) refl
-
--- ---- messages
+piece_fits : (numbers bytes : List ℕ) → IsPiece (piece_in numbers bytes)
+piece_fits numbers bytes = (byte_below _, short_below _)
 
 ended : {X : Type 0} (x : X) (rest : Strings) (y : X) → ending x rest ≡ Ok y → (rest ≡ []) × (x ≡ y)
 ended x [] y e = (refl, ok_is x y e)
 ended x (s ∷ rest) y e = absurd cc
 
-pub message_ok : ReadMessageWasWritten
-unfolding message_from
-message_ok strings m e =
-    let a = bind_ok (first_subject strings) (λ subject. and_then (first_numbers (length subject.0.layout.members) subject.1) (λ numbers.
-    and_then (first_body numbers.1) (λ found. and_then (first_next (names_next found.0) found.1) (λ next.
-    ending (made_of subject.0 numbers.0 found.0 next.0) next.1)))) m e in
-    let n = length a.0.0.layout.members in
-    let b = bind_ok (first_numbers n a.0.1) (λ numbers. and_then (first_body numbers.1) (λ found.
-    and_then (first_next (names_next found.0) found.1) (λ next. ending (made_of a.0.0 numbers.0 found.0 next.0) next.1))) m a.2 in
-    let c = bind_ok (first_body b.0.1) (λ found. and_then (first_next (names_next found.0) found.1) (λ next.
-    ending (made_of a.0.0 b.0.0 found.0 next.0) next.1)) m b.2 in
-    let d = bind_ok (first_next (names_next c.0.0) c.0.1) (λ next. ending (made_of a.0.0 b.0.0 c.0.0 next.0) next.1) m c.2 in
-    let end = ended (made_of a.0.0 b.0.0 c.0.0 d.0.0) d.0.1 m d.2 in
-    let subject = subject_ok strings a.0 a.1 in
-    let numbers = numbers_ok n a.0.1 b.0 b.1 in
-    let found = body_ok b.0.1 c.0 c.1 in
-    let next = next_ok (names_next c.0.0) c.0.1 d.0 d.1 in
-    let last : c.0.1 ≡ next_strings d.0.0 = next.0 ∙ ap (λ (r : Strings). next_strings d.0.0 ++ r) end.0
-    ∙ append-nil (next_strings d.0.0) in
-    let whole : strings ≡ strings_of (made_of a.0.0 b.0.0 c.0.0 d.0.0) = subject.0
-    ∙ ap (with_subject a.0.0) (numbers.0 ∙ ap (with_numbers b.0.0) (found.0
-    ∙ ap (λ (r : Strings). body_strings c.0.0 ++ r) last)) in
-    subst (λ (y : NodeMessage). IsMessage y × (strings ≡ strings_of y)) end.1 (
-      record {
-        digest = subject.1.digest;
-        name = subject.1.name;
-        layout = subject.1.layout;
-        call = numbers.1.call;
-        phase = numbers.1.phase;
-        position = numbers.1.position;
-        member = numbers.1.member;
-        body = found.1;
-        named = next.1;
-        next = next.2;
-      },
-      whole,
+-- whether the numbers say that there is a piece
+abbrev flag : Option Piece → ℕ
+flag None = 0
+flag (Some piece) = 1
+
+-- a piece that was read
+abbrev ReadPiece : Strings → Option Piece → Type 0
+ReadPiece rest piece = (rest ≡ piece_strings piece) × IfSome piece IsPiece
+
+piece_if_ok : (is_piece : Bool) (numbers : List ℕ) (rest : Strings) (piece : Option Piece) → piece_if is_piece numbers rest ≡ Ok piece
+    → ReadPiece rest piece × (is_some piece ≡ is_piece)
+unfolding piece_if
+piece_if_ok true numbers rest piece e =
+    let a = bind_ok (first_string rest) (λ bytes. ending (Some (piece_in numbers bytes.0)) bytes.1) piece e in
+    let end = ended (Some (piece_in numbers a.0.0)) a.0.1 piece a.2 in
+    let whole : rest ≡ a.0.0 ∷ [] = string_ok rest a.0 a.1 ∙ ap (λ (r : Strings). a.0.0 ∷ r) end.0 in
+    subst (λ (p : Option Piece). ReadPiece rest p × (is_some p ≡ true)) end.1 ((whole, piece_fits numbers a.0.0), refl)
+piece_if_ok false numbers rest piece e =
+    let end = ended None rest piece e in
+    subst (λ (p : Option Piece). ReadPiece rest p × (is_some p ≡ false)) end.1 ((end.0, tt), refl)
+
+flag_ok : (code : ℕ) (b : Bool) → flag_from code ≡ Ok b → code ≡ cond b 1 0
+unfolding flag_from
+flag_ok code b e =
+    elim (chosen (eqb code 0) (Ok false) _ b e) [
+      | inl h ↦ eqb-true code 0 h.0 ∙ ap (λ b. cond b 1 0) (ok_is false b h.1)
+      | inr e2 ↦ elim (chosen (eqb code 1) (Ok true) _ b e2) [
+        | inl h ↦ eqb-true code 1 h.0 ∙ ap (λ b. cond b 1 0) (ok_is true b h.1)
+        | inr e3 ↦ absurd cc
+      ]
+    ]
+
+last_ok : (numbers : List ℕ) (rest : Strings) (piece : Option Piece) → last_piece numbers rest ≡ Ok piece
+    → ReadPiece rest piece × (byte_in PIECE_PLACE numbers ≡ flag piece)
+unfolding last_piece
+last_ok numbers rest piece e =
+    let f = bind_ok (flag_from (byte_in PIECE_PLACE numbers)) (λ is_piece. piece_if is_piece numbers rest) piece e in
+    let p = piece_if_ok f.0 numbers rest piece f.2 in
+    (p.0, flag_ok (byte_in PIECE_PLACE numbers) f.0 f.1 ∙ ap (λ b. cond b 1 0) (sym p.1) ∙ of_some piece)
+  where
+    of_some : (piece : Option Piece) → cond (is_some piece) 1 0 ≡ flag piece
+    of_some None = refl
+    of_some (Some piece) = refl
+
+-- the body has the piece that was read, where the numbers say what they would say of the body
+same_piece : (piece of_body : Option Piece) (numbers : List ℕ) (said : Said) → HasPiece piece of_body → PieceSaid said of_body
+    → byte_in PIECE_PLACE numbers ≡ flag piece → byte_in PIECE_PLACE numbers ≡ said.is_piece → of_body ≡ piece
+same_piece piece of_body numbers said (inl same) is read says = same
+same_piece None of_body numbers said (inr none) is read says = none
+same_piece (Some p) None numbers said (inr none) is read says = absurd (omega (arith, is, read, says))
+same_piece (Some p) (Some q) numbers said (inr none) is read says = absurd cc
+
+-- ---- messages
+
+not_false : (b : Bool) → not b ≡ false → b ≡ true
+not_false true e = refl
+not_false false e = absurd cc
+
+-- the numbers are those of the message
+abbrev of_message : NodeMessage → List ℕ
+of_message m = number_bytes m.message (said_of m.message.body)
+
+checked_ok : (numbers : List ℕ) (m x : NodeMessage) → checked_places numbers m ≡ Ok x
+    → (m.message.member < length m.layout.members) × (of_message m ≡ numbers) × (m ≡ x)
+unfolding checked_places
+checked_ok numbers m x e =
+    let has = ltb m.message.member (length m.layout.members) in
+    let g = guarded_above (not has) NoMember (cond (bytes_eq (of_message m) numbers) (Ok m) (Err UnusedPlace)) x e in
+    let h = guarded (bytes_eq (of_message m) numbers) (Ok m) UnusedPlace x g.1 in (
+      ltb-true m.message.member (length m.layout.members) (not_false has g.0),
+      (bytes_eq-Decides (of_message m) numbers).0 h.0,
+      ok_is m x h.1,
     )
 
-few_members : (layout : Layout) → IsLawful layout → length layout.members < 2 ^ 8
-few_members layout lawful = let limit : MOST_MEMBERS ≡ 255 = refl in omega (arith, lawful.few)
+checked_again : (m : NodeMessage) → m.message.member < length m.layout.members → checked_places (of_message m) m ≡ Ok m
+unfolding checked_places
+checked_again m lt =
+    chosen_twice (ltb m.message.member (length m.layout.members)) (bytes_eq (of_message m) (of_message m)) m
+    (lt-ltb m.message.member (length m.layout.members) lt) ((bytes_eq-Decides (of_message m) (of_message m)).1 refl)
+  where
+    chosen_twice : (a b : Bool) (m : NodeMessage) → a ≡ true → b ≡ true
+        → cond (not a) (Err NoMember) (cond b (Ok m) (Err UnusedPlace)) ≡ Ok m
+    chosen_twice true true m e f = refl
+    chosen_twice true false m e f = absurd cc
+    chosen_twice false b m e f = absurd cc
+
+-- a message that is made of parts whose numbers are its own
+made_is : (numbers digest name : List ℕ) (piece : Option Piece) (found : Body) (layouts : Layouts) (head : List ℕ) (rest last : Strings)
+    → AreParts head (numbers, digest, layout_bytes layouts.layout ++ next_bytes layouts.next)
+    → (rest ≡ name ∷ last) × (length name ≤ LONGEST_NAME)
+    → ReadPiece last piece × (byte_in PIECE_PLACE numbers ≡ flag piece) → IsBody found × HasPiece piece (body_piece found)
+    → IsLawful layouts.layout × (is_some layouts.next ≡ names_next found) × IfSome layouts.next IsLawful
+    → byte_in PIECE_PLACE numbers ≡ (said_of found).is_piece
+    → (made_of numbers digest name found layouts).message.member < length layouts.layout.members
+    → of_message (made_of numbers digest name found layouts) ≡ numbers
+    → IsMessage (made_of numbers digest name found layouts)
+    × (head ∷ rest ≡ strings_of (made_of numbers digest name found layouts))
+made_is numbers digest name piece found layouts head rest last parts named read body lay says member own =
+    let m = made_of numbers digest name found layouts in
+    let behind = digest ++ (layout_bytes layouts.layout ++ next_bytes layouts.next) in
+    let same = same_piece piece (body_piece found) numbers (said_of found) body.1 (piece_is_said found) read.1 says in
+    let whole_head : head ≡ head_of m = parts.0 ∙ ap (λ (n : List ℕ). n ++ behind) (sym own) in
+    let whole_rest : rest ≡ name ∷ piece_strings (body_piece found) =
+    named.0 ∙ ap (λ (r : Strings). name ∷ r) (read.0.0 ∙ ap piece_strings (sym same)) in (
+      record {
+        digest = parts.1;
+        name = named.1;
+        layout = lay.0;
+        call = long_below _;
+        phase = short_below _;
+        position = short_below _;
+        member = member;
+        body = body.0;
+        named = lay.1;
+        next = lay.2;
+      },
+      ap₂ (λ (h : List ℕ) (r : Strings). h ∷ r) whole_head whole_rest,
+    )
+
+-- the numbers of a message say its body
+own_says : (m : NodeMessage) (numbers : List ℕ) → IsBody m.message.body → of_message m ≡ numbers → Says numbers (said_of m.message.body)
+own_says m numbers fits own =
+    subst (λ (n : List ℕ). Says n (said_of m.message.body)) own
+    (numbers_say m.message (said_of m.message.body) (body_said m.message.body fits))
+
+pub message_ok : ReadMessageWasWritten
+unfolding message_from message_of_parts
+message_ok strings m e =
+    let a = bind_ok (first_string strings) (λ head. and_then (parts_of head.0) (λ parts. and_then (first_name head.1) (λ name.
+    and_then (last_piece parts.0 name.1) (λ piece. and_then (body_from parts.0 piece) (λ found.
+    and_then (layouts_from (names_next found) parts.2) (λ layouts.
+    checked_places parts.0 (made_of parts.0 parts.1 name.0 found layouts))))))) m e in
+    let b = bind_ok (parts_of a.0.0) (λ parts. and_then (first_name a.0.1) (λ name.
+    and_then (last_piece parts.0 name.1) (λ piece. and_then (body_from parts.0 piece) (λ found.
+    and_then (layouts_from (names_next found) parts.2) (λ layouts.
+    checked_places parts.0 (made_of parts.0 parts.1 name.0 found layouts)))))) m a.2 in
+    let numbers = b.0.0 in
+    let c = bind_ok (first_name a.0.1) (λ name. and_then (last_piece numbers name.1) (λ piece.
+    and_then (body_from numbers piece) (λ found. and_then (layouts_from (names_next found) b.0.2) (λ layouts.
+    checked_places numbers (made_of numbers b.0.1 name.0 found layouts))))) m b.2 in
+    let d = bind_ok (last_piece numbers c.0.1) (λ piece. and_then (body_from numbers piece) (λ found.
+    and_then (layouts_from (names_next found) b.0.2) (λ layouts.
+    checked_places numbers (made_of numbers b.0.1 c.0.0 found layouts)))) m c.2 in
+    let f = bind_ok (body_from numbers d.0) (λ found. and_then (layouts_from (names_next found) b.0.2) (λ layouts.
+    checked_places numbers (made_of numbers b.0.1 c.0.0 found layouts))) m d.2 in
+    let g = bind_ok (layouts_from (names_next f.0) b.0.2) (λ layouts.
+    checked_places numbers (made_of numbers b.0.1 c.0.0 f.0 layouts)) m f.2 in
+    let made = made_of numbers b.0.1 c.0.0 f.0 g.0 in
+    let checked = checked_ok numbers made m g.2 in
+    let parts = parts_ok a.0.0 b.0 b.1 in
+    let lay = layouts_ok (names_next f.0) b.0.2 g.0 g.1 in
+    let read = last_ok numbers c.0.1 d.0 d.1 in
+    let body = body_ok numbers d.0 f.0 read.0.1 f.1 in
+    let says = own_says made numbers body.0 checked.1 in
+    let whole = made_is numbers b.0.1 c.0.0 d.0 f.0 g.0 a.0.0 a.0.1 c.0.1
+    (parts.0 ∙ ap (λ (l : List ℕ). numbers ++ (b.0.1 ++ l)) lay.0, parts.1) (name_ok a.0.1 c.0 c.1) read body (lay.1, lay.2, lay.3)
+    says.is_piece checked.0 checked.1 in
+    subst (λ (y : NodeMessage). IsMessage y × (strings ≡ strings_of y)) checked.2
+    (whole.0, string_ok strings a.0 a.1 ∙ whole.1)
+
+message_by : (strings rest : Strings) (head numbers digest layout_part : List ℕ) (name : List ℕ × Strings) (piece : Option Piece)
+    (found : Body) (layouts : Layouts) → first_string strings ≡ Ok (head, rest) → parts_of head ≡ Ok (numbers, digest, layout_part)
+    → first_name rest ≡ Ok name → last_piece numbers name.1 ≡ Ok piece → body_from numbers piece ≡ Ok found
+    → layouts_from (names_next found) layout_part ≡ Ok layouts
+    → message_from strings ≡ checked_places numbers (made_of numbers digest name.0 found layouts)
+unfolding message_from message_of_parts
+message_by strings rest head numbers digest layout_part name piece found layouts a b c d f g = rw (a, b, c, d, f, g) refl
+
+-- this message with these numbers
+abbrev with_numbers : NodeMessage → ℕ → ℕ → ℕ → ℕ → NodeMessage
+with_numbers m call phase position member = record {
+  digest = m.digest;
+  name = m.name;
+  layout = m.layout;
+  next = m.next;
+  message = record { call = call; phase = phase; position = position; member = member; body = m.message.body };
+}
+
+few_members : (layout : Layout) (member : ℕ) → IsLawful layout → member < length layout.members → member < 2 ^ 8
+few_members layout member lawful lt = let limit : MOST_MEMBERS ≡ 255 = refl in omega (arith, lawful.few)
+
+made_again : (m : NodeMessage) → IsMessage m
+    → made_of (of_message m) m.digest m.name m.message.body (record { layout = m.layout; next = m.next }) ≡ m
+made_again m is =
+    let x = m.message in
+    let said = said_of x.body in
+    let small = few_members m.layout x.member is.layout is.member in
+    ap₂ (λ call phase. with_numbers m call phase (short_in POSITION_PLACE (of_message m)) (byte_in MEMBER_PLACE (of_message m)))
+    (call_again x said is.call) (phase_again x said is.phase)
+    ∙ ap₂ (λ position member. with_numbers m x.call x.phase position member)
+    (position_again x said is.position) (member_again x said small)
+
+first_again : (s : List ℕ) (rest : Strings) → first_string (s ∷ rest) ≡ Ok (s, rest)
+unfolding first_string
+first_again s rest = refl
 
 pub message_again : WrittenMessageIsRead
-unfolding message_from
 message_again m is =
-    let s : Subject = record { digest = m.digest; name = m.name; layout = m.layout } in
     let x = m.message in
-    let numbers : Numbers = record { call = x.call; phase = x.phase; position = x.position; member = x.member } in
-    let n = length m.layout.members in
-    let behind = body_strings x.body ++ next_strings m.next in
-    let read_subject : first_subject (strings_of m) ≡ Ok (s, with_numbers numbers behind) =
-    subject_again s (with_numbers numbers behind) (record { digest = is.digest; name = is.name; layout = is.layout }) in
-    let read_numbers : first_numbers n (with_numbers numbers behind) ≡ Ok (numbers, behind) =
-    numbers_again n numbers behind (record { call = is.call; phase = is.phase; position = is.position; member = is.member })
-    (few_members m.layout is.layout) in
-    let read_next : first_next (names_next x.body) (next_strings m.next) ≡ Ok (m.next, []) =
-    ap (λ b. first_next b (next_strings m.next)) (sym is.named)
-    ∙ ap (first_next (is_some m.next)) (sym (append-nil (next_strings m.next)))
-    ∙ next_again m.next [] is.next in
-    rw (read_subject, read_numbers, body_again x.body (next_strings m.next) is.body, read_next) refl
+    let said = said_of x.body in
+    let numbers = number_bytes x said in
+    let piece = body_piece x.body in
+    let layout_part = layout_bytes m.layout ++ next_bytes m.next in
+    let layouts : Layouts = record { layout = m.layout; next = m.next } in
+    let says = numbers_say x said (body_said x.body is.body) in
+    message_by (strings_of m) (m.name ∷ piece_strings piece) (head_of m) numbers m.digest layout_part (m.name, piece_strings piece) piece
+    x.body layouts (first_again (head_of m) (m.name ∷ piece_strings piece)) (parts_again x said m.digest layout_part is.digest)
+    (name_again m.name (piece_strings piece) is.name) (last_again numbers said piece says (piece_is_said x.body))
+    (body_again numbers x.body is.body says)
+    (ap (λ b. layouts_from b layout_part) (sym is.named) ∙ layouts_again m.layout m.next is.layout is.next)
+    ∙ ap (checked_places numbers) (made_again m is)
+    ∙ checked_again m is.member
 
 abbrev read_as : NodeMessage → Result NodeMessage Fault
 read_as m = Ok m

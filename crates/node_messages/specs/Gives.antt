@@ -1,12 +1,10 @@
 -- The contracts that docs/trusted.md lists do not depend on this file; other contracts and proofs do.
 -- What functions that read give.
-use Rattle.std.specs.Prelude.{◌≡◌, Result, Ok, Err}
+use Rattle.std.specs.Prelude.{◌≡◌, ℕ, List, Result, Ok, Err}
 use denote.Ref.{Bor}
-use Rattle.node_strings.specs.Strings.{Strings}
 use Rattle.node_messages.specs.declared.error.Fault.{Fault}
 use Rattle.node_messages.specs.declared.error.MessageError.{MessageError}
 use Rattle.node_messages.specs.declared.error.MessageError.TheVariants as errors
-use Rattle.node_messages.specs.Reading.{FirstAndRest}
 
 -- what a function returned, seen by `view`, is what reading gives; if there was no memory, nothing is said
 abbrev pub AgreesAs : {X Y : Type 0} → (X → Y) → Result X MessageError → Result Y Fault → Type 0
@@ -18,6 +16,7 @@ AgreesAs view (Err errors.NoMemory) read = Unit {0}
 abbrev pub Agrees : {X : Type 0} → Result X MessageError → Result X Fault → Type 0
 Agrees result read = AgreesAs (λ x. x) result read
 
--- the same for a value and the strings after it
-abbrev pub AgreesAt : {X : Type 0} → Result (X × Bor Strings) MessageError → FirstAndRest X → Type 0
-AgreesAt result read = AgreesAs (λ x. (x.0, x.1.now)) result read
+-- the same for a value and the bytes after it
+abbrev pub AgreesAtBytes : {X : Type 0} → Result (X × Bor (List ℕ)) Fault → Result (X × List ℕ) Fault → Type 0
+AgreesAtBytes (Ok x) read = read ≡ Ok (x.0, x.1.now)
+AgreesAtBytes (Err fault) read = read ≡ Err fault

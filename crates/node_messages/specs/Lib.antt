@@ -1,4 +1,5 @@
-pub mod Words
+pub mod Codes
+pub mod Head
 pub mod Message
 pub mod Strings
 pub mod Reading

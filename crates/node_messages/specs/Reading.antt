@@ -1,7 +1,7 @@
 -- The contracts that docs/trusted.md lists do not depend on this file; other contracts and proofs do.
--- Reading a message from the strings of a frame, from left to right, up to the first fault.
-use Rattle.std.specs.Prelude.{◌==◌, ◌^◌, ◌-◌, ℕ, List, [], ◌∷◌, length, Option, Some, None, Bool, true, false}
-use Rattle.std.specs.Prelude.{Result, Ok, Err, nat_lt, if◌then◌else◌, codes}
+-- Reading a message from the strings of a frame, up to the first fault.
+use Rattle.std.specs.Prelude.{◌==◌, ℕ, List, [], ◌∷◌, length, take, drop, Option, Some, None, Bool, true, false}
+use Rattle.std.specs.Prelude.{Result, Ok, Err, nat_lt, not, if◌then◌else◌}
 use Rattle.std.specs.Str.{bytes_eq}
 use Rattle.tag.specs.declared.limits.TheConstants.{LONGEST_NAME}
 use Rattle.tag.specs.declared.tag.Tag.{Tag}
@@ -17,19 +17,24 @@ use Rattle.bank.specs.declared.request.Request.TheVariants as request
 use Rattle.bank.specs.declared.status.Status.{Status}
 use Rattle.mail.specs.declared.message.Body.{Body}
 use Rattle.mail.specs.declared.message.Body.TheVariants as body
+use Rattle.mail.specs.Message.{names_next}
+use Rattle.cluster_file.specs.declared.file.TheConstants.{DIGEST_LENGTH}
 use Rattle.node_strings.specs.Strings.{Strings}
-use Rattle.node_strings.specs.Numbers.{number_up_to}
-use Rattle.node_strings.specs.Layouts.{layout_of_string}
+use Rattle.node_strings.specs.Layouts.{checked_layout}
 use Rattle.words.specs.Parts.{and_then}
 use Rattle.node_messages.specs.declared.error.Fault.{Fault}
-use Rattle.node_messages.specs.declared.error.Fault.TheVariants.{WrongCount, BadDigest, NameTooLong, BadLayout}
-use Rattle.node_messages.specs.declared.error.Fault.TheVariants.{BadNumber, OutOfRange, NoMember, UnknownWord}
-use Rattle.node_messages.specs.declared.fields.Subject.{Subject}
-use Rattle.node_messages.specs.declared.fields.Numbers.{Numbers}
+use Rattle.node_messages.specs.declared.error.Fault.TheVariants.{WrongCount, OtherForm, NameTooLong, UnknownCode}
+use Rattle.node_messages.specs.declared.error.Fault.TheVariants.{NoPiece, BadLayout, LongHead, NoMember, UnusedPlace}
+use Rattle.node_messages.specs.declared.layouts.Layouts.{Layouts}
 use Rattle.node_messages.specs.declared.message.NodeMessage.{NodeMessage}
-use Rattle.cluster_file.specs.declared.file.TheConstants.{DIGEST_LENGTH}
-use Rattle.mail.specs.Message.{names_next}
-use Rattle.node_messages.specs.Words.{status_from, is_request_from, is_piece_from}
+use Rattle.node_messages.specs.declared.places.TheConstants.{FORM, NUMBERS_LENGTH, FORM_PLACE, CALL_PLACE}
+use Rattle.node_messages.specs.declared.places.TheConstants.{PHASE_PLACE, POSITION_PLACE, MEMBER_PLACE, ROLE_PLACE}
+use Rattle.node_messages.specs.declared.places.TheConstants.{KIND_PLACE, STATUS_PLACE, TAG_NUMBER_PLACE, TAG_CALL_PLACE}
+use Rattle.node_messages.specs.declared.places.TheConstants.{STEP_PLACE, PIECE_PLACE, POINT_PLACE, LEN_PLACE}
+use Rattle.node_messages.specs.Codes.{status_from, flag_from}
+use Rattle.node_messages.specs.Head.{byte_in, short_in, long_in, number_bytes, said_of}
+
+-- Strings
 
 -- what the first strings write, or the first fault there; and the strings after them
 abbrev pub FirstAndRest : Type 0 → Type 0
@@ -40,182 +45,189 @@ unfoldable pub first_string : Strings → FirstAndRest (List ℕ)
 first_string [] = Err WrongCount
 first_string (string ∷ rest) = Ok (string, rest)
 
--- the number up to `most` that the first string writes
-unfoldable pub first_number : ℕ → Strings → FirstAndRest ℕ
-first_number most strings =
-    and_then (first_string strings) (λ string.
-    and_then (number_up_to BadNumber most OutOfRange string.0) (λ n.
-    Ok (n, string.1)))
-
--- the tag that the first two strings write
-unfoldable pub first_tag : Strings → FirstAndRest Tag
-first_tag strings =
-    and_then (first_number (2 ^ 64 - 1) strings) (λ number.
-    and_then (first_number (2 ^ 64 - 1) number.1) (λ call.
-    Ok (record { number = number.0; call = call.0 }, call.1)))
-
--- the piece that the first three strings write
-unfoldable pub first_piece : Strings → FirstAndRest Piece
-first_piece strings =
-    and_then (first_number (2 ^ 8 - 1) strings) (λ point.
-    and_then (first_number (2 ^ 32 - 1) point.1) (λ len.
-    and_then (first_string len.1) (λ bytes.
-    Ok (record { point = point.0; len = len.0; bytes = bytes.0 }, bytes.1))))
-
--- a status
-unfoldable pub first_status : Strings → FirstAndRest Status
-first_status strings =
-    and_then (first_string strings) (λ word.
-    and_then (status_from word.0) (λ status.
-    Ok (status, word.1)))
-
--- a layout
-unfoldable pub first_layout : Strings → FirstAndRest Layout
-first_layout strings =
-    and_then (first_string strings) (λ string.
-    and_then (layout_of_string BadLayout string.0) (λ layout.
-    Ok (layout, string.1)))
-
--- this digest, unless it has another length
-abbrev pub checked_digest : List ℕ → Result (List ℕ) Fault
-checked_digest string = if length string == DIGEST_LENGTH then Ok string else Err BadDigest
-
--- a digest
-unfoldable pub first_digest : Strings → FirstAndRest (List ℕ)
-first_digest strings =
-    and_then (first_string strings) (λ string.
-    and_then (checked_digest string.0) (λ digest.
-    Ok (digest, string.1)))
-
 -- a name
 unfoldable pub first_name : Strings → FirstAndRest (List ℕ)
 first_name strings =
     and_then (first_string strings) (λ string.
     if nat_lt LONGEST_NAME (length string.0) then Err NameTooLong else Ok string)
 
--- what a message is about
-unfoldable pub first_subject : Strings → FirstAndRest Subject
-first_subject strings =
-    and_then (first_digest strings) (λ digest.
-    and_then (first_name digest.1) (λ name.
-    and_then (first_layout name.1) (λ layout.
-    Ok (record { digest = digest.0; name = name.0; layout = layout.0 }, layout.1))))
-
--- a member of a layout with n members
-unfoldable pub first_member : ℕ → Strings → FirstAndRest ℕ
-first_member n strings =
-    and_then (first_number (2 ^ 8 - 1) strings) (λ member.
-    if nat_lt member.0 n then Ok member else Err NoMember)
-
--- the numbers of a message to or from a member of a layout with n members
-unfoldable pub first_numbers : ℕ → Strings → FirstAndRest Numbers
-first_numbers n strings =
-    and_then (first_number (2 ^ 64 - 1) strings) (λ call.
-    and_then (first_number (2 ^ 32 - 1) call.1) (λ phase.
-    and_then (first_number (2 ^ 32 - 1) phase.1) (λ position.
-    and_then (first_member n position.1) (λ member.
-    Ok (record { call = call.0; phase = phase.0; position = position.0; member = member.0 }, member.1)))))
-
--- a kind that has a tag
-unfoldable pub kind_tagged : List ℕ → Strings → FirstAndRest Kind
-kind_tagged word rest =
-    if bytes_eq word (codes "pre-write") then (and_then (first_tag rest) (λ tag. Ok (kind.PreWrite tag.0, tag.1)))
-    else (if bytes_eq word (codes "finalize") then (and_then (first_tag rest) (λ tag. Ok (kind.Finalize tag.0, tag.1)))
-    else (if bytes_eq word (codes "fetch") then (and_then (first_tag rest) (λ tag. Ok (kind.Fetch tag.0, tag.1)))
-    else Err UnknownWord))
-
--- a kind whose word this is
-unfoldable pub kind_from : List ℕ → Strings → FirstAndRest Kind
-kind_from word rest =
-    if bytes_eq word (codes "next") then Ok (kind.Next, rest)
-    else (if bytes_eq word (codes "spread")
-    then (and_then (first_status rest) (λ found. Ok (kind.Spread found.0, found.1)))
-    else (if bytes_eq word (codes "query") then Ok (kind.Query, rest)
-    else kind_tagged word rest))
-
--- a kind
-unfoldable pub first_kind : Strings → FirstAndRest Kind
-first_kind strings =
-    and_then (first_string strings) (λ word.
-    kind_from word.0 word.1)
-
--- a request of this kind
-unfoldable pub first_request : Kind → Strings → FirstAndRest Request
-first_request kind.Next rest = Ok (request.Next, rest)
-first_request (kind.Spread found) rest = Ok (request.Spread found, rest)
-first_request kind.Query rest = Ok (request.Query, rest)
-first_request (kind.PreWrite tag) rest =
-    and_then (first_piece rest) (λ piece. Ok (request.PreWrite tag piece.0, piece.1))
-first_request (kind.Finalize tag) rest = Ok (request.Finalize tag, rest)
-first_request (kind.Fetch tag) rest = Ok (request.Fetch tag, rest)
-
--- a piece that a bank keeps, or that there is none
-unfoldable pub first_held : Strings → FirstAndRest (Option Piece)
-first_held strings =
-    and_then (first_string strings) (λ word.
-    and_then (is_piece_from word.0) (λ is_piece.
-    if is_piece then (and_then (first_piece word.1) (λ piece. Ok (Some piece.0, piece.1))) else Ok (None, word.1)))
-
--- an answer to a request of this kind
-unfoldable pub first_answer : Kind → Strings → FirstAndRest Answer
-first_answer kind.Next rest = and_then (first_status rest) (λ found. Ok (answer.Pointer found.0, found.1))
-first_answer (kind.Spread found) rest = Ok (answer.Done, rest)
-first_answer kind.Query rest = and_then (first_tag rest) (λ tag. Ok (answer.Greatest tag.0, tag.1))
-first_answer (kind.PreWrite tag) rest = Ok (answer.Done, rest)
-first_answer (kind.Finalize tag) rest = Ok (answer.Done, rest)
-first_answer (kind.Fetch tag) rest = and_then (first_held rest) (λ piece. Ok (answer.Piece piece.0, piece.1))
-
--- a reply to a request of this kind
-unfoldable pub first_reply : Kind → Strings → FirstAndRest Reply
-first_reply k strings =
-    and_then (first_number (2 ^ 64 - 1) strings) (λ step.
-    and_then (first_answer k step.1) (λ answer.
-    Ok (record { step = step.0; answer = answer.0 }, answer.1)))
-
--- a request or a reply, with this kind
-unfoldable pub body_from : Bool → Kind → Strings → FirstAndRest Body
-body_from true k rest = and_then (first_request k rest) (λ q. Ok (body.Request q.0, q.1))
-body_from false k rest = and_then (first_reply k rest) (λ r. Ok (body.Reply k r.0, r.1))
-
--- the body of a message
-unfoldable pub first_body : Strings → FirstAndRest Body
-first_body strings =
-    and_then (first_string strings) (λ word.
-    and_then (is_request_from word.0) (λ is_request.
-    and_then (first_kind word.1) (λ k.
-    body_from is_request k.0 k.1)))
-
--- the layout of the next position, if there is to be one
-unfoldable pub first_next : Bool → Strings → FirstAndRest (Option Layout)
-first_next true strings = and_then (first_layout strings) (λ layout. Ok (Some layout.0, layout.1))
-first_next false strings = Ok (None, strings)
-
 -- this value, unless strings are left after it
 abbrev pub ending : {X : Type 0} → X → Strings → Result X Fault
 ending x [] = Ok x
 ending x (string ∷ rest) = Err WrongCount
 
+-- The parts of a head
+
+-- the first n bytes, and those after them, unless there are fewer
+unfoldable pub split_bytes : ℕ → List ℕ → Result (List ℕ × List ℕ) Fault
+split_bytes n bytes = if nat_lt (length bytes) n then Err OtherForm else Ok (take n bytes, drop n bytes)
+
+-- the numbers of a head, the digest, and the bytes of the layouts, unless it is of another form
+unfoldable pub parts_of : List ℕ → Result (List ℕ × List ℕ × List ℕ) Fault
+parts_of head =
+    and_then (split_bytes NUMBERS_LENGTH head) (λ numbers.
+    and_then (split_bytes DIGEST_LENGTH numbers.1) (λ digest.
+    if byte_in FORM_PLACE numbers.0 == FORM then Ok (numbers.0, digest.0, digest.1) else Err OtherForm))
+
+-- What the numbers say
+
+-- the tag
+abbrev pub tag_in : (numbers : List ℕ) → Tag
+tag_in numbers = record { number = long_in TAG_NUMBER_PLACE numbers; call = long_in TAG_CALL_PLACE numbers }
+
+-- the piece that has these bytes
+abbrev pub piece_in : (numbers bytes : List ℕ) → Piece
+piece_in numbers bytes =
+    record { point = byte_in POINT_PLACE numbers; len = short_in LEN_PLACE numbers; bytes = bytes }
+
+-- the piece whose bytes are the last string, or none and no string, as the numbers say
+unfoldable pub piece_if : Bool → (numbers : List ℕ) → Strings → Result (Option Piece) Fault
+piece_if true numbers strings =
+    and_then (first_string strings) (λ bytes.
+    ending (Some (piece_in numbers bytes.0)) bytes.1)
+piece_if false numbers strings = ending None strings
+
+-- the same
+unfoldable pub last_piece : (numbers : List ℕ) → Strings → Result (Option Piece) Fault
+last_piece numbers strings =
+    and_then (flag_from (byte_in PIECE_PLACE numbers)) (λ is_piece.
+    piece_if is_piece numbers strings)
+
+-- a status
+abbrev pub status_in : (numbers : List ℕ) → Result Status Fault
+status_in numbers = status_from (byte_in STATUS_PLACE numbers)
+
+-- a kind that has a tag
+unfoldable pub tagged_from : (code : ℕ) → (tag : Tag) → Result Kind Fault
+tagged_from code tag =
+    if code == 3 then Ok (kind.PreWrite tag)
+    else (if code == 4 then Ok (kind.Finalize tag)
+    else (if code == 5 then Ok (kind.Fetch tag)
+    else Err UnknownCode))
+
+-- the kind that has this code
+unfoldable pub kind_from : (code : ℕ) → (numbers : List ℕ) → Result Kind Fault
+kind_from code numbers =
+    if code == 0 then Ok kind.Next
+    else (if code == 1 then (and_then (status_in numbers) (λ found. Ok (kind.Spread found)))
+    else (if code == 2 then Ok kind.Query
+    else tagged_from code (tag_in numbers)))
+
+-- a request to pre-write a piece
+abbrev pub pre_write_of : Tag → Option Piece → Result Request Fault
+pre_write_of tag None = Err NoPiece
+pre_write_of tag (Some piece) = Ok (request.PreWrite tag piece)
+
+-- a request of this kind
+unfoldable pub request_from : Kind → Option Piece → Result Request Fault
+request_from kind.Next piece = Ok request.Next
+request_from (kind.Spread found) piece = Ok (request.Spread found)
+request_from kind.Query piece = Ok request.Query
+request_from (kind.PreWrite tag) piece = pre_write_of tag piece
+request_from (kind.Finalize tag) piece = Ok (request.Finalize tag)
+request_from (kind.Fetch tag) piece = Ok (request.Fetch tag)
+
+-- an answer to a request of this kind
+unfoldable pub answer_from : Kind → (numbers : List ℕ) → Option Piece → Result Answer Fault
+answer_from kind.Next numbers piece = and_then (status_in numbers) (λ found. Ok (answer.Pointer found))
+answer_from (kind.Spread found) numbers piece = Ok answer.Done
+answer_from kind.Query numbers piece = Ok (answer.Greatest (tag_in numbers))
+answer_from (kind.PreWrite tag) numbers piece = Ok answer.Done
+answer_from (kind.Finalize tag) numbers piece = Ok answer.Done
+answer_from (kind.Fetch tag) numbers piece = Ok (answer.Piece piece)
+
+-- a reply to a request of this kind
+unfoldable pub reply_from : Kind → (numbers : List ℕ) → Option Piece → Result Reply Fault
+reply_from k numbers piece =
+    and_then (answer_from k numbers piece) (λ found.
+    Ok (record { step = long_in STEP_PLACE numbers; answer = found }))
+
+-- a reply or a request, with this kind
+unfoldable pub body_of_kind : (is_reply : Bool) → Kind → (numbers : List ℕ) → Option Piece → Result Body Fault
+body_of_kind true k numbers piece = and_then (reply_from k numbers piece) (λ r. Ok (body.Reply k r))
+body_of_kind false k numbers piece = and_then (request_from k piece) (λ q. Ok (body.Request q))
+
+-- the body of a message
+unfoldable pub body_from : (numbers : List ℕ) → Option Piece → Result Body Fault
+body_from numbers piece =
+    and_then (flag_from (byte_in ROLE_PLACE numbers)) (λ is_reply.
+    and_then (kind_from (byte_in KIND_PLACE numbers) numbers) (λ k.
+    body_of_kind is_reply k numbers piece))
+
+-- Layouts
+
+-- the first byte
+unfoldable pub first_byte : List ℕ → Result (ℕ × List ℕ) Fault
+first_byte [] = Err BadLayout
+first_byte (byte ∷ rest) = Ok (byte, rest)
+
+-- the layout with this k, whose n members are the first bytes
+unfoldable pub first_members : (n k : ℕ) → List ℕ → Result (Layout × List ℕ) Fault
+first_members n k bytes =
+    if nat_lt (length bytes) n then Err BadLayout
+    else (and_then (checked_layout BadLayout (record { k = k; members = take n bytes })) (λ layout.
+    Ok (layout, drop n bytes)))
+
+-- the layout in the first bytes, and the bytes after it
+unfoldable pub first_layout : List ℕ → Result (Layout × List ℕ) Fault
+first_layout bytes =
+    and_then (first_byte bytes) (λ n.
+    and_then (first_byte n.1) (λ k.
+    first_members n.0 k.0 k.1))
+
+-- the layout of the next position, if there is to be one
+unfoldable pub first_next : Bool → List ℕ → Result (Option Layout × List ℕ) Fault
+first_next true bytes = and_then (first_layout bytes) (λ layout. Ok (Some layout.0, layout.1))
+first_next false bytes = Ok (None, bytes)
+
+-- these layouts, unless bytes are left after them
+abbrev pub whole_head : Layout → Option Layout → List ℕ → Result Layouts Fault
+whole_head layout next [] = Ok (record { layout = layout; next = next })
+whole_head layout next (byte ∷ rest) = Err LongHead
+
+-- the layouts whose bytes these are
+unfoldable pub layouts_from : (names_next : Bool) → List ℕ → Result Layouts Fault
+layouts_from names bytes =
+    and_then (first_layout bytes) (λ layout.
+    and_then (first_next names layout.1) (λ next.
+    whole_head layout.0 next.0 next.1))
+
+-- Messages
+
 -- the message of these parts
-abbrev pub made_of : Subject → Numbers → Body → Option Layout → NodeMessage
-made_of subject numbers found next = record {
-  digest = subject.digest;
-  name = subject.name;
-  layout = subject.layout;
-  next = next;
+abbrev pub made_of : (numbers digest name : List ℕ) → Body → Layouts → NodeMessage
+made_of numbers digest name found layouts = record {
+  digest = digest;
+  name = name;
+  layout = layouts.layout;
+  next = layouts.next;
   message = record {
-    call = numbers.call;
-    phase = numbers.phase;
-    position = numbers.position;
-    member = numbers.member;
+    call = long_in CALL_PLACE numbers;
+    phase = short_in PHASE_PLACE numbers;
+    position = short_in POSITION_PLACE numbers;
+    member = byte_in MEMBER_PLACE numbers;
     body = found;
   };
 }
 
+-- this message, unless its layout has no such member, or a place that it does not use has another byte than zero
+unfoldable pub checked_places : (numbers : List ℕ) → NodeMessage → Result NodeMessage Fault
+checked_places numbers m =
+    if not (nat_lt m.message.member (length m.layout.members)) then Err NoMember
+    else (if bytes_eq (number_bytes m.message (said_of m.message.body)) numbers then Ok m else Err UnusedPlace)
+
+-- the message whose head has these parts, with this name and the strings after the name
+unfoldable pub message_of_parts : (numbers digest layouts name : List ℕ) → Strings → Result NodeMessage Fault
+message_of_parts numbers digest layouts name strings =
+    and_then (last_piece numbers strings) (λ piece.
+    and_then (body_from numbers piece) (λ found.
+    and_then (layouts_from (names_next found) layouts) (λ read.
+    checked_places numbers (made_of numbers digest name found read))))
+
 -- the message whose strings these are, or the first fault
 unfoldable pub message_from : Strings → Result NodeMessage Fault
 message_from strings =
-    and_then (first_subject strings) (λ subject.
-    and_then (first_numbers (length subject.0.layout.members) subject.1) (λ numbers.
-    and_then (first_body numbers.1) (λ found.
-    and_then (first_next (names_next found.0) found.1) (λ next.
-    ending (made_of subject.0 numbers.0 found.0 next.0) next.1))))
+    and_then (first_string strings) (λ head.
+    and_then (parts_of head.0) (λ parts.
+    and_then (first_name head.1) (λ name.
+    message_of_parts parts.0 parts.1 parts.2 name.0 name.1)))

@@ -1,76 +1,59 @@
 //! Replies.
 ghost use Rattle.std.specs.Prelude.{Ok};
-ghost use Rattle.node_messages.specs.Gives.{AgreesAs, AgreesAt};
-ghost use Rattle.node_messages.specs.Reading.{first_held, first_answer, first_reply};
+ghost use Rattle.node_messages.specs.Gives.{Agrees, AgreesAs};
+ghost use Rattle.node_messages.specs.Reading.{answer_from, reply_from};
 
+use crate::bodies::status_in;
 use crate::error::MessageError;
-use crate::fields::{long_of, piece_of, status_of, string_of, tag_of};
-use crate::vocabulary::read_is_piece;
+use crate::places::{Numbers, STEP_PLACE, long_in, tag_in};
 use bank::{Answer, HeldPiece, Kind, Reply};
-use bytes::Bytes;
 use piece::Piece;
 use std::alloc::Global;
 
-// A piece on the heap.
-fn held(alloc: Global, piece: Piece) -> Result<HeldPiece, MessageError>
+// A piece on the heap, if there is one.
+fn held(alloc: Global, piece: Option<Piece>) -> Result<Option<HeldPiece>, MessageError>
     ensures { AgreesAs (λ h. h) result (Ok piece) }
 {
+    let Some(piece) = piece else {
+        return Ok(None);
+    };
     match HeldPiece::new(alloc, piece) {
-        Ok(held) => Ok(held),
+        Ok(held) => Ok(Some(held)),
         Err(_) => Err(MessageError::NoMemory),
     }
 }
 
-// A piece that a bank keeps, or that there is none.
-#[tactic(auto, unfolding(crate::specs::Reading::first_held))]
-fn held_of(alloc: Global, strings: &[Bytes]) -> Result<(Option<HeldPiece>, &[Bytes]), MessageError>
-    ensures { AgreesAt result (first_held strings.now) }
-{
-    let (word, rest) = string_of(strings)?;
-    if !read_is_piece(word)? {
-        return Ok((None, rest));
-    }
-    let (piece, rest) = piece_of(rest)?;
-    let piece = held(alloc, piece)?;
-    Ok((Some(piece), rest))
-}
-
 // An answer to a request of this kind.
-#[tactic(auto, unfolding(crate::specs::Reading::first_answer))]
+#[tactic(auto, unfolding(crate::specs::Reading::answer_from))]
 fn answer_of(
     alloc: Global,
     kind: Kind,
-    strings: &[Bytes],
-) -> Result<(Answer, &[Bytes]), MessageError>
-    ensures { AgreesAt result (first_answer kind strings.now) }
+    numbers: &Numbers,
+    piece: Option<Piece>,
+) -> Result<Answer, MessageError>
+    ensures { Agrees result (answer_from kind numbers.now piece) }
 {
     match kind {
-        Kind::Next => {
-            let (status, rest) = status_of(strings)?;
-            Ok((Answer::Pointer(status), rest))
-        }
-        Kind::Spread(_) | Kind::PreWrite(_) | Kind::Finalize(_) => Ok((Answer::Done, strings)),
-        Kind::Query => {
-            let (tag, rest) = tag_of(strings)?;
-            Ok((Answer::Greatest(tag), rest))
-        }
-        Kind::Fetch(_) => {
-            let (piece, rest) = held_of(alloc, strings)?;
-            Ok((Answer::Piece(piece), rest))
-        }
+        Kind::Next => Ok(Answer::Pointer(status_in(numbers)?)),
+        Kind::Spread(_) | Kind::PreWrite(_) | Kind::Finalize(_) => Ok(Answer::Done),
+        Kind::Query => Ok(Answer::Greatest(tag_in(numbers))),
+        Kind::Fetch(_) => Ok(Answer::Piece(held(alloc, piece)?)),
     }
 }
 
-/// Reads a reply to a request of this kind from the front of the strings.
-#[tactic(auto, unfolding(crate::specs::Reading::first_reply))]
+/// Returns a reply to a request of this kind with this piece.
+#[tactic(auto, unfolding(crate::specs::Reading::reply_from))]
 pub(crate) fn reply_of(
     alloc: Global,
     kind: Kind,
-    strings: &[Bytes],
-) -> Result<(Reply, &[Bytes]), MessageError>
-    ensures { AgreesAt result (first_reply kind strings.now) }
+    numbers: &Numbers,
+    piece: Option<Piece>,
+) -> Result<Reply, MessageError>
+    ensures { Agrees result (reply_from kind numbers.now piece) }
 {
-    let (step, rest) = long_of(strings)?;
-    let (answer, rest) = answer_of(alloc, kind, rest)?;
-    Ok((Reply { step, answer }, rest))
+    let answer = answer_of(alloc, kind, numbers, piece)?;
+    Ok(Reply {
+        step: long_in(STEP_PLACE, numbers),
+        answer,
+    })
 }

@@ -1,105 +1,114 @@
 //! The kind of a request, and requests.
-ghost use Rattle.node_messages.specs.Gives.{AgreesAt};
-ghost use Rattle.node_messages.specs.Reading.{kind_tagged, kind_from, first_kind, first_request, body_from, first_body};
+ghost use Rattle.std.specs.Prelude.{◌≡◌};
+ghost use Rattle.node_messages.specs.Gives.{Agrees};
+ghost use Rattle.node_messages.specs.Reading.{
+  body_from,
+  body_of_kind,
+  kind_from,
+  pre_write_of,
+  request_from,
+  status_in,
+  tagged_from,
+};
 
 use crate::answers::reply_of;
+use crate::codes::{read_flag, read_status};
 use crate::error::{Fault, MessageError};
-use crate::fields::{piece_of, status_of, string_of, tag_of};
-use crate::vocabulary::read_is_request;
-use bank::{Kind, Request};
-use bytes::Bytes;
+use crate::places::{KIND_PLACE, Numbers, ROLE_PLACE, STATUS_PLACE, byte_in, tag_in};
+use bank::{Kind, Request, Status};
 use mail::Body;
-use node_strings::is_text;
+use piece::Piece;
 use std::alloc::Global;
+use tag::Tag;
+
+/// Returns the status that the numbers say.
+pub(crate) fn status_in(numbers: &Numbers) -> Result<Status, Fault>
+    ensures { result ≡ status_in numbers.now }
+{
+    read_status(byte_in(STATUS_PLACE, numbers))
+}
 
 // A kind that has a tag.
-#[tactic(auto, unfolding(crate::specs::Reading::kind_tagged))]
-fn read_tagged<'a>(word: &[u8], rest: &'a [Bytes]) -> Result<(Kind, &'a [Bytes]), MessageError>
-    ensures { AgreesAt result (kind_tagged word.now rest.now) }
+#[tactic(auto, unfolding(crate::specs::Reading::tagged_from))]
+fn tagged_of(code: u8, tag: Tag) -> Result<Kind, Fault>
+    ensures { result ≡ tagged_from code tag }
 {
-    if is_text(word, b"pre-write") {
-        let (tag, rest) = tag_of(rest)?;
-        Ok((Kind::PreWrite(tag), rest))
-    } else if is_text(word, b"finalize") {
-        let (tag, rest) = tag_of(rest)?;
-        Ok((Kind::Finalize(tag), rest))
-    } else if is_text(word, b"fetch") {
-        let (tag, rest) = tag_of(rest)?;
-        Ok((Kind::Fetch(tag), rest))
-    } else {
-        Err(MessageError::Fault(Fault::UnknownWord))
+    match code {
+        3 => Ok(Kind::PreWrite(tag)),
+        4 => Ok(Kind::Finalize(tag)),
+        5 => Ok(Kind::Fetch(tag)),
+        _ => Err(Fault::UnknownCode),
     }
 }
 
-// A kind whose word this is.
+// The kind that has this code.
 #[tactic(auto, unfolding(crate::specs::Reading::kind_from))]
-fn read_kind<'a>(word: &[u8], rest: &'a [Bytes]) -> Result<(Kind, &'a [Bytes]), MessageError>
-    ensures { AgreesAt result (kind_from word.now rest.now) }
+fn kind_of(code: u8, numbers: &Numbers) -> Result<Kind, Fault>
+    ensures { result ≡ kind_from code numbers.now }
 {
-    if is_text(word, b"next") {
-        Ok((Kind::Next, rest))
-    } else if is_text(word, b"spread") {
-        let (status, rest) = status_of(rest)?;
-        Ok((Kind::Spread(status), rest))
-    } else if is_text(word, b"query") {
-        Ok((Kind::Query, rest))
-    } else {
-        read_tagged(word, rest)
+    match code {
+        0 => Ok(Kind::Next),
+        1 => Ok(Kind::Spread(status_in(numbers)?)),
+        2 => Ok(Kind::Query),
+        _ => tagged_of(code, tag_in(numbers)),
     }
 }
 
-#[tactic(auto, unfolding(crate::specs::Reading::first_kind))]
-fn kind_of(strings: &[Bytes]) -> Result<(Kind, &[Bytes]), MessageError>
-    ensures { AgreesAt result (first_kind strings.now) }
+// A request to pre-write a piece.
+fn pre_write_of(tag: Tag, piece: Option<Piece>) -> Result<Request, Fault>
+    ensures { result ≡ pre_write_of tag piece }
 {
-    let (word, rest) = string_of(strings)?;
-    read_kind(word, rest)
+    match piece {
+        Some(piece) => Ok(Request::PreWrite(tag, piece)),
+        None => Err(Fault::NoPiece),
+    }
 }
 
 // A request of this kind.
-#[tactic(auto, unfolding(crate::specs::Reading::first_request))]
-fn request_of(kind: Kind, strings: &[Bytes]) -> Result<(Request, &[Bytes]), MessageError>
-    ensures { AgreesAt result (first_request kind strings.now) }
+#[tactic(auto, unfolding(crate::specs::Reading::request_from))]
+fn request_of(kind: Kind, piece: Option<Piece>) -> Result<Request, Fault>
+    ensures { result ≡ request_from kind piece }
 {
     match kind {
-        Kind::Next => Ok((Request::Next, strings)),
-        Kind::Spread(status) => Ok((Request::Spread(status), strings)),
-        Kind::Query => Ok((Request::Query, strings)),
-        Kind::PreWrite(tag) => {
-            let (piece, rest) = piece_of(strings)?;
-            Ok((Request::PreWrite(tag, piece), rest))
-        }
-        Kind::Finalize(tag) => Ok((Request::Finalize(tag), strings)),
-        Kind::Fetch(tag) => Ok((Request::Fetch(tag), strings)),
+        Kind::Next => Ok(Request::Next),
+        Kind::Spread(status) => Ok(Request::Spread(status)),
+        Kind::Query => Ok(Request::Query),
+        Kind::PreWrite(tag) => pre_write_of(tag, piece),
+        Kind::Finalize(tag) => Ok(Request::Finalize(tag)),
+        Kind::Fetch(tag) => Ok(Request::Fetch(tag)),
     }
 }
 
-// A request or a reply, with this kind.
-#[tactic(auto, unfolding(crate::specs::Reading::body_from))]
+// A reply or a request, with this kind.
+#[tactic(auto, unfolding(crate::specs::Reading::body_of_kind))]
 fn body_of_kind(
     alloc: Global,
-    is_request: bool,
+    is_reply: bool,
     kind: Kind,
-    strings: &[Bytes],
-) -> Result<(Body, &[Bytes]), MessageError>
-    ensures { AgreesAt result (body_from is_request kind strings.now) }
+    numbers: &Numbers,
+    piece: Option<Piece>,
+) -> Result<Body, MessageError>
+    ensures { Agrees result (body_of_kind is_reply kind numbers.now piece) }
 {
-    if is_request {
-        let (request, rest) = request_of(kind, strings)?;
-        Ok((Body::Request(request), rest))
+    if is_reply {
+        let reply = reply_of(alloc, kind, numbers, piece)?;
+        Ok(Body::Reply { kind, reply })
     } else {
-        let (reply, rest) = reply_of(alloc, kind, strings)?;
-        Ok((Body::Reply { kind, reply }, rest))
+        let request = request_of(kind, piece)?;
+        Ok(Body::Request(request))
     }
 }
 
-/// Reads the body of a message from the front of the strings.
-#[tactic(auto, unfolding(crate::specs::Reading::first_body))]
-pub(crate) fn body_of(alloc: Global, strings: &[Bytes]) -> Result<(Body, &[Bytes]), MessageError>
-    ensures { AgreesAt result (first_body strings.now) }
+/// Returns the body of a message with this piece.
+#[tactic(auto, unfolding(crate::specs::Reading::body_from))]
+pub(crate) fn body_of(
+    alloc: Global,
+    numbers: &Numbers,
+    piece: Option<Piece>,
+) -> Result<Body, MessageError>
+    ensures { Agrees result (body_from numbers.now piece) }
 {
-    let (word, rest) = string_of(strings)?;
-    let is_request = read_is_request(word)?;
-    let (kind, rest) = kind_of(rest)?;
-    body_of_kind(alloc, is_request, kind, rest)
+    let is_reply = read_flag(byte_in(ROLE_PLACE, numbers))?;
+    let kind = kind_of(byte_in(KIND_PLACE, numbers), numbers)?;
+    body_of_kind(alloc, is_reply, kind, numbers, piece)
 }

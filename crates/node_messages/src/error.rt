@@ -2,33 +2,36 @@
 use std::alloc::{AllocError, AllocFailed};
 use thiserror::Error;
 
-/// What is wrong with the strings of a frame, or with a message: the first fault, from left to right.
+/// What is wrong with the strings of a frame, or with a message: the first fault.
 #[derive(Clone, Copy, Debug, PartialEq, Eq, Error)]
 pub enum Fault {
     /// A string is missing, or there is a string after the message.
     #[error("wrong number of strings")]
     WrongCount,
-    /// The digest has another length than `DIGEST_LENGTH`.
-    #[error("bad digest")]
-    BadDigest,
+    /// The first string is no head of this form: it is too short, or its first byte is not `FORM`.
+    #[error("another form of messages")]
+    OtherForm,
     /// The object's name is longer than `LONGEST_NAME`.
     #[error("name too long")]
     NameTooLong,
-    /// A layout has no k, or is not lawful.
+    /// A code stands for neither a request nor a reply, for no kind, for no status, or for neither a piece nor none.
+    #[error("unknown code")]
+    UnknownCode,
+    /// A request to pre-write has no piece.
+    #[error("no piece")]
+    NoPiece,
+    /// A layout is cut short, or is not lawful.
     #[error("bad layout")]
     BadLayout,
-    /// A byte of a number is no digit, a number has a leading 0, or a number has no digits.
-    #[error("bad number")]
-    BadNumber,
-    /// A number is too great for its field.
-    #[error("number out of range")]
-    OutOfRange,
+    /// There are bytes in the head after the layouts.
+    #[error("head too long")]
+    LongHead,
     /// The layout has no such member.
     #[error("no such member")]
     NoMember,
-    /// A word stands for no kind of message or request, for no status, or for neither a piece nor none.
-    #[error("unknown word")]
-    UnknownWord,
+    /// A place of the head that the message does not use has another byte than zero.
+    #[error("unused place is not zero")]
+    UnusedPlace,
     /// The answer does not belong to a request of its kind. Only a message can have this fault, not a frame.
     #[error("answer to another kind")]
     BadAnswer,

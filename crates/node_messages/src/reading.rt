@@ -1,25 +1,34 @@
 //! Messages from frames.
 ghost use Rattle.std.specs.Prelude.{◌≡◌, Ok, IfOk};
+ghost use Rattle.std.specs.Str.{bytes_eq};
 ghost use Rattle.node_messages.specs.declared.message.NodeMessage.{NodeMessage as Sent};
 ghost use Rattle.node_messages.specs.Message.{IsMessage};
 ghost use Rattle.node_messages.specs.Strings.{strings_of};
-ghost use Rattle.node_messages.specs.Gives.{Agrees, AgreesAt};
-ghost use Rattle.node_messages.specs.Reading.{ending, made_of, first_next, message_from};
+ghost use Rattle.node_messages.specs.Gives.{Agrees};
+ghost use Rattle.node_messages.specs.Head.{number_bytes, said_of};
+ghost use Rattle.node_messages.specs.Reading.{checked_places, made_of, message_from, message_of_parts};
 
 use crate::bodies::body_of;
 use crate::checks::names_next;
 use crate::error::{Fault, MessageError};
-use crate::fields::{Numbers, Subject, layout_of, numbers_of, subject_of};
+use crate::fields::{last_piece, name_of, parts_of, string_of};
+use crate::head::number_bytes;
+use crate::layouts::{Layouts, layouts_of};
 use crate::message::NodeMessage;
+use crate::places::{
+    CALL_PLACE, MEMBER_PLACE, Numbers, PHASE_PLACE, POSITION_PLACE, byte_in, long_in, short_in,
+};
+use crate::said::said_of;
 use bytes::Bytes;
+use cluster_file::DIGEST_LENGTH;
 use frames::Frame;
-use layout::Layout;
 use mail::{Body, Message};
 use std::alloc::Global;
 
 /// Returns the message of a frame. Its name and its piece are those of the frame, and no byte of them is copied.
 ///
-/// A `Fault` is the first one from left to right. A superfluous string after the message is found last.
+/// A `Fault` is the first one in this order: of the form of the head, of the name and the number of strings, of what
+/// the head says of the body, of the layouts, of the member, and of the places that the message does not use.
 pub fn read_message(alloc: Global, frame: Frame) -> Result<NodeMessage, MessageError>
     // What is read is a message, and the frame is that of the message.
     ensures found { IfOk result (λ m. IsMessage m × (frame ≡ strings_of m)) }
@@ -36,50 +45,72 @@ pub fn read_message(alloc: Global, frame: Frame) -> Result<NodeMessage, MessageE
 fn read_strings(alloc: Global, strings: &[Bytes]) -> Result<NodeMessage, MessageError>
     ensures { Agrees result (message_from strings.now) }
 {
-    let (subject, rest) = subject_of(strings)?;
-    let (numbers, rest) = numbers_of(rest, subject.layout.n())?;
-    let (body, rest) = body_of(alloc, rest)?;
-    let (next, rest) = next_of(names_next(&body), rest)?;
-    ended(made_of(subject, numbers, body, next), rest)
+    let (head, rest) = string_of(strings)?;
+    let (numbers, digest, layouts) = parts_of(head)?;
+    let (name, rest) = name_of(rest)?;
+    let name = name.clone()?;
+    read_parts(alloc, numbers, *digest, layouts, name, rest)
 }
 
-// The message, unless strings are left behind it.
-fn ended(message: NodeMessage, rest: &[Bytes]) -> Result<NodeMessage, MessageError>
-    ensures { Agrees result (ending message rest.now) }
+// The message whose head has these parts.
+#[tactic(auto, unfolding(crate::specs::Reading::message_of_parts))]
+fn read_parts(
+    alloc: Global,
+    numbers: &Numbers,
+    digest: [u8; DIGEST_LENGTH],
+    layouts: &[u8],
+    name: Bytes,
+    rest: &[Bytes],
+) -> Result<NodeMessage, MessageError>
+    ensures { Agrees result (message_of_parts numbers.now digest layouts.now name rest.now) }
 {
-    match rest {
-        [] => Ok(message),
-        [_, ..] => Err(MessageError::Fault(Fault::WrongCount)),
-    }
+    let piece = last_piece(numbers, rest)?;
+    let body = body_of(alloc, numbers, piece)?;
+    let layouts = layouts_of(names_next(&body), layouts)?;
+    checked_places(numbers, made_of(numbers, digest, name, body, layouts))
 }
 
-// The layout of the next position, where there is to be one.
-#[tactic(auto, unfolding(crate::specs::Reading::first_next))]
-fn next_of(is_named: bool, strings: &[Bytes]) -> Result<(Option<Layout>, &[Bytes]), MessageError>
-    ensures { AgreesAt result (first_next is_named strings.now) }
+// The message, unless its layout has no such member, or a place that it does not use has another byte than zero.
+#[tactic(auto, unfolding(crate::specs::Reading::checked_places))]
+fn checked_places(numbers: &Numbers, message: NodeMessage) -> Result<NodeMessage, MessageError>
+    ensures { Agrees result (checked_places numbers.now message) }
 {
-    if !is_named {
-        return Ok((None, strings));
+    if message.message.member >= message.layout.n() {
+        return Err(MessageError::Fault(Fault::NoMember));
     }
-    let (layout, rest) = layout_of(strings)?;
-    Ok((Some(layout), rest))
+    if !are_of(numbers, &message.message) {
+        return Err(MessageError::Fault(Fault::UnusedPlace));
+    }
+    Ok(message)
+}
+
+// Whether the numbers are those of the message.
+fn are_of(numbers: &Numbers, message: &Message) -> bool
+    ensures { result ≡ bytes_eq (number_bytes message.now (said_of message.now.body)) numbers.now }
+{
+    number_bytes(message, said_of(&message.body)) == *numbers
 }
 
 // The message of these parts.
-fn made_of(subject: Subject, numbers: Numbers, body: Body, next: Option<Layout>) -> NodeMessage
-    ensures { result ≡ made_of subject numbers body next }
+fn made_of(
+    numbers: &Numbers,
+    digest: [u8; DIGEST_LENGTH],
+    name: Bytes,
+    body: Body,
+    layouts: Layouts,
+) -> NodeMessage
+    ensures { result ≡ made_of numbers.now digest name body layouts }
 {
-    let digest = subject.digest;
     NodeMessage {
         digest,
-        name: subject.name,
-        layout: subject.layout,
-        next,
+        name,
+        layout: layouts.layout,
+        next: layouts.next,
         message: Message {
-            call: numbers.call,
-            phase: numbers.phase,
-            position: numbers.position,
-            member: numbers.member,
+            call: long_in(CALL_PLACE, numbers),
+            phase: short_in(PHASE_PLACE, numbers),
+            position: short_in(POSITION_PLACE, numbers),
+            member: byte_in(MEMBER_PLACE, numbers),
             body,
         },
     }

@@ -1,27 +1,24 @@
 //! Messages to frames.
-ghost use Rattle.std.specs.Prelude.{◌≡◌, ◌<◌, ◌^◌, ◌++◌, IfOk, IfSome, OnOk, Ok, Err, if◌then◌else◌, length};
-ghost use Rattle.layout.specs.Layout.{IsLawful};
-ghost use Rattle.cluster_file.specs.declared.file.TheConstants.{DIGEST_LENGTH};
+ghost use Rattle.std.specs.Prelude.{◌≡◌, ◌++◌, IfOk, OnOk, Ok, Err, if◌then◌else◌};
 ghost use Rattle.node_messages.specs.Gives.{Agrees, AgreesAs};
 ghost use Rattle.node_messages.specs.Message.{IsMessage, HasTypedFields};
-ghost use Rattle.node_messages.specs.Strings.{strings_of, subject_strings, number_strings, next_strings};
+ghost use Rattle.node_messages.specs.Strings.{answer_piece, body_piece, piece_strings, strings_of};
 ghost use Rattle.node_messages.specs.Writing.{strings_or_fault, checked, framed};
 
 use crate::checks::{is_fitting, names_next};
 use crate::error::{Fault, MessageError};
+use crate::head::head_of;
 use crate::message::NodeMessage;
-use crate::strings::push_body;
+use bank::{Answer, Request};
 use bytes::Bytes;
 use frames::Frame;
-use layout::Layout;
-use mail::Message;
-use node_strings::{push_bytes, push_layout, push_number, push_shared};
+use mail::Body;
+use node_strings::push_shared;
 use std::alloc::{AllocError, Global};
 use tag::LONGEST_NAME;
 
-// The most strings that a message has: a reply to a Fetch with a piece has 3 of its subject, 4 numbers, 2 words, a tag
-// of 2, a step, a word, and a piece of 3.
-const MOST_MESSAGE_STRINGS: usize = 16;
+// The most strings that a message has: its head, the name, and the bytes of a piece.
+const MOST_MESSAGE_STRINGS: usize = 3;
 
 /// Returns the frame of a message. The frame shares the bytes of the name and of the piece, and copies neither.
 ///
@@ -68,61 +65,35 @@ fn check(message: &NodeMessage) -> Result<(), Fault>
     Ok(())
 }
 
+// The strings of a message.
 fn strings_of(alloc: Global, message: &NodeMessage) -> Result<Vec<Bytes>, AllocError>
     ensures pushed { IfOk result (λ strings. strings.items ≡ strings_of message.now) }
     ensures fits { OnOk result (HasTypedFields message.now) }
 {
     let mut strings = Vec::with_capacity(alloc, MOST_MESSAGE_STRINGS)?;
-    push_subject(alloc, &mut strings, message)?;
-    push_numbers(alloc, &mut strings, &message.message)?;
-    push_body(alloc, &mut strings, &message.message.body)?;
-    push_next(alloc, &mut strings, &message.next)?;
+    strings.push(head_of(alloc, message)?)?;
+    push_shared(&mut strings, &message.name)?;
+    push_piece(&mut strings, &message.message.body)?;
     Ok(strings)
 }
 
-// What a message is about.
-fn push_subject(
-    alloc: Global,
-    strings: &mut Vec<Bytes>,
-    message: &NodeMessage,
-) -> Result<(), AllocError>
-    ensures pushed { OnOk result (strings.new.items ≡ strings.old.items ++ subject_strings message.now) }
-    ensures digest { OnOk result (length message.now.digest ≡ DIGEST_LENGTH) }
-    ensures lawful { OnOk result (IsLawful message.now.layout) }
+// The bytes of the piece, where there is one.
+fn push_piece(strings: &mut Vec<Bytes>, body: &Body) -> Result<(), AllocError>
+    ensures { OnOk result (strings.new.items ≡ strings.old.items ++ piece_strings (body_piece body.now)) }
 {
-    push_bytes(alloc, strings, &message.digest)?;
-    push_shared(strings, &message.name)?;
-    push_layout(alloc, strings, &message.layout)
+    match body {
+        Body::Request(Request::PreWrite(_, piece)) => push_shared(strings, &piece.bytes),
+        Body::Request(_) => Ok(()),
+        Body::Reply { kind: _, reply } => push_held(strings, &reply.answer),
+    }
 }
 
-// The numbers of a message.
-fn push_numbers(
-    alloc: Global,
-    strings: &mut Vec<Bytes>,
-    message: &Message,
-) -> Result<(), AllocError>
-    ensures pushed { OnOk result (strings.new.items ≡ strings.old.items ++ number_strings message.now) }
-    ensures call { OnOk result (message.now.call < 2 ^ 64) }
-    ensures phase { OnOk result (message.now.phase < 2 ^ 32) }
-    ensures position { OnOk result (message.now.position < 2 ^ 32) }
+// The bytes of the piece of an answer, where there is one.
+fn push_held(strings: &mut Vec<Bytes>, answer: &Answer) -> Result<(), AllocError>
+    ensures { OnOk result (strings.new.items ≡ strings.old.items ++ piece_strings (answer_piece answer.now)) }
 {
-    push_number(alloc, strings, message.call)?;
-    push_number(alloc, strings, u64::from(message.phase))?;
-    push_number(alloc, strings, u64::from(message.position))?;
-    push_number(alloc, strings, u64::from(message.member))
-}
-
-// The layout of the next position, where there is one.
-fn push_next(
-    alloc: Global,
-    strings: &mut Vec<Bytes>,
-    next: &Option<Layout>,
-) -> Result<(), AllocError>
-    ensures pushed { OnOk result (strings.new.items ≡ strings.old.items ++ next_strings next.now) }
-    ensures lawful { OnOk result (IfSome next.now IsLawful) }
-{
-    match next {
-        Some(layout) => push_layout(alloc, strings, layout),
-        None => Ok(()),
+    match answer {
+        Answer::Piece(Some(held)) => push_shared(strings, &held.piece().bytes),
+        _ => Ok(()),
     }
 }

@@ -35,7 +35,7 @@ pub fn read_arrival(frame: Frame) -> Option<Arrival>
     read_split(frame)
 }
 
-// The same, by its exact clause.
+// Does what `read_arrival` does, and promises its clause `exact` alone. The other clauses follow from that one.
 #[tactic(auto, unfolding(crate::specs::Arrival::arrival_at))]
 fn read_split(frame: Frame) -> Option<Arrival>
     ensures { result ≡ arrival_at frame }

@@ -29,7 +29,7 @@ pub fn read_layout<E: Copy>(string: &[u8], fault: E) -> Result<Layout, E>
     read_bytes(string, fault)
 }
 
-// The same, by its exact clause.
+// Does what `read_layout` does, and promises its clause `exact` alone. The other clauses follow from that one.
 #[tactic(auto, unfolding(crate::specs::Layouts::layout_of_string))]
 fn read_bytes<E: Copy>(string: &[u8], fault: E) -> Result<Layout, E>
     ensures { result ≡ layout_of_string fault string.now }

@@ -22,7 +22,7 @@ pub fn read_record(frame: Frame) -> Option<Record>
     read_split(frame)
 }
 
-// The same, by its exact clause.
+// Does what `read_record` does, and promises its clause `exact` alone. The other clauses follow from that one.
 #[tactic(auto, unfolding(crate::specs::Record::record_at))]
 fn read_split(frame: Frame) -> Option<Record>
     ensures { result ≡ record_at frame }

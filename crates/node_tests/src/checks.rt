@@ -31,22 +31,22 @@ fn are_equal(one: &[Bytes], other: &[Bytes]) -> bool {
     one == other
 }
 
-/// These are the wanted strings.
+/// Asserts that the strings are the wanted ones.
 pub(crate) fn assert_strings<R: Abort>(rt: &R, found: &[Bytes], wanted: &[Bytes]) {
     assert!(rt; are_equal(found, wanted), "{found:?}");
 }
 
-/// These are the wanted bytes.
+/// Asserts that the bytes are the wanted ones.
 pub(crate) fn assert_bytes<R: Abort>(rt: &R, found: &[u8], wanted: &[u8]) {
     assert_eq!(rt; found, wanted);
 }
 
-/// This is the wanted text.
+/// Asserts that the text is the wanted one.
 pub(crate) fn assert_text<R: Abort>(rt: &R, text: &str, wanted: &str) {
     assert!(rt; text == wanted, "{text}");
 }
 
-/// The value is printed so for debugging.
+/// Asserts how the value is printed for debugging.
 pub(crate) fn assert_prints<R: Abort, T: Debug>(rt: &R, alloc: Global, value: &T, wanted: &str) {
     let text = format!(in alloc; "{value:?}").expect(rt, "memory");
     assert_text(rt, text.as_str(), wanted);

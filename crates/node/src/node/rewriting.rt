@@ -1,7 +1,7 @@
 //! The node's log, written anew.
 ghost use Rattle.std.specs.Prelude.{◌≡◌, ◌∷◌, ◌++◌, [], IfErr, IfOk, MatchOption, OnOk};
 ghost use Rattle.node_log.specs.Entry.{IsEntry};
-ghost use Rattle.rewritten_logs.specs.Sound.{CanBeWrittenAnew};
+ghost use Rattle.recoveries.specs.RewritingNodes.{CanBeWrittenAnew};
 ghost use Rattle.node_effects.specs.Errors.{IsUnwritten, WritesOrFails};
 ghost use Rattle.node_keeper.specs.Keeping.{kept_of};
 ghost use Rattle.node.specs.Anew.{AreAnew, CanHoldAnew};

@@ -1,5 +1,5 @@
 //! A log that is cut or damaged.
-use super::sample::{OLD_HEAD, SET, SET_AND_NOTHING, with_zeros};
+use super::sample::{FORM_2_HEAD, OLD_HEAD, SET, SET_AND_NOTHING, with_zeros};
 use node_log::{Chain, Damage, Entry, HEAD_LENGTH, LogError, is_old_head, read_entry};
 use std::alloc::Global;
 
@@ -77,18 +77,18 @@ fn a_changed_byte(rt: HostRuntime) {
 static NO_ENTRIES: [(&str, &[u8], Damage); 4] = [
     (
         "a body with a right digest that is no frame",
-        b"\x02\x00\x00\x00\x00\x00\x00\x0f\xf26\xd2eT\x86\x02bSET photo hello",
+        b"\x03\x00\x00\x00\x00\x00\x00\x0f\xf26\xd2ee\xf7\xd6RSET photo hello",
         Damage::NoFrame,
     ),
     (
         "a body with a right digest that is two frames",
-        b"\x02\x00\x00\x00\x00\x00\x00\x08\xdc\xd3\x00}\x09\x9e1\xe1*0\r\n*0\r\n",
+        b"\x03\x00\x00\x00\x00\x00\x00\x08\xdc\xd3\x00}8\xef\xe5\xd1*0\r\n*0\r\n",
         Damage::NoFrame,
     ),
     (
         "an empty body with a right digest, and the entry without strings behind it",
-        b"\x02\x00\x00\x00\x00\x00\x00\x00\x00\x00\x00\x00I\x83\x1d=\
-            \x02\x00\x00\x00\x00\x00\x00\x04\xecY\x8b\x9e\x92\\Z\x95*0\r\n",
+        b"\x03\x00\x00\x00\x00\x00\x00\x00\x00\x00\x00\x00x\xf2\xc9\x0d\
+            \x03\x00\x00\x00\x00\x00\x00\x04\xecY\x8b\x9e\x19bL+*0\r\n",
         Damage::NoFrame,
     ),
     (
@@ -112,11 +112,13 @@ fn an_entry_in_another_place(rt: HostRuntime) {
     assert!(rt; is_damaged(rt.alloc(), second, Damage::WrongHead));
 }
 
-/// A head of the form before is known as one, and is no head today. A changed one is neither.
+/// A head of an older form is known as one, and is no head today. A changed one is neither.
 #[test]
-fn a_head_of_the_form_before(rt: HostRuntime) {
-    assert!(rt; is_old_head(&OLD_HEAD));
-    assert!(rt; is_damaged(rt.alloc(), &OLD_HEAD, Damage::WrongHead));
+fn a_head_of_an_older_form(rt: HostRuntime) {
+    for head in [&OLD_HEAD, &FORM_2_HEAD] {
+        assert!(rt; is_old_head(head));
+        assert!(rt; is_damaged(rt.alloc(), head, Damage::WrongHead));
+    }
     let mut changed = OLD_HEAD;
     changed[7] = 0;
     assert!(rt; !is_old_head(&changed));

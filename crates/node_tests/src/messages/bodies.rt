@@ -1,14 +1,14 @@
 //! Each kind of request and of reply. What a message says is compared as it is printed for debugging, which names all
 //! its fields.
-use super::samples::{ASK_NEXT, HEAD, NEXT, Strings, frame, message};
+use super::samples::{ASK_NEXT, NEXT, PIECE, STEP, Sample, TAG, frame, message};
 use crate::checks::{assert_prints, assert_strings};
 use node_messages::{NodeMessage, frame_of};
 use std::alloc::Global;
 use std::process::Abort;
 
-/// Strings behind `HEAD`, and the body and the next layout of their message, as they are printed.
+/// A sample, and the body and the next layout of its message, as they are printed.
 struct Row {
-    strings: Strings,
+    sample: Sample,
     body: &'static str,
     next: &'static str,
 }
@@ -17,127 +17,203 @@ const NEXT_LAYOUT: &str = "Some(Layout { k: 1, members: [9, 0] })";
 
 static REQUESTS: [Row; 8] = [
     Row {
-        strings: Strings(&[b"request", b"next"]),
+        sample: Sample {
+            codes: [0, 0, 0],
+            ..ASK_NEXT
+        },
         body: "Request(Next)",
         next: "None",
     },
     Row {
-        strings: Strings(&[b"request", b"spread", b"unset"]),
+        sample: Sample {
+            codes: [0, 1, 0],
+            ..ASK_NEXT
+        },
         body: "Request(Spread(Unset))",
         next: "None",
     },
     Row {
-        strings: Strings(&[b"request", b"spread", b"pending", NEXT]),
+        sample: Sample {
+            codes: [0, 1, 1],
+            next: NEXT,
+            ..ASK_NEXT
+        },
         body: "Request(Spread(Pending))",
         next: NEXT_LAYOUT,
     },
     Row {
-        strings: Strings(&[b"request", b"spread", b"final", NEXT]),
+        sample: Sample {
+            codes: [0, 1, 2],
+            next: NEXT,
+            ..ASK_NEXT
+        },
         body: "Request(Spread(Final))",
         next: NEXT_LAYOUT,
     },
     Row {
-        strings: Strings(&[b"request", b"query"]),
+        sample: Sample {
+            codes: [0, 2, 0],
+            ..ASK_NEXT
+        },
         body: "Request(Query)",
         next: "None",
     },
     Row {
-        strings: Strings(&[
-            b"request",
-            b"pre-write",
-            b"12",
-            b"345",
-            b"3",
-            b"11",
-            b"abcd\r\n",
-        ]),
+        sample: Sample {
+            codes: [0, 3, 0],
+            tag: TAG,
+            piece: PIECE,
+            bytes: Some(b"abcd\r\n"),
+            ..ASK_NEXT
+        },
         body: "Request(PreWrite(Tag { number: 12, call: 345 }, \
             Piece { point: 3, len: 11, bytes: b\"abcd\\r\\n\" }))",
         next: "None",
     },
     Row {
-        strings: Strings(&[b"request", b"finalize", b"12", b"345"]),
+        sample: Sample {
+            codes: [0, 4, 0],
+            tag: TAG,
+            ..ASK_NEXT
+        },
         body: "Request(Finalize(Tag { number: 12, call: 345 }))",
         next: "None",
     },
     Row {
-        strings: Strings(&[b"request", b"fetch", b"12", b"345"]),
+        sample: Sample {
+            codes: [0, 5, 0],
+            tag: TAG,
+            ..ASK_NEXT
+        },
         body: "Request(Fetch(Tag { number: 12, call: 345 }))",
         next: "None",
     },
 ];
 
-/// The last row has the greatest step and the greatest number of a tag.
-static REPLIES: [Row; 10] = [
+/// The tag with the greatest number and the call 0.
+const GREATEST: [u8; 16] = [
+    255, 255, 255, 255, 255, 255, 255, 255, 0, 0, 0, 0, 0, 0, 0, 0,
+];
+
+/// An empty piece differs from none. The last row has the greatest step and the greatest number of a tag.
+static REPLIES: [Row; 11] = [
     Row {
-        strings: Strings(&[b"reply", b"next", b"99", b"unset"]),
+        sample: Sample {
+            codes: [1, 0, 0],
+            step: STEP,
+            ..ASK_NEXT
+        },
         body: "Reply { kind: Next, reply: Reply { step: 99, answer: Pointer(Unset) } }",
         next: "None",
     },
     Row {
-        strings: Strings(&[b"reply", b"next", b"99", b"pending", NEXT]),
+        sample: Sample {
+            codes: [1, 0, 1],
+            step: STEP,
+            next: NEXT,
+            ..ASK_NEXT
+        },
         body: "Reply { kind: Next, reply: Reply { step: 99, answer: Pointer(Pending) } }",
         next: NEXT_LAYOUT,
     },
     Row {
-        strings: Strings(&[b"reply", b"next", b"99", b"final", NEXT]),
+        sample: Sample {
+            codes: [1, 0, 2],
+            step: STEP,
+            next: NEXT,
+            ..ASK_NEXT
+        },
         body: "Reply { kind: Next, reply: Reply { step: 99, answer: Pointer(Final) } }",
         next: NEXT_LAYOUT,
     },
     Row {
-        strings: Strings(&[b"reply", b"spread", b"final", b"99"]),
+        sample: Sample {
+            codes: [1, 1, 2],
+            step: STEP,
+            ..ASK_NEXT
+        },
         body: "Reply { kind: Spread(Final), reply: Reply { step: 99, answer: Done } }",
         next: "None",
     },
     Row {
-        strings: Strings(&[b"reply", b"query", b"99", b"12", b"345"]),
+        sample: Sample {
+            codes: [1, 2, 0],
+            tag: TAG,
+            step: STEP,
+            ..ASK_NEXT
+        },
         body: "Reply { kind: Query, \
             reply: Reply { step: 99, answer: Greatest(Tag { number: 12, call: 345 }) } }",
         next: "None",
     },
     Row {
-        strings: Strings(&[b"reply", b"pre-write", b"12", b"345", b"99"]),
+        sample: Sample {
+            codes: [1, 3, 0],
+            tag: TAG,
+            step: STEP,
+            ..ASK_NEXT
+        },
         body: "Reply { kind: PreWrite(Tag { number: 12, call: 345 }), \
             reply: Reply { step: 99, answer: Done } }",
         next: "None",
     },
     Row {
-        strings: Strings(&[b"reply", b"finalize", b"12", b"345", b"99"]),
+        sample: Sample {
+            codes: [1, 4, 0],
+            tag: TAG,
+            step: STEP,
+            ..ASK_NEXT
+        },
         body: "Reply { kind: Finalize(Tag { number: 12, call: 345 }), \
             reply: Reply { step: 99, answer: Done } }",
         next: "None",
     },
     Row {
-        strings: Strings(&[b"reply", b"fetch", b"12", b"345", b"99", b"none"]),
+        sample: Sample {
+            codes: [1, 5, 0],
+            tag: TAG,
+            step: STEP,
+            ..ASK_NEXT
+        },
         body: "Reply { kind: Fetch(Tag { number: 12, call: 345 }), \
             reply: Reply { step: 99, answer: Piece(None) } }",
         next: "None",
     },
     Row {
-        strings: Strings(&[
-            b"reply",
-            b"fetch",
-            b"12",
-            b"345",
-            b"99",
-            b"piece",
-            b"3",
-            b"11",
-            b"abcd\r\n",
-        ]),
+        sample: Sample {
+            codes: [1, 5, 0],
+            tag: TAG,
+            step: STEP,
+            piece: PIECE,
+            bytes: Some(b"abcd\r\n"),
+            ..ASK_NEXT
+        },
         body: "Reply { kind: Fetch(Tag { number: 12, call: 345 }), \
             reply: Reply { step: 99, answer: Piece(Some(HeldPiece { \
             piece: Piece { point: 3, len: 11, bytes: b\"abcd\\r\\n\" } })) } }",
         next: "None",
     },
     Row {
-        strings: Strings(&[
-            b"reply",
-            b"query",
-            b"18446744073709551615",
-            b"18446744073709551615",
-            b"0",
-        ]),
+        sample: Sample {
+            codes: [1, 5, 0],
+            tag: TAG,
+            step: STEP,
+            piece: [1, 0, 0, 0, 0, 0],
+            bytes: Some(b""),
+            ..ASK_NEXT
+        },
+        body: "Reply { kind: Fetch(Tag { number: 12, call: 345 }), \
+            reply: Reply { step: 99, answer: Piece(Some(HeldPiece { \
+            piece: Piece { point: 0, len: 0, bytes: b\"\" } })) } }",
+        next: "None",
+    },
+    Row {
+        sample: Sample {
+            codes: [1, 2, 0],
+            tag: GREATEST,
+            step: [255; 8],
+            ..ASK_NEXT
+        },
         body: "Reply { kind: Query, reply: Reply { step: 18446744073709551615, \
             answer: Greatest(Tag { number: 18446744073709551615, call: 0 }) } }",
         next: "None",
@@ -151,13 +227,13 @@ fn assert_says<R: Abort>(rt: &R, alloc: Global, read: &NodeMessage, row: &Row) {
 
 fn assert_writes<R: Abort>(rt: &R, alloc: Global, read: &NodeMessage, row: &Row) {
     let written = frame_of(alloc, read).expect(rt, "a frame");
-    let expected = frame(rt, alloc, HEAD, row.strings);
+    let expected = frame(rt, alloc, &row.sample);
     assert_strings(rt, written.strings(), expected.strings());
 }
 
 // The strings are those of such a message, and they are written again from it.
 fn assert_row<R: Abort>(rt: &R, alloc: Global, row: &Row) {
-    let read = message(rt, alloc, row.strings);
+    let read = message(rt, alloc, &row.sample);
     assert_says(rt, alloc, &read, row);
     assert_writes(rt, alloc, &read, row);
 }
@@ -184,5 +260,5 @@ const WHOLE: &str = "NodeMessage { \
 
 #[test]
 fn what_stands_before_the_body(rt: HostRuntime) {
-    assert_prints(&rt, rt.alloc(), &message(&rt, rt.alloc(), ASK_NEXT), WHOLE);
+    assert_prints(&rt, rt.alloc(), &message(&rt, rt.alloc(), &ASK_NEXT), WHOLE);
 }

@@ -1,123 +1,212 @@
 //! Frames that are no messages, and why.
-use super::samples::{ASK_NEXT, HEAD, NEXT, Strings, frame, list};
+use super::samples::{ASK_NEXT, NEXT, PIECE, STEP, Sample, TAG, head, sample_strings, strings};
 use bytes::Bytes;
 use frames::Frame;
 use node_messages::{Fault, MessageError, read_message};
 use std::alloc::Global;
 use std::process::Abort;
 
-/// A string in place of one of `HEAD`, and its fault. Behind it stands a request Next.
-struct HeadRow(usize, &'static [u8], Fault);
+/// The place of a byte in the head of `ASK_NEXT`, another byte, and the fault.
+struct Change(usize, u8, Fault);
 
-static IN_THE_HEAD: [HeadRow; 24] = [
-    HeadRow(0, b"0123456789abcde", Fault::BadDigest),
-    HeadRow(0, b"0123456789abcdefg", Fault::BadDigest),
-    HeadRow(1, &[b'a'; 256], Fault::NameTooLong),
-    HeadRow(2, b"", Fault::BadLayout),
-    HeadRow(2, b"\x02", Fault::BadLayout),
-    HeadRow(2, b"\x00\x03\x04", Fault::BadLayout),
-    HeadRow(2, b"\x03\x03\x04", Fault::BadLayout),
-    HeadRow(2, b"\x01\x03\x04\x03", Fault::BadLayout),
-    HeadRow(2, &[1; 257], Fault::BadLayout),
-    HeadRow(3, b"", Fault::BadNumber),
-    HeadRow(3, b"-1", Fault::BadNumber),
-    HeadRow(3, b"+1", Fault::BadNumber),
-    HeadRow(3, b" 1", Fault::BadNumber),
-    HeadRow(3, b"1 ", Fault::BadNumber),
-    HeadRow(3, b"00", Fault::BadNumber),
-    HeadRow(3, b"01", Fault::BadNumber),
-    HeadRow(3, b"0x1", Fault::BadNumber),
-    HeadRow(3, b"18446744073709551616", Fault::OutOfRange),
-    HeadRow(3, b"18446744073709551616x", Fault::OutOfRange),
-    HeadRow(4, b"4294967296", Fault::OutOfRange),
-    HeadRow(5, b"4294967296", Fault::OutOfRange),
-    HeadRow(6, b"256", Fault::OutOfRange),
-    HeadRow(6, b"255", Fault::NoMember),
-    HeadRow(6, b"4", Fault::NoMember),
+static CHANGES: [Change; 24] = [
+    Change(0, 0, Fault::OtherForm),
+    Change(0, 2, Fault::OtherForm),
+    Change(0, 4, Fault::OtherForm),
+    Change(0, b'0', Fault::OtherForm),
+    Change(17, 4, Fault::NoMember),
+    Change(17, 255, Fault::NoMember),
+    Change(18, 2, Fault::UnknownCode),
+    Change(18, 255, Fault::UnknownCode),
+    Change(19, 3, Fault::NoPiece),
+    Change(19, 6, Fault::UnknownCode),
+    Change(19, 255, Fault::UnknownCode),
+    Change(20, 1, Fault::UnusedPlace),
+    Change(28, 1, Fault::UnusedPlace),
+    Change(36, 1, Fault::UnusedPlace),
+    Change(44, 1, Fault::UnusedPlace),
+    Change(45, 1, Fault::WrongCount),
+    Change(45, 2, Fault::UnknownCode),
+    Change(46, 1, Fault::UnusedPlace),
+    Change(50, 1, Fault::UnusedPlace),
+    Change(67, 5, Fault::BadLayout),
+    Change(67, 3, Fault::LongHead),
+    Change(68, 0, Fault::BadLayout),
+    Change(68, 5, Fault::BadLayout),
+    Change(69, 6, Fault::BadLayout),
 ];
 
-/// Strings behind `HEAD`, and their fault.
-struct TailRow(Strings, Fault);
+/// A sample, and its fault.
+struct Row(Sample, Fault);
 
-static BEHIND_THE_HEAD: [TailRow; 19] = [
-    TailRow(Strings(&[b"Request", b"next"]), Fault::UnknownWord),
-    TailRow(Strings(&[b"", b"next"]), Fault::UnknownWord),
-    TailRow(Strings(&[b"requests", b"next"]), Fault::UnknownWord),
-    TailRow(Strings(&[b"request", b"nex"]), Fault::UnknownWord),
-    TailRow(
-        Strings(&[b"request", b"spread", b"Pending", NEXT]),
-        Fault::UnknownWord,
+const SPREAD: Sample = Sample {
+    codes: [0, 1, 1],
+    next: NEXT,
+    ..ASK_NEXT
+};
+
+const PRE_WRITE: Sample = Sample {
+    codes: [0, 3, 0],
+    tag: TAG,
+    piece: PIECE,
+    bytes: Some(b"abcd"),
+    ..ASK_NEXT
+};
+
+const SPREAD_DONE: Sample = Sample {
+    codes: [1, 1, 2],
+    step: STEP,
+    ..ASK_NEXT
+};
+
+const NONE_FETCHED: Sample = Sample {
+    codes: [1, 5, 0],
+    tag: TAG,
+    step: STEP,
+    ..ASK_NEXT
+};
+
+static ROWS: [Row; 19] = [
+    Row(
+        Sample {
+            codes: [0, 1, 3],
+            ..SPREAD
+        },
+        Fault::UnknownCode,
     ),
-    TailRow(
-        Strings(&[b"reply", b"next", b"0", b"set"]),
-        Fault::UnknownWord,
+    Row(
+        Sample {
+            codes: [1, 0, 3],
+            ..ASK_NEXT
+        },
+        Fault::UnknownCode,
     ),
-    TailRow(
-        Strings(&[b"reply", b"spread", b"", b"0"]),
-        Fault::UnknownWord,
+    Row(
+        Sample {
+            codes: [0, 1, 0],
+            ..SPREAD
+        },
+        Fault::LongHead,
     ),
-    TailRow(
-        Strings(&[b"reply", b"prewrite", b"0", b"0"]),
-        Fault::UnknownWord,
-    ),
-    TailRow(
-        Strings(&[b"reply", b"fetch", b"1", b"2", b"3", b"nothing"]),
-        Fault::UnknownWord,
-    ),
-    TailRow(
-        Strings(&[b"request", b"spread", b"unset", NEXT]),
-        Fault::WrongCount,
-    ),
-    TailRow(Strings(&[b"request", b"query", b""]), Fault::WrongCount),
-    TailRow(
-        Strings(&[b"request", b"next", b"request", b"next"]),
-        Fault::WrongCount,
-    ),
-    TailRow(
-        Strings(&[b"reply", b"spread", b"final", b"0", NEXT]),
-        Fault::WrongCount,
-    ),
-    TailRow(
-        Strings(&[b"request", b"pre-write", b"1", b"2", b"256", b"4", b"5"]),
-        Fault::OutOfRange,
-    ),
-    TailRow(
-        Strings(&[
-            b"request",
-            b"pre-write",
-            b"1",
-            b"2",
-            b"3",
-            b"4294967296",
-            b"5",
-        ]),
-        Fault::OutOfRange,
-    ),
-    TailRow(
-        Strings(&[b"request", b"pre-write", b"", b"2", b"3", b"4", b"5"]),
-        Fault::BadNumber,
-    ),
-    TailRow(
-        Strings(&[b"request", b"pre-write", b"1", b"02", b"3", b"4", b"5"]),
-        Fault::BadNumber,
-    ),
-    TailRow(
-        Strings(&[b"request", b"spread", b"final", b"\x01"]),
+    Row(
+        Sample {
+            next: b"",
+            ..SPREAD
+        },
         Fault::BadLayout,
     ),
-    TailRow(
-        Strings(&[b"reply", b"next", b"0", b"pending", b"\x02\x03"]),
+    Row(
+        Sample {
+            next: &[2, 1, 9],
+            ..SPREAD
+        },
         Fault::BadLayout,
+    ),
+    Row(
+        Sample {
+            next: &[2, 3, 9, 0],
+            ..SPREAD
+        },
+        Fault::BadLayout,
+    ),
+    Row(
+        Sample {
+            next: &[1, 1, 9, 0],
+            ..SPREAD
+        },
+        Fault::LongHead,
+    ),
+    Row(
+        Sample {
+            step: STEP,
+            ..SPREAD
+        },
+        Fault::UnusedPlace,
+    ),
+    Row(Sample { tag: TAG, ..SPREAD }, Fault::UnusedPlace),
+    Row(
+        Sample {
+            next: NEXT,
+            ..SPREAD_DONE
+        },
+        Fault::LongHead,
+    ),
+    Row(
+        Sample {
+            tag: TAG,
+            ..SPREAD_DONE
+        },
+        Fault::UnusedPlace,
+    ),
+    Row(
+        Sample {
+            piece: [0; 6],
+            ..PRE_WRITE
+        },
+        Fault::WrongCount,
+    ),
+    Row(
+        Sample {
+            bytes: None,
+            ..PRE_WRITE
+        },
+        Fault::WrongCount,
+    ),
+    Row(
+        Sample {
+            piece: [2, 3, 0, 0, 0, 11],
+            ..PRE_WRITE
+        },
+        Fault::UnknownCode,
+    ),
+    Row(
+        Sample {
+            codes: [0, 3, 1],
+            ..PRE_WRITE
+        },
+        Fault::UnusedPlace,
+    ),
+    Row(
+        Sample {
+            step: STEP,
+            ..PRE_WRITE
+        },
+        Fault::UnusedPlace,
+    ),
+    Row(
+        Sample {
+            codes: [0, 4, 0],
+            ..PRE_WRITE
+        },
+        Fault::UnusedPlace,
+    ),
+    Row(
+        Sample {
+            piece: [0, 3, 0, 0, 0, 0],
+            ..NONE_FETCHED
+        },
+        Fault::UnusedPlace,
+    ),
+    Row(
+        Sample {
+            bytes: Some(b""),
+            ..NONE_FETCHED
+        },
+        Fault::WrongCount,
     ),
 ];
 
-/// Strings behind `HEAD` that are no message if they are cut.
-static CUT: [Strings; 3] = [
-    Strings(&[b"request", b"pre-write", b"1", b"2", b"3", b"4", b"5"]),
-    Strings(&[b"request", b"spread", b"pending", NEXT]),
-    Strings(&[
-        b"reply", b"fetch", b"1", b"2", b"3", b"piece", b"4", b"5", b"6",
-    ]),
+/// The strings of a request Next in the form before.
+static OLD: [&[u8]; 9] = [
+    b"0123456789abcdef",
+    b"photo",
+    b"\x02\x03\x04\x05\x06",
+    b"7",
+    b"2",
+    b"1",
+    b"3",
+    b"request",
+    b"next",
 ];
 
 fn fault_of(alloc: Global, frame: Frame) -> Option<Fault> {
@@ -127,53 +216,77 @@ fn fault_of(alloc: Global, frame: Frame) -> Option<Fault> {
     }
 }
 
-fn assert_fault<R: Abort>(rt: &R, alloc: Global, frame: Frame, fault: Fault) {
-    assert!(rt; fault_of(alloc, frame) == Some(fault), "{fault}");
+fn assert_fault<R: Abort>(rt: &R, alloc: Global, list: Vec<Bytes>, wanted: Fault) {
+    let frame = Frame::new(list).expect(rt, "a frame");
+    let found = fault_of(alloc, frame);
+    assert!(rt; found == Some(wanted), "{wanted}");
 }
 
-fn put(list: &mut Vec<Bytes>, row: &HeadRow) {
-    if let Some(string) = list.get_mut(row.0) {
-        *string = Bytes::from_static(row.1);
-    }
-}
-
-fn changed<R: Abort>(rt: &R, alloc: Global, row: &HeadRow) -> Frame {
-    let mut list = list(rt, alloc, HEAD, ASK_NEXT);
-    put(&mut list, row);
-    Frame::new(list).expect(rt, "a frame")
-}
-
-#[test]
-fn in_the_head(rt: HostRuntime) {
-    for row in &IN_THE_HEAD {
-        assert_fault(&rt, rt.alloc(), changed(&rt, rt.alloc(), row), row.2);
+fn put(head: &mut [u8], change: &Change) {
+    if let Some(byte) = head.get_mut(change.0) {
+        *byte = change.1;
     }
 }
 
 #[test]
-fn behind_the_head(rt: HostRuntime) {
-    for row in &BEHIND_THE_HEAD {
-        assert_fault(&rt, rt.alloc(), frame(&rt, rt.alloc(), HEAD, row.0), row.1);
+fn a_byte_of_the_head(rt: HostRuntime) {
+    for change in &CHANGES {
+        let mut head = head(&rt, rt.alloc(), &ASK_NEXT);
+        put(&mut head, change);
+        let list = strings(&rt, rt.alloc(), head, b"photo", None);
+        assert_fault(&rt, rt.alloc(), list, change.2);
     }
 }
 
-/// These strings have the fault that some are missing.
-fn assert_cut<R: Abort>(rt: &R, alloc: Global, head: Strings, tail: Strings) {
-    assert_fault(rt, alloc, frame(rt, alloc, head, tail), Fault::WrongCount);
+#[test]
+fn what_a_message_says(rt: HostRuntime) {
+    for row in &ROWS {
+        let list = sample_strings(&rt, rt.alloc(), &row.0);
+        assert_fault(&rt, rt.alloc(), list, row.1);
+    }
+}
+
+/// The head of a sample that is cut to this length has this fault.
+fn assert_cut<R: Abort>(rt: &R, alloc: Global, sample: &Sample, len: usize, wanted: Fault) {
+    let mut head = head(rt, alloc, sample);
+    head.truncate(len);
+    assert_fault(rt, alloc, strings(rt, alloc, head, b"photo", None), wanted);
 }
 
 #[test]
 fn a_head_that_is_cut(rt: HostRuntime) {
-    for len in 0..HEAD.0.len() {
-        assert_cut(&rt, rt.alloc(), Strings(&HEAD.0[..len]), Strings(&[]));
+    for len in 0..67usize {
+        assert_cut(&rt, rt.alloc(), &SPREAD, len, Fault::OtherForm);
+    }
+    for len in 67..77usize {
+        assert_cut(&rt, rt.alloc(), &SPREAD, len, Fault::BadLayout);
     }
 }
 
 #[test]
-fn a_body_that_is_cut(rt: HostRuntime) {
-    for body in &CUT {
-        for len in 0..body.0.len() {
-            assert_cut(&rt, rt.alloc(), HEAD, Strings(&body.0[..len]));
-        }
+fn strings_too_few_or_too_many(rt: HostRuntime) {
+    for len in 0..3usize {
+        let mut list = sample_strings(&rt, rt.alloc(), &PRE_WRITE);
+        list.truncate(len);
+        assert_fault(&rt, rt.alloc(), list, Fault::WrongCount);
     }
+    let mut list = sample_strings(&rt, rt.alloc(), &PRE_WRITE);
+    list.push(Bytes::new()).expect(&rt, "memory");
+    assert_fault(&rt, rt.alloc(), list, Fault::WrongCount);
+}
+
+#[test]
+fn a_long_name(rt: HostRuntime) {
+    let head = head(&rt, rt.alloc(), &ASK_NEXT);
+    let list = strings(&rt, rt.alloc(), head, &[b'a'; 256], None);
+    assert_fault(&rt, rt.alloc(), list, Fault::NameTooLong);
+}
+
+#[test]
+fn the_form_before(rt: HostRuntime) {
+    let mut list = Vec::new(rt.alloc());
+    for string in OLD {
+        list.push(Bytes::from_static(string)).expect(&rt, "memory");
+    }
+    assert_fault(&rt, rt.alloc(), list, Fault::OtherForm);
 }

@@ -1,52 +1,107 @@
-//! Frames that are made of strings, and what they say.
+//! Frames that are made of parts written by hand, and what they say.
 use bytes::Bytes;
 use frames::Frame;
 use node_messages::{NodeMessage, read_message};
 use std::alloc::Global;
 use std::process::Abort;
 
-/// Strings of a frame.
+/// What a frame says besides `FRONT`, the digest, the layout of the position and the name.
 #[derive(Clone, Copy)]
-pub(crate) struct Strings(pub(crate) &'static [&'static [u8]]);
-
-/// The strings before the body: a digest, a name, k = 2 with the members 3, 4, 5 and 6, call 7, phase 2, position 1 and
-/// member 3.
-pub(crate) static HEAD: Strings = Strings(&[
-    b"0123456789abcdef",
-    b"photo",
-    b"\x02\x03\x04\x05\x06",
-    b"7",
-    b"2",
-    b"1",
-    b"3",
-]);
-
-/// The string of a layout with k = 1 and the members 9 and 0.
-pub(crate) const NEXT: &[u8] = b"\x01\x09\x00";
-
-/// The body of a request Next.
-pub(crate) static ASK_NEXT: Strings = Strings(&[b"request", b"next"]);
-
-fn push_all<R: Abort>(rt: &R, list: &mut Vec<Bytes>, strings: Strings) {
-    for string in strings.0 {
-        list.push(Bytes::from_static(string)).expect(rt, "memory");
-    }
+pub(crate) struct Sample {
+    /// Request or reply, kind, and status.
+    pub(crate) codes: [u8; 3],
+    /// The number and the call of a tag.
+    pub(crate) tag: [u8; 16],
+    /// The step of a reply.
+    pub(crate) step: [u8; 8],
+    /// Whether there is a piece, its point, and the length of its value.
+    pub(crate) piece: [u8; 6],
+    /// The bytes of the next layout.
+    pub(crate) next: &'static [u8],
+    /// The bytes of the piece.
+    pub(crate) bytes: Option<&'static [u8]>,
 }
 
-/// Returns these strings in a row.
-pub(crate) fn list<R: Abort>(rt: &R, alloc: Global, head: Strings, tail: Strings) -> Vec<Bytes> {
+/// Form 3, call 7, phase 2, position 1 and member 3.
+const FRONT: [u8; 18] = [3, 0, 0, 0, 0, 0, 0, 0, 7, 0, 0, 0, 2, 0, 0, 0, 1, 3];
+
+const DIGEST: [u8; 16] = *b"0123456789abcdef";
+
+/// Four members, k = 2, and the members 3, 4, 5 and 6.
+const LAYOUT: [u8; 6] = [4, 2, 3, 4, 5, 6];
+
+const NAME: &[u8] = b"photo";
+
+/// Two members, k = 1, and the members 9 and 0.
+pub(crate) const NEXT: &[u8] = &[2, 1, 9, 0];
+
+/// The tag with the number 12 and the call 345.
+pub(crate) const TAG: [u8; 16] = [0, 0, 0, 0, 0, 0, 0, 12, 0, 0, 0, 0, 0, 0, 1, 89];
+
+/// The step 99.
+pub(crate) const STEP: [u8; 8] = [0, 0, 0, 0, 0, 0, 0, 99];
+
+/// A piece with the point 3, of a value of 11 bytes.
+pub(crate) const PIECE: [u8; 6] = [1, 3, 0, 0, 0, 11];
+
+/// A request Next.
+pub(crate) const ASK_NEXT: Sample = Sample {
+    codes: [0, 0, 0],
+    tag: [0; 16],
+    step: [0; 8],
+    piece: [0; 6],
+    next: b"",
+    bytes: None,
+};
+
+/// Returns the head of a sample.
+pub(crate) fn head<R: Abort>(rt: &R, alloc: Global, sample: &Sample) -> Vec<u8> {
+    let mut head = Vec::new(alloc);
+    push(rt, &mut head, &FRONT);
+    push(rt, &mut head, &sample.codes);
+    push(rt, &mut head, &sample.tag);
+    push(rt, &mut head, &sample.step);
+    push(rt, &mut head, &sample.piece);
+    push(rt, &mut head, &DIGEST);
+    push(rt, &mut head, &LAYOUT);
+    push(rt, &mut head, sample.next);
+    head
+}
+
+// Appends a part of a head.
+fn push<R: Abort>(rt: &R, head: &mut Vec<u8>, part: &[u8]) {
+    head.extend_from_slice(part).expect(rt, "memory");
+}
+
+/// Returns the strings of a message with this head and this name, and the bytes of its piece if it has one.
+pub(crate) fn strings<R: Abort>(
+    rt: &R,
+    alloc: Global,
+    head: Vec<u8>,
+    name: &'static [u8],
+    bytes: Option<&'static [u8]>,
+) -> Vec<Bytes> {
     let mut list = Vec::new(alloc);
-    push_all(rt, &mut list, head);
-    push_all(rt, &mut list, tail);
+    let head = Bytes::from_vec(head).expect(rt, "memory");
+    list.push(head).expect(rt, "memory");
+    list.push(Bytes::from_static(name)).expect(rt, "memory");
+    if let Some(bytes) = bytes {
+        list.push(Bytes::from_static(bytes)).expect(rt, "memory");
+    }
     list
 }
 
-/// Returns the frame of these strings.
-pub(crate) fn frame<R: Abort>(rt: &R, alloc: Global, head: Strings, tail: Strings) -> Frame {
-    Frame::new(list(rt, alloc, head, tail)).expect(rt, "a frame")
+/// Returns the strings of a sample.
+pub(crate) fn sample_strings<R: Abort>(rt: &R, alloc: Global, sample: &Sample) -> Vec<Bytes> {
+    strings(rt, alloc, head(rt, alloc, sample), NAME, sample.bytes)
 }
 
-/// Returns the message of the frame with `HEAD` and these strings behind it.
-pub(crate) fn message<R: Abort>(rt: &R, alloc: Global, tail: Strings) -> NodeMessage {
-    read_message(alloc, frame(rt, alloc, HEAD, tail)).expect(rt, "a message")
+/// Returns the frame of a sample.
+pub(crate) fn frame<R: Abort>(rt: &R, alloc: Global, sample: &Sample) -> Frame {
+    Frame::new(sample_strings(rt, alloc, sample)).expect(rt, "a frame")
+}
+
+/// Returns the message of a sample.
+pub(crate) fn message<R: Abort>(rt: &R, alloc: Global, sample: &Sample) -> NodeMessage {
+    read_message(alloc, frame(rt, alloc, sample)).expect(rt, "a message")
 }

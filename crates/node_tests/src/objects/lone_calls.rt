@@ -43,7 +43,7 @@ static TWO_NAMES: [Step; 2] = [
     },
 ];
 
-// After these steps, node 3 has this number, has heard of so many objects, and stores so many bytes.
+// After these steps, node 3 has this number, has so many objects in its map, and stores so many bytes.
 fn assert_plays(rt: &impl Abort, alloc: Global, steps: &[Step], expected: (u8, usize, u64)) {
     assert!(rt; play(rt, alloc, steps) == expected);
 }
@@ -55,7 +55,7 @@ fn a_write_a_move_and_a_read(rt: HostRuntime) {
 
 #[test]
 fn two_names(rt: HostRuntime) {
-    assert_plays(&rt, rt.alloc(), &TWO_NAMES, (3, 2, 1));
+    assert_plays(&rt, rt.alloc(), &TWO_NAMES, (3, 1, 1));
 }
 
 #[test]
@@ -90,5 +90,5 @@ fn answers(objects: &Objects, name: &Bytes, letter: &Letter) -> [Result<bool, Re
 fn give_up(rt: &impl Abort, objects: &mut Objects) {
     let photo = Bytes::from_static(b"photo");
     assert!(rt; objects.give_up(&photo, 1));
-    assert!(rt; !objects.give_up(&photo, 1) && objects.count() == 1);
+    assert!(rt; !objects.give_up(&photo, 1) && objects.count() == 0);
 }

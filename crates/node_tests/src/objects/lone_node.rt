@@ -46,7 +46,7 @@ struct Lone {
     ended: Option<Ended>,
 }
 
-/// Plays these steps at node 3, which is alone. Returns its number, how many objects it has heard of, and how many
+/// Plays these steps at node 3, which is alone. Returns its number, how many objects its map has, and how many
 /// bytes it stores.
 pub(crate) fn play(rt: &impl Abort, alloc: Global, steps: &[Step]) -> (u8, usize, u64) {
     let mut lone = Lone {

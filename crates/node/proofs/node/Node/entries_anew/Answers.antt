@@ -1,5 +1,5 @@
 use Rattle.std.proofs.Common.{◌++◌, ◌∷◌, [], List, map, ap, ◌∙◌}
-use Rattle.rewritten_logs.proofs.RewrittenLogLemmas.{rewritten_record}
+use Rattle.recoveries.proofs.RewrittenLogLemmas.{rewritten_record}
 use Rattle.node_strings.specs.Strings.{Strings}
 use Rattle.node_keeper.specs.Objects.{heard_names}
 use Rattle.node_keeper.specs.Anew.{anew_records}

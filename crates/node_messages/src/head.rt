@@ -1,0 +1,105 @@
+//! The head of a message.
+ghost use Rattle.std.specs.Prelude.{◌≡◌, ◌++◌, ◌<◌, ◌^◌, IfOk, IfSome, OnOk, length};
+ghost use Rattle.layout.specs.Layout.{IsLawful};
+ghost use Rattle.cluster_file.specs.declared.file.TheConstants.{DIGEST_LENGTH};
+ghost use Rattle.node_messages.specs.Head.{head_of, layout_bytes, next_bytes, number_bytes, said_of};
+ghost use Rattle.node_messages.specs.Message.{HasTypedFields};
+
+use crate::message::NodeMessage;
+use crate::places::{FORM, NUMBERS_LENGTH, Numbers};
+use crate::said::{Said, said_of};
+use bytes::Bytes;
+use cluster_file::DIGEST_LENGTH;
+use layout::Layout;
+use mail::Message;
+use std::alloc::{AllocError, Global};
+use tag::CallId;
+
+// These numbers, which are within their bits.
+fn within_bits(call: CallId, phase: u32, position: u32) -> (CallId, u32, u32)
+    ensures value { result ≡ (call, phase, position) }
+    ensures call { call < 2 ^ 64 }
+    ensures phase { phase < 2 ^ 32 }
+    ensures position { position < 2 ^ 32 }
+{
+    (call, phase, position)
+}
+
+/// Returns the numbers of a message of whose body a head says this.
+pub(crate) fn number_bytes(message: &Message, said: Said) -> Numbers
+    ensures bytes { result ≡ number_bytes message.now said }
+    ensures call { message.now.call < 2 ^ 64 }
+    ensures phase { message.now.phase < 2 ^ 32 }
+    ensures position { message.now.position < 2 ^ 32 }
+{
+    let (call, phase, position) = within_bits(message.call, message.phase, message.position);
+    let [a0, a1, a2, a3, a4, a5, a6, a7] = call.to_be_bytes();
+    let [b0, b1, b2, b3] = phase.to_be_bytes();
+    let [c0, c1, c2, c3] = position.to_be_bytes();
+    let [d0, d1, d2, d3, d4, d5, d6, d7] = said.tag.number.to_be_bytes();
+    let [e0, e1, e2, e3, e4, e5, e6, e7] = said.tag.call.to_be_bytes();
+    let [f0, f1, f2, f3, f4, f5, f6, f7] = said.step.to_be_bytes();
+    let [g0, g1, g2, g3] = said.len.to_be_bytes();
+    let member = message.member;
+    let (is_reply, status, is_piece) = (said.is_reply, said.status, said.is_piece);
+    [
+        FORM, a0, a1, a2, a3, a4, a5, a6, a7, b0, b1, b2, b3, c0, c1, c2, c3, member, is_reply,
+        said.kind, status, d0, d1, d2, d3, d4, d5, d6, d7, e0, e1, e2, e3, e4, e5, e6, e7, f0, f1,
+        f2, f3, f4, f5, f6, f7, is_piece, said.point, g0, g1, g2, g3,
+    ]
+}
+
+// Appends a layout: the number of its members, k, and the members.
+fn push_layout(head: &mut Vec<u8>, layout: &Layout) -> Result<(), AllocError>
+    ensures pushed { OnOk result (head.new.items ≡ head.old.items ++ layout_bytes layout.now) }
+    ensures lawful { OnOk result (IsLawful layout.now) }
+{
+    head.push(layout.n())?;
+    head.push(layout.k())?;
+    for i in 0..layout.n() {
+        head.push(layout.member(i))?;
+    }
+    Ok(())
+}
+
+// Appends the layout of the next position, if there is one.
+fn push_next(head: &mut Vec<u8>, next: &Option<Layout>) -> Result<(), AllocError>
+    ensures pushed { OnOk result (head.new.items ≡ head.old.items ++ next_bytes next.now) }
+    ensures lawful { OnOk result (IfSome next.now IsLawful) }
+{
+    match next {
+        Some(layout) => push_layout(head, layout),
+        None => Ok(()),
+    }
+}
+
+// The number of bytes of a head with layouts of so many members.
+fn length_with(layout: &Layout, next: &Option<Layout>) -> usize {
+    let next = match next {
+        Some(next) => 2 + usize::from(next.n()),
+        None => 0,
+    };
+    NUMBERS_LENGTH + DIGEST_LENGTH + 2 + usize::from(layout.n()) + next
+}
+
+// The bytes of a head.
+fn bytes_of(alloc: Global, message: &NodeMessage) -> Result<Vec<u8>, AllocError>
+    ensures made { IfOk result (λ head. head.items ≡ head_of message.now) }
+    ensures fits { OnOk result (HasTypedFields message.now) }
+{
+    let mut head = Vec::with_capacity(alloc, length_with(&message.layout, &message.next))?;
+    let numbers = number_bytes(&message.message, said_of(&message.message.body));
+    head.extend_from_slice(&numbers)?;
+    head.extend_from_slice(&message.digest)?;
+    push_layout(&mut head, &message.layout)?;
+    push_next(&mut head, &message.next)?;
+    Ok(head)
+}
+
+/// Returns the head of a message.
+pub(crate) fn head_of(alloc: Global, message: &NodeMessage) -> Result<Bytes, AllocError>
+    ensures made { IfOk result (λ head. head ≡ head_of message.now) }
+    ensures fits { OnOk result (HasTypedFields message.now) }
+{
+    Ok(Bytes::from_vec(bytes_of(alloc, message)?)?)
+}
