@@ -73,7 +73,7 @@ fn start_with<R: Files + AllocGlobal, E: Write>(
     Ok(end)
 }
 
-// Fails with `OldForm` if the log has the form of before. The file is then read from its beginning on.
+// Fails with `OldForm` if the log has an older form. The file is then read from its beginning on.
 fn refuse_old_form<F: Read + Seek>(file: &mut F) -> Result<(), Fault> {
     let mut head = [0; HEAD_LENGTH];
     match file.read_exact(&mut head) {

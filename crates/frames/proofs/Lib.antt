@@ -13,3 +13,4 @@ pub mod ReadNumberLemmas
 pub mod ReadStringLemmas
 pub mod ReadFrameLemmas
 pub mod WriteSequenceLemmas
+pub mod GatheredLemmas

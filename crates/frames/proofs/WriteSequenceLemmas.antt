@@ -1,11 +1,10 @@
 -- Writing one thing after another.
 use Rattle.std.proofs.Common.{◌≡◌, ℕ, ◌+◌, ◌-◌, ◌<◌, ◌≤◌, List, [], ◌∷◌, ◌++◌, length, get_or}
-use Rattle.std.proofs.Common.{take, drop, Option, Some, None, Result, Ok, Err}
+use Rattle.std.proofs.Common.{take, drop, Option, Some, None, Result, Ok, Err, OnOk}
 use Rattle.std.proofs.Common.{sym, ap, subst, ◌∙◌, append_assoc, append-nil, take-append-drop, take_all, length-drop, arith}
 use Rattle.std.specs.List.{flat_map}
 use Rattle.std.proofs.lemmas.Grind.{flat_map-append}
 use Rattle.std.proofs.lemmas.List.{take_more}
-use Rattle.frames.specs.Frame.{string_bytes}
 use Rattle.std.specs.Io.KnownBytes.{Appends, Keeps}
 use Rattle.frames.specs.Writing.{Writes}
 
@@ -80,39 +79,58 @@ Writes_lost T S a b e xs ys p =
 pub Writes_as : {T E : Type 0} (a b : Held) (r : Result T E) (xs ys : List ℕ) → xs ≡ ys → Writes a b r xs → Writes a b r ys
 Writes_as a b r xs ys e p = subst (Writes a b r) e p
 
--- ---- several strings
+-- ---- several things, of each of which a function of it is written
 
-strings_next : (strings : List (List ℕ)) (i : ℕ) (s d : List ℕ) → i < length strings → s ≡ get_or strings i d
-    → flat_map string_bytes (take (i + 1) strings) ≡ flat_map string_bytes (take i strings) ++ string_bytes s
-strings_next strings i s d lt is =
-    ap (λ (ss : List (List ℕ)). flat_map string_bytes ss) (take_more strings i d lt)
-    ∙ flat_map-append string_bytes (take i strings) (get_or strings i d ∷ [])
-    ∙ ap (λ (t : List ℕ). flat_map string_bytes (take i strings) ++ t)
-    (append-nil (string_bytes (get_or strings i d)) ∙ ap (λ (t : List ℕ). string_bytes t) (sym is))
+pub next_in_order : (f : List ℕ → List ℕ) (strings : List (List ℕ)) (i : ℕ) (s d : List ℕ) → i < length strings
+    → s ≡ get_or strings i d → flat_map f (take (i + 1) strings) ≡ flat_map f (take i strings) ++ f s
+next_in_order f strings i s d lt is =
+    ap (λ (ss : List (List ℕ)). flat_map f ss) (take_more strings i d lt)
+    ∙ flat_map-append f (take i strings) (get_or strings i d ∷ [])
+    ∙ ap (λ (t : List ℕ). flat_map f (take i strings) ++ t)
+    (append-nil (f (get_or strings i d)) ∙ ap (λ (t : List ℕ). f t) (sym is))
 
-pub strings_more : (a b c : Held) (strings : List (List ℕ)) (i : ℕ) (s d : List ℕ) → i < length strings → s ≡ get_or strings i d
-    → Appends a b (flat_map string_bytes (take i strings)) → Appends b c (string_bytes s)
-    → Appends a c (flat_map string_bytes (take (i + 1) strings))
-strings_more a b c strings i s d lt is p q =
-    subst (Appends a c) (sym (strings_next strings i s d lt is))
-    (Appends_then a b c (flat_map string_bytes (take i strings)) (string_bytes s) p q)
+pub strings_more : (f : List ℕ → List ℕ) (a b c : Held) (strings : List (List ℕ)) (i : ℕ) (s d : List ℕ) → i < length strings
+    → s ≡ get_or strings i d → Appends a b (flat_map f (take i strings)) → Appends b c (f s)
+    → Appends a c (flat_map f (take (i + 1) strings))
+strings_more f a b c strings i s d lt is p q =
+    subst (Appends a c) (sym (next_in_order f strings i s d lt is))
+    (Appends_then a b c (flat_map f (take i strings)) (f s) p q)
 
-pub strings_lost : {E : Type 0} (a b c : Held) (e : E) (strings : List (List ℕ)) (i : ℕ) (s d : List ℕ) → i < length strings
-    → s ≡ get_or strings i d → Appends a b (flat_map string_bytes (take i strings)) → Writes b c (lost (Unit {0}) e) (string_bytes s)
-    → Writes a c (lost (Unit {0}) e) (flat_map string_bytes strings)
-strings_lost a b c e strings i s d lt is p q =
-    let before = flat_map string_bytes (take i strings) in
-    let behind = flat_map string_bytes (drop (i + 1) strings) in
-    let whole : flat_map string_bytes strings
-    ≡ flat_map string_bytes (take i strings) ++ (string_bytes s ++ flat_map string_bytes (drop (i + 1) strings)) =
-    ap (λ (ss : List (List ℕ)). flat_map string_bytes ss) (sym (take-append-drop (i + 1) strings))
-    ∙ flat_map-append string_bytes (take (i + 1) strings) (drop (i + 1) strings)
-    ∙ ap (λ (t : List ℕ). t ++ flat_map string_bytes (drop (i + 1) strings)) (strings_next strings i s d lt is)
-    ∙ append_assoc before (string_bytes s) behind in
-    Writes_as a c (lost (Unit {0}) e) _ (flat_map string_bytes strings) (sym whole)
-    (Writes_then a b c (tt {0}) (lost (Unit {0}) e) before (string_bytes s ++ behind) p
-    (Writes_lost (Unit {0}) (Unit {0}) b c e (string_bytes s) behind q))
+pub strings_lost : {E : Type 0} (f : List ℕ → List ℕ) (a b c : Held) (e : E) (strings : List (List ℕ)) (i : ℕ) (s d : List ℕ)
+    → i < length strings → s ≡ get_or strings i d → Appends a b (flat_map f (take i strings))
+    → Writes b c (lost (Unit {0}) e) (f s) → Writes a c (lost (Unit {0}) e) (flat_map f strings)
+strings_lost f a b c e strings i s d lt is p q =
+    let before = flat_map f (take i strings) in
+    let behind = flat_map f (drop (i + 1) strings) in
+    let whole : flat_map f strings ≡ flat_map f (take i strings) ++ (f s ++ flat_map f (drop (i + 1) strings)) =
+    ap (λ (ss : List (List ℕ)). flat_map f ss) (sym (take-append-drop (i + 1) strings))
+    ∙ flat_map-append f (take (i + 1) strings) (drop (i + 1) strings)
+    ∙ ap (λ (t : List ℕ). t ++ flat_map f (drop (i + 1) strings)) (next_in_order f strings i s d lt is)
+    ∙ append_assoc before (f s) behind in
+    Writes_as a c (lost (Unit {0}) e) _ (flat_map f strings) (sym whole)
+    (Writes_then a b c (tt {0}) (lost (Unit {0}) e) before (f s ++ behind) p
+    (Writes_lost (Unit {0}) (Unit {0}) b c e (f s) behind q))
 
-pub strings_done : (a b : Held) (strings : List (List ℕ)) (i : ℕ) → length strings ≤ i
-    → Appends a b (flat_map string_bytes (take i strings)) → Appends a b (flat_map string_bytes strings)
-strings_done a b strings i le p = subst (λ (ss : List (List ℕ)). Appends a b (flat_map string_bytes ss)) (take_all i strings le) p
+pub strings_done : (f : List ℕ → List ℕ) (a b : Held) (strings : List (List ℕ)) (i : ℕ) → length strings ≤ i
+    → Appends a b (flat_map f (take i strings)) → Appends a b (flat_map f strings)
+strings_done f a b strings i le p = subst (λ (ss : List (List ℕ)). Appends a b (flat_map f ss)) (take_all i strings le) p
+
+-- parts are written as they are
+abbrev pub as_it_is : List ℕ → List ℕ
+as_it_is part = part
+
+-- ---- bytes that wait
+
+-- what was written to a writer whose bytes are known
+pub added : {T E : Type 0} (r : Result T E) (a b xs : List ℕ) → Writes (Some a) (Some b) r xs → OnOk r (b ≡ a ++ xs)
+added (Ok x) a b xs p = p
+added (Err e) a b xs p = tt
+
+-- one thing is added behind another
+pub added_then : (a b c xs ys : List ℕ) → b ≡ a ++ xs → c ≡ b ++ ys → c ≡ a ++ (xs ++ ys)
+added_then a b c xs ys p q = q ∙ ap (λ (t : List ℕ). t ++ ys) p ∙ append_assoc a xs ys
+
+pub added_last : {T E : Type 0} (r : Result T E) (a b c xs ys : List ℕ) → b ≡ a ++ xs → OnOk r (c ≡ b ++ ys)
+    → OnOk r (c ≡ a ++ (xs ++ ys))
+added_last (Ok x) a b c xs ys p q = added_then a b c xs ys p q
+added_last (Err e) a b c xs ys p q = tt

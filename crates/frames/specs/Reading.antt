@@ -81,8 +81,8 @@ frame_at [] = Ok (None, [])
 frame_at (byte ∷ rest) =
     if byte == 42 then and_then (array_at rest) (λ strings. Ok (Some strings.0, strings.1)) else Err (BadType, rest)
 
--- If it is known what a reader had left, it is known what it has left now, and the given relation holds between the
--- two.
+-- The relation holds between the bytes that a reader had left and those that it has left now. If it is not known
+-- what it had left, nothing is said.
 abbrev pub Between : (List ℕ → List ℕ → Type 0) → Option (List ℕ) → Option (List ℕ) → Type 0
 Between P None new = ⊤
 Between P (Some xs) None = ⊥
@@ -97,7 +97,7 @@ GivesAs view at old new (Err (errors.Fault fault)) = Between (λ xs ys. at xs �
 GivesAs view at old new (Err errors.NoMemory) = ⊤
 GivesAs view at old new (Err (errors.Failed error)) = ⊤
 
--- the same for what a function returned, as it is
+-- `GivesAs` for a function that returns the value itself
 abbrev pub Returns : {X : Type 0} → (List ℕ → Parsed X) → Option (List ℕ) → Option (List ℕ) → Result X FrameError
     → Type 0
 Returns at old new result = GivesAs (λ x. x) at old new result

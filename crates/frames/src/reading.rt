@@ -34,7 +34,7 @@ pub fn read_frame<R: Read>(alloc: Global, reader: &mut R) -> Result<Option<Frame
     read_next(alloc, reader)
 }
 
-// The same, by its exact clause.
+// Does what `read_frame` does, and promises its clause `exact` alone. The other clauses follow from that one.
 fn read_next<R: Read>(alloc: Global, reader: &mut R) -> Result<Option<Frame>, FrameError>
     ensures { Returns frame_at (R.remaining reader.old) (R.remaining reader.new) result }
 {

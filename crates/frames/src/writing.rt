@@ -37,7 +37,8 @@ fn write_string<W: Write>(writer: &mut W, string: &[u8]) -> io::Result<()>
     write_line_end(writer)
 }
 
-fn write_header<W: Write>(writer: &mut W, mark: u8, number: usize) -> io::Result<()>
+/// Writes a type byte, a number in decimal digits, and CR LF.
+pub(crate) fn write_header<W: Write>(writer: &mut W, mark: u8, number: usize) -> io::Result<()>
     ensures { Writes (W.contents writer.old) (W.contents writer.new) result (header mark number) }
 {
     write_bytes(writer, &[mark])?;
@@ -52,7 +53,8 @@ fn write_number<W: Write>(writer: &mut W, number: usize) -> io::Result<()>
     write_bytes(writer, buffer.format(number).as_bytes())
 }
 
-fn write_line_end<W: Write>(writer: &mut W) -> io::Result<()>
+/// Writes CR LF.
+pub(crate) fn write_line_end<W: Write>(writer: &mut W) -> io::Result<()>
     ensures { Writes (W.contents writer.old) (W.contents writer.new) result line_end }
 {
     write_bytes(writer, b"\r\n")

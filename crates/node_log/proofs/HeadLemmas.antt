@@ -202,7 +202,7 @@ pub is_no_head : (chain : ℕ) (head digest tail : List ℕ) (test : Bool) → l
 is_no_head chain head digest tail test whole computed is tested fails head_is =
     wrong head digest (digest_behind chain (take 12 head)) tail test whole computed is tested fails head_is.digest
 
-pub is_old : (head digest tail : List ℕ) (test : Bool) → length head ≡ 16 → form_in head ≡ 0 → digest ≡ digest_of (take 12 head)
+pub is_old : (head digest tail : List ℕ) (test : Bool) → length head ≡ 16 → form_in head < form → digest ≡ digest_of (take 12 head)
     → tail ≡ take 4 (drop 12 head) → test ≡ bytes_eq digest tail → test ≡ true → IsOldHead head
 is_old head digest tail test whole has computed is tested holds = record {
   whole = whole;

@@ -6,4 +6,5 @@ pub mod ReadEntryLemmas
 pub mod ShiftLemmas
 pub mod StateLemmas
 pub mod TableLemmas
+pub mod TallyLemmas
 pub mod ZeroLemmas

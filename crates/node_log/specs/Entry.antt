@@ -1,6 +1,6 @@
 -- The contracts that docs/trusted.md lists do not depend on this file; other contracts and proofs do.
 -- Entries of a log, and the bytes of each: a head of 16 bytes, and a body.
-use Rattle.std.specs.Prelude.{◌≡◌, ◌+◌, ◌*◌, ◌/◌, ◌%◌, ◌^◌, ◌++◌, ℕ, List, [], ◌∷◌, length, take, drop, bit_xor, ⊤}
+use Rattle.std.specs.Prelude.{◌≡◌, ◌<◌, ◌+◌, ◌*◌, ◌/◌, ◌%◌, ◌^◌, ◌++◌, ℕ, List, [], ◌∷◌, length, take, drop, bit_xor, ⊤}
 use Rattle.std.specs.Int.{w32, w64, to_be_bytes, from_be_bytes}
 use Rattle.node_log.specs.Crc32c.{crc32c, after_bytes, all_bits}
 use Rattle.frames.specs.Frame.{IsFrame, IsNoFrame, frame_bytes}
@@ -15,9 +15,9 @@ digest_of bytes = to_be_bytes w32 (crc32c bytes)
 unfoldable pub digest_behind : ℕ → List ℕ → List ℕ
 digest_behind state bytes = to_be_bytes w32 (bit_xor (after_bytes state bytes) all_bits)
 
--- the form of entries, which is the first byte of each head; entries of the form before begin with 0
+-- the form of entries, which is the first byte of each head; those of form 1 begin with 0, and those of form 2 with 2
 abbrev pub form : ℕ
-form = 2
+form = 3
 
 -- what a head says of a body: the form and the length, as eight bytes, high byte first, and the digest
 unfoldable pub described : List ℕ → List ℕ
@@ -63,10 +63,10 @@ pub record IsHead (chain : ℕ) (head : List ℕ) : Type 0 where
   pub has_form : form_in head ≡ form
   pub digest : digest_behind chain (take 12 head) ≡ drop 12 head
 
--- these are the bytes of a head of the form before, which began with a zero and whose digest began anew
+-- these are the bytes of the first head of an older form: its digest begins anew, as in form 1 that of each head did
 pub record IsOldHead (head : List ℕ) : Type 0 where
   pub whole : length head ≡ 16
-  pub has_form : form_in head ≡ 0
+  pub has_form : form_in head < form
   pub digest : digest_of (take 12 head) ≡ drop 12 head
 
 -- strings become an entry exactly if they are those of a frame

@@ -3,3 +3,4 @@ pub mod Entry
 pub mod Laws
 pub mod Parts
 pub mod Reading
+pub mod Tally

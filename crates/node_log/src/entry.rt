@@ -3,9 +3,10 @@ ghost use Rattle.std.specs.Prelude.{◌≡◌, MatchResult, OnOk, length};
 ghost use Rattle.frames.specs.Frame.{IsFrame, frame_bytes};
 ghost use Rattle.node_log.specs.Entry.{described, sealed, IsEntry, IsNoEntry};
 
-use crate::head::{SAYS_LENGTH, described};
+use crate::head::SAYS_LENGTH;
+use crate::tally::says_of;
 use bytes::Bytes;
-use frames::{Frame, FrameError, write_frame};
+use frames::{Frame, FrameError};
 use std::alloc::Global;
 use std::marker::Model;
 
@@ -30,21 +31,17 @@ impl Model for Entry {
 
 impl Entry {
     /// The entry of these strings. `Fault` with `TooManyStrings` where there are more than `MOST_STRINGS`, and
-    /// otherwise with `StringTooLong` where one is longer than `LONGEST_STRING`; `NoMemory` where memory is refused for
-    /// the bytes of which the digest is computed.
-    pub fn new(alloc: Global, strings: Vec<Bytes>) -> Result<Entry, FrameError>
+    /// otherwise with `StringTooLong` where one is longer than `LONGEST_STRING`. The digest is computed over the
+    /// strings as they lie, so this asks for no memory.
+    pub fn new(_alloc: Global, strings: Vec<Bytes>) -> Result<Entry, FrameError>
         ensures made { MatchResult result (λ entry. entry ≡ sealed strings.items) (IsNoEntry strings.items) }
         ensures fits { OnOk result (IsEntry strings.items) }
     {
         let frame = Frame::new(strings)?;
-        let mut body = Vec::new(alloc);
-        match write_frame(&mut body, &frame) {
-            Ok(()) => Ok(Entry {
-                says: described(&body),
-                frame,
-            }),
-            Err(_) => Err(FrameError::NoMemory),
-        }
+        Ok(Entry {
+            says: says_of(&frame),
+            frame,
+        })
     }
 
     /// The entry of a frame of which it is known what its head says.

@@ -1,5 +1,5 @@
 //! The head of an entry, which says where the entry ends.
-ghost use Rattle.std.specs.Prelude.{◌≡◌, ◌↔◌, ◌++◌, IsTrue, MatchOption, take};
+ghost use Rattle.std.specs.Prelude.{◌≡◌, ◌<◌, ◌^◌, ◌↔◌, ◌++◌, ℕ, List, IsTrue, MatchOption, length, take};
 ghost use Rattle.node_log.specs.Entry.{described, digest_behind, digest_of, digest_in, IsHead, IsOldHead, length_in};
 
 use crate::chain::Chain;
@@ -13,17 +13,18 @@ pub const HEAD_LENGTH: usize = 16;
 pub(crate) const SAYS_LENGTH: usize = 12;
 
 // The form of entries, which is the first byte of each head.
-const FORM: u64 = 2;
+const FORM: u64 = 3;
 
 // The number that the first byte of eight counts.
 const FORM_UNIT: u64 = 0x0100_0000_0000_0000;
 
-/// What a head says of a body.
-pub(crate) fn described(body: &[u8]) -> [u8; SAYS_LENGTH]
-    ensures { result ≡ described body.now }
+/// What a head says of a body of so many bytes, which has this digest.
+pub(crate) fn described(count: u64, digest: [u8; 4]) -> [u8; SAYS_LENGTH]
+    requires { count < 2 ^ 56 }
+    ensures { (body : List ℕ) → count ≡ length body → digest ≡ digest_of body → result ≡ described body }
 {
-    let [a, b, c, d, e, f, g, h] = (FORM * FORM_UNIT + body.len() as u64).to_be_bytes();
-    let [i, j, k, l] = digest_of(body);
+    let [a, b, c, d, e, f, g, h] = (FORM * FORM_UNIT + count).to_be_bytes();
+    let [i, j, k, l] = digest;
     [a, b, c, d, e, f, g, h, i, j, k, l]
 }
 
@@ -53,12 +54,12 @@ pub(crate) fn length_in(chain: Chain, head: &[u8; HEAD_LENGTH]) -> Option<u64>
     }
 }
 
-/// Whether these first bytes of a log are a head of the form before, which had no chain.
+/// Whether these first bytes of a log are the first head of an older form.
 pub fn is_old_head(head: &[u8; HEAD_LENGTH]) -> bool
     ensures { IsTrue result ↔ IsOldHead head.now }
 {
     let number = u64::from_be_bytes(first_eight(head));
-    if number / FORM_UNIT != 0 {
+    if number / FORM_UNIT >= FORM {
         return false;
     }
     digest_of(&head[..12]).as_slice() == &head[12..]

@@ -12,7 +12,7 @@ pub use head::{HEAD_LENGTH, is_old_head};
 pub use laws::{entries_are_read_back, moved_entries_are_noticed};
 pub use reading::read_entry;
 pub use states::checksum;
-pub use writing::write_entry;
+pub use writing::{push_entry, write_entry};
 
 mod chain;
 mod checksum_laws;
@@ -26,4 +26,5 @@ mod laws;
 mod near_tables;
 mod reading;
 mod states;
+mod tally;
 mod writing;

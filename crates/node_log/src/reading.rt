@@ -36,7 +36,7 @@ pub fn read_entry<R: Read>(
     read_next(alloc, reader, chain)
 }
 
-// The same, by its first clause.
+// Does what `read_entry` does, and promises its clause `read` alone. The clause `only` follows from that one.
 fn read_next<R: Read>(
     alloc: Global,
     reader: &mut R,

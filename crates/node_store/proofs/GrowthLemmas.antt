@@ -1,6 +1,6 @@
 -- How known bytes grow and are consumed, one part after another; and lists that grow at their end.
 use Rattle.std.proofs.Common.{◌≡◌, ℕ, ◌+◌, ◌<◌, List, [], ◌∷◌, ◌++◌, length, get_or, take, Option, Some, None, sym, ap, subst, ◌∙◌}
-use Rattle.std.proofs.Common.{refl, append_assoc, append-nil}
+use Rattle.std.proofs.Common.{refl, append_assoc, append-nil, OnOk, Result, Ok, Err}
 use Rattle.std.specs.List.{flat_map, FoldsTo, AllByRecursion}
 use Rattle.std.specs.Io.KnownBytes.{Appends, Consumes, Keeps}
 use Rattle.std.proofs.lemmas.Grind.{flat_map-append}
@@ -44,8 +44,17 @@ pub consumes_none : (a : Known) → Consumes a a []
 consumes_none None = tt
 consumes_none (Some xs) = refl
 
+pub grows_none : (a : Known) → Grows a a
+grows_none a = ([], appends_none a)
+
 pub grows_twice : (a b c : Known) → Grows a b → Grows b c → Grows a c
 grows_twice a b c p q = (p.0 ++ q.0, appends_then a b c p.0 q.0 p.1 q.1)
+
+-- a last part is appended to all others
+pub appended_last : {T E : Type 0} (r : Result T E) (a b c : Known) (xs ys all : List ℕ) → xs ++ ys ≡ all → Appends a b xs
+    → OnOk r (Appends b c ys) → OnOk r (Appends a c all)
+appended_last (Ok x) a b c xs ys all is p q = subst (Appends a c) is (appends_then a b c xs ys p q)
+appended_last (Err e) a b c xs ys all is p q = tt
 
 -- what holds of the bytes behind those that were consumed
 pub left_behind : (P : List ℕ → Type 0) (a b : Known) (xs : List ℕ) → Consumes a b xs → HadLeft P b

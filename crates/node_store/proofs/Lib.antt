@@ -4,5 +4,6 @@ pub mod RecoveryLemmas
 pub mod RewritingLemmas
 pub mod FrameReadingLemmas
 pub mod OutputLemmas
+pub mod WaitingLemmas
 pub mod ServingLemmas
 pub mod CutLogLemmas

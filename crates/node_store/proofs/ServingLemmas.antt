@@ -17,8 +17,8 @@ use Rattle.node_store.proofs.GrowthLemmas.{Known, consumes_none}
 use Rattle.node_store.proofs.GrowthLemmas.{folds_then, left_weaker}
 use Rattle.node_store.proofs.FrameReadingLemmas.{frames_behind, frames_then, frames_stood}
 use Rattle.node_store.proofs.LogBytesLemmas.{chain_all_then}
-use Rattle.node_store.proofs.OutputLemmas.{chain_is, first_then, gathers_none, gathers_then, unwritten, written_first, written_none}
-use Rattle.node_store.proofs.OutputLemmas.{written_then}
+use Rattle.node_store.proofs.OutputLemmas.{chain_is, first_then, unwritten, written_first, written_none, written_then}
+use Rattle.node_store.proofs.WaitingLemmas.{gathers_none, gathers_then}
 
 -- how the loop goes on, or why it stops
 abbrev pub going : Bool → Result Bool ServeError

@@ -48,11 +48,11 @@ pub record HasGathered (chain : ℕ) (batch : Batch) (outputs : List Output) : T
   pub rest : List Output
   pub all : outputs ≡ first ++ rest
   pub unlogged : all_logged first ≡ []
-  pub early : batch.early.items ≡ all_sent first
-  pub log : batch.log.items ≡ bytes_logged chain rest
+  pub early : batch.early ≡ all_sent first
+  pub log : batch.log ≡ bytes_logged chain rest
   pub chain_now : batch.chain.state ≡ chain_after_all chain rest
-  pub late : batch.output.items ≡ all_sent rest
-  pub none : batch.log.items ≡ [] → batch.output.items ≡ []
+  pub late : batch.output ≡ all_sent rest
+  pub none : batch.log ≡ [] → batch.output ≡ []
 
 -- the batch has these outputs behind those that it had
 abbrev pub Gathers : (before after : Batch) → List Output → Type 0

@@ -4,9 +4,9 @@ ghost use Rattle.node_effects.specs.Work.{send_all};
 ghost use Rattle.node_effects.specs.declared.output.Output.TheVariants.{Log, Send};
 ghost use Rattle.node_store.specs.Outputs.{Gathers, HasGathered, effects_outputs};
 
-use frames::{Frame, write_frame};
+use frames::{Frame, Gathered, push_frame};
 use node_effects::{Effects, Output};
-use node_log::{Chain, Entry, write_entry};
+use node_log::{Chain, Entry, push_entry};
 use std::alloc::Global;
 use std::io;
 
@@ -16,9 +16,9 @@ const MOST_BYTES: usize = 1_048_576;
 /// Bytes that wait to be written, in this order: frames that depend on none of the entries, entries for the log, and
 /// frames that may depend on entries; and the chain behind the entries.
 pub(crate) struct Batch {
-    pub early: Vec<u8>,
-    pub log: Vec<u8>,
-    pub output: Vec<u8>,
+    pub early: Gathered,
+    pub log: Gathered,
+    pub output: Gathered,
     pub chain: Chain,
 }
 
@@ -40,9 +40,9 @@ impl Batch {
         ensures chain { result.chain.state ≡ chain.state }
     {
         Batch {
-            early: Vec::new(alloc),
-            log: Vec::new(alloc),
-            output: Vec::new(alloc),
+            early: Gathered::new(alloc),
+            log: Gathered::new(alloc),
+            output: Gathered::new(alloc),
             chain,
         }
     }
@@ -92,7 +92,7 @@ impl Batch {
     fn push_entry(&mut self, entry: &Entry) -> io::Result<()>
         ensures { OnOk result (Gathers self.old self.new (Log entry.now ∷ [])) }
     {
-        write_entry(&mut self.log, self.chain, entry)?;
+        push_entry(&mut self.log, self.chain, entry)?;
         self.chain.pass(entry);
         Ok(())
     }
@@ -102,9 +102,9 @@ impl Batch {
         ensures { OnOk result (Gathers self.old self.new (Send frame.now ∷ [])) }
     {
         if self.log.is_empty() {
-            write_frame(&mut self.early, frame)
+            push_frame(&mut self.early, frame)
         } else {
-            write_frame(&mut self.output, frame)
+            push_frame(&mut self.output, frame)
         }
     }
 

@@ -1,5 +1,5 @@
 //! Writing a log anew.
-ghost use Rattle.std.specs.Prelude.{◌≡◌, ◌↔◌, ◌+◌, ◌*◌, ◌≤◌, [], IsTrue, OnOk, IfOk, length, vec_len};
+ghost use Rattle.std.specs.Prelude.{◌≡◌, ◌↔◌, ◌+◌, ◌*◌, ◌≤◌, [], IsTrue, OnOk, IfOk, length};
 ghost use Rattle.std.specs.Io.KnownBytes.{Appends};
 ghost use Rattle.node_log.specs.Entry.{first_chain};
 ghost use Rattle.node_store.specs.Recovery.{log_bytes};
@@ -8,7 +8,9 @@ ghost use Rattle.node_store.specs.Rewriting.{HasGrown, HasRewritten, IsBeside, I
 use crate::end::LogEnd;
 use crate::log::Log;
 use crate::second::RewritableLog;
-use node_log::{Chain, Entry, write_entry};
+use crate::writing::append_parts;
+use frames::Gathered;
+use node_log::{Chain, Entry, push_entry};
 use std::alloc::Global;
 use std::io;
 use std::io::ErrorKind;
@@ -102,11 +104,11 @@ fn write_entries<L: Log>(alloc: Global, log: &mut L, entries: &[Entry]) -> io::R
     ensures synced { OnOk result (L.kept log.new ≡ L.written log.new) }
     ensures end { IfOk result (IsEndOf entries.now) }
 {
-    let mut part = Vec::new(alloc);
+    let mut part = Gathered::new(alloc);
     let mut length = 0u64;
     let mut chain = Chain::new();
     for entry in entries {
-        write_entry(&mut part, chain, entry)?;
+        push_entry(&mut part, chain, entry)?;
         chain.pass(entry);
         if part.len() >= PART_BYTES {
             length = write_part(log, &mut part, length)?;
@@ -117,17 +119,17 @@ fn write_entries<L: Log>(alloc: Global, log: &mut L, entries: &[Entry]) -> io::R
     Ok(LogEnd { length, chain })
 }
 
-// Appends these bytes to a log, and drops them. `length` is the number of bytes that were written before them, and the
+// Appends these bytes to a log, and drops them. `before` is the number of bytes that were written before them, and the
 // result that with them.
-fn write_part<L: Log>(log: &mut L, part: &mut Vec<u8>, length: u64) -> io::Result<u64>
-    ensures written { OnOk result (Appends (L.written log.old) (L.written log.new) part.old.items) }
-    ensures empty { OnOk result (part.new.items ≡ []) }
-    ensures length { IfOk result (λ end. end ≡ length + vec_len part.old) }
+fn write_part<L: Log>(log: &mut L, part: &mut Gathered, before: u64) -> io::Result<u64>
+    ensures written { OnOk result (Appends (L.written log.old) (L.written log.new) part.old) }
+    ensures empty { OnOk result (part.new ≡ []) }
+    ensures length { IfOk result (λ end. end ≡ before + length part.old) }
 {
-    let Some(end) = length.checked_add(part.len() as u64) else {
+    let Some(end) = before.checked_add(part.len() as u64) else {
         return Err(io::Error::from(ErrorKind::FileTooLarge));
     };
-    log.append(part)?;
+    append_parts(log, part)?;
     part.clear();
     Ok(end)
 }

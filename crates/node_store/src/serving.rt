@@ -13,7 +13,7 @@ use crate::log::Log;
 use crate::rewriting::has_grown;
 use crate::stop::ServeError;
 use crate::writing::append_bytes;
-use frames::{Fault, Frame, FrameError, read_frame, write_bytes};
+use frames::{Fault, Frame, FrameError, Gathered, read_frame, write_gathered};
 use node_effects::{Machine, NodeError, Report};
 use std::alloc::Global;
 use std::io;
@@ -182,12 +182,12 @@ fn handle<M: Machine>(machine: &mut M, frame: Frame, batch: &mut Batch) -> Resul
 }
 
 // Writes bytes to the output, and flushes it. Where there are no bytes, it does nothing.
-fn write_out<O: Write>(output: &mut O, bytes: &[u8]) -> io::Result<()>
+fn write_out<O: Write>(output: &mut O, bytes: &Gathered) -> io::Result<()>
     ensures { Writes (O.contents output.old) (O.contents output.new) result bytes.now }
 {
     if bytes.is_empty() {
         return Ok(());
     }
-    write_bytes(output, bytes)?;
+    write_gathered(output, bytes)?;
     output.flush()
 }

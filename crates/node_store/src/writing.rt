@@ -1,23 +1,26 @@
 //! Appending to the log.
 ghost use Rattle.std.specs.Prelude.{◌≡◌, ◌++◌, IfOk, OnOk, length};
 ghost use Rattle.std.specs.Io.KnownBytes.{Appends};
+ghost use Rattle.std.specs.List.{concat};
 ghost use Rattle.node_log.specs.Entry.{chain_behind};
 ghost use Rattle.node_store.specs.Recovery.{log_bytes};
 ghost use Rattle.node_store.specs.Logs.{Grows};
 
 use crate::log::Log;
-use node_log::{Chain, Entry, write_entry};
+use bytes::Bytes;
+use frames::Gathered;
+use node_log::{Chain, Entry, push_entry};
 use std::alloc::Global;
 use std::io;
 
 /// Appends the bytes of entries to bytes that wait to be written to the log, and goes on with the chain behind them.
 /// Fails only if memory is refused.
-pub fn push_entries(bytes: &mut Vec<u8>, chain: &mut Chain, entries: &[Entry]) -> io::Result<()>
-    ensures bytes { OnOk result (bytes.new.items ≡ bytes.old.items ++ log_bytes chain.old.state entries.now) }
+pub fn push_entries(bytes: &mut Gathered, chain: &mut Chain, entries: &[Entry]) -> io::Result<()>
+    ensures bytes { OnOk result (bytes.new ≡ bytes.old ++ log_bytes chain.old.state entries.now) }
     ensures chain { OnOk result (chain.new.state ≡ chain_behind chain.old.state entries.now) }
 {
     for entry in entries {
-        write_entry(bytes, *chain, entry)?;
+        push_entry(bytes, *chain, entry)?;
         chain.pass(entry);
     }
     Ok(())
@@ -25,7 +28,7 @@ pub fn push_entries(bytes: &mut Vec<u8>, chain: &mut Chain, entries: &[Entry]) -
 
 /// Appends bytes to a log that is synced, and syncs it again. Does nothing if there are no bytes. If it fails, the log
 /// may keep some of the bytes.
-pub fn append_bytes<L: Log>(log: &mut L, bytes: &[u8]) -> io::Result<()>
+pub fn append_bytes<L: Log>(log: &mut L, bytes: &Gathered) -> io::Result<()>
     requires { L.kept log.old ≡ L.written log.old }
     ensures kept { OnOk result (Appends (L.kept log.old) (L.kept log.new) bytes.now) }
     ensures synced { OnOk result (L.kept log.new ≡ L.written log.new) }
@@ -34,8 +37,29 @@ pub fn append_bytes<L: Log>(log: &mut L, bytes: &[u8]) -> io::Result<()>
     if bytes.is_empty() {
         return Ok(());
     }
-    log.append(bytes)?;
+    append_parts(log, bytes)?;
     log.sync()
+}
+
+/// Appends bytes to a log, part by part, from where each part lies. If it fails, the log may keep some of the bytes.
+pub(crate) fn append_parts<L: Log>(log: &mut L, bytes: &Gathered) -> io::Result<()>
+    ensures written { OnOk result (Appends (L.written log.old) (L.written log.new) bytes.now) }
+    ensures kept { Grows (L.kept log.old) (L.kept log.new) }
+{
+    let (parts, last) = bytes.parts();
+    append_each(log, parts)?;
+    log.append(last)
+}
+
+// Appends these parts to a log, one after another.
+fn append_each<L: Log>(log: &mut L, parts: &[Bytes]) -> io::Result<()>
+    ensures written { OnOk result (Appends (L.written log.old) (L.written log.new) (concat parts.now)) }
+    ensures kept { Grows (L.kept log.old) (L.kept log.new) }
+{
+    for part in parts {
+        log.append(part)?;
+    }
+    Ok(())
 }
 
 /// Appends entries to a log that is synced and ends behind this chain, and syncs it again. Returns how many bytes they
@@ -53,7 +77,7 @@ pub fn append_entries<L: Log>(
     ensures chain { OnOk result (chain.new.state ≡ chain_behind chain.old.state entries.now) }
     ensures synced { OnOk result (L.kept log.new ≡ L.written log.new) }
 {
-    let mut bytes = Vec::new(alloc);
+    let mut bytes = Gathered::new(alloc);
     push_entries(&mut bytes, chain, entries)?;
     append_bytes(log, &bytes)?;
     Ok(bytes.len() as u64)

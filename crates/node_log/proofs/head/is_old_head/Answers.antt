@@ -1,5 +1,6 @@
-use Rattle.std.proofs.Common.{◌/◌, ◌^◌, ℕ, refl, sym, ap, ◌∙◌, w64}
+use Rattle.std.proofs.Common.{◌/◌, ◌^◌, ◌<◌, ℕ, refl, ap, subst, ◌∙◌, arith, w64}
 use Rattle.std.specs.Int.{from_be_bytes}
+use Rattle.node_log.specs.Entry.{form}
 use Rattle.node_log.proofs.HeadLemmas.{is_old, old_is_tested}
 use Rattle.node_log.proofs.head.is_old_head.Goals as goal
 
@@ -9,6 +10,6 @@ returns c =
     let head = c.args.head.now in
     let digest = c.as_slice.ensures ∙ c.digest_of.ensures in (
       (λ holds. is_old head c.as_slice.result.now _ c.eq.result c.told-head
-          (ap (λ (v : ℕ). v / 2 ^ 56) (sym number) ∙ c.if-number-ne0.false) digest refl c.eq.ensures holds),
+          (subst (λ (v : ℕ). v / 2 ^ 56 < form) number (omega (arith, c.if-number-ge-FORM.false))) digest refl c.eq.ensures holds),
       (λ old. old_is_tested head c.as_slice.result.now _ c.eq.result c.told-head digest refl c.eq.ensures old),
     )

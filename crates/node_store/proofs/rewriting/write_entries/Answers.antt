@@ -1,5 +1,5 @@
 use Rattle.std.proofs.lemmas.Grind.{common_steps}
-use Rattle.std.proofs.Common.{rules, ap, sym, ◌∙◌, ℕ, Vec, Global, arith}
+use Rattle.std.proofs.Common.{rules, ap, sym, ◌∙◌, ℕ, arith}
 use Rattle.node_log.specs.Entry.{chain_after, first_chain}
 use Rattle.node_store.proofs.LogBytesLemmas.{chain_more}
 use Rattle.node_store.proofs.RewritingLemmas.{one_waits, part_written, same_written}
@@ -11,22 +11,22 @@ loop-entry-preserved g c =
     let entries = c.args.entries.now in
     let index = c.loop-entry.entry-index in
     let entry = c.entry-item.result in
-    let waits = one_waits first_chain c.loop-entry.chain.state _ _ c.loop-entry.part.items c.write_entry.new.writer.items
+    let waits = one_waits first_chain c.loop-entry.chain.state _ _ c.loop-entry.part c.push_entry.new.bytes
     c.loop-entry.length entries index entry entry c.loop-entry-test.true c.entry-item.is c.loop-entry.invariant.1
-    c.in_ok-write_entry.ensures c.loop-entry.invariant.0 in
+    c.in_ok-push_entry.ensures c.loop-entry.invariant.0 in
     let chained = c.pass.ensures ∙ ap (λ (n : ℕ). chain_after n entry) c.loop-entry.invariant.1
     ∙ sym (chain_more first_chain entries index entry entry c.loop-entry-test.true c.entry-item.is) in
     elim c.if-len-ge-PART_BYTES.branch [
       | then-len-ge-PART_BYTES+in_ok-length w ↦ (
         same_written _ _ _ _ _ _ _ _ (ap g.L.Log.written w.log-is)
-            (ap (λ (v : Vec ℕ Global). v.items) w.part-is) w.length-is
-            (part_written _ _ _ c.write_entry.new.writer.items _ _ _ _ waits w.in_ok-length.ensures.written
-            w.in_ok-length.ensures.empty (omega (arith, w.in_ok-length.ensures.length, c.write_entry.new.writer.ok.0))),
+            w.part-is w.length-is
+            (part_written _ _ _ c.push_entry.new.bytes _ _ _ _ waits w.in_ok-length.ensures.written
+            w.in_ok-length.ensures.empty w.in_ok-length.ensures.length),
         chained,
       )
       | else-len-ge-PART_BYTES w ↦ (
         same_written _ _ _ _ _ _ _ _ (ap g.L.Log.written w.log-is)
-            (ap (λ (v : Vec ℕ Global). v.items) w.part-is) w.length-is waits,
+            w.part-is w.length-is waits,
         chained,
       )
     ]

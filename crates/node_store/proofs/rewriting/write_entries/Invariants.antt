@@ -6,6 +6,6 @@ use Rattle.node_store.proofs.RewritingLemmas.{AreWritten}
 use Rattle.node_store.proofs.rewriting.write_entries.Given as goal
 
 abbrev pub invariant-loop-entry : goal.invariant-loop-entry
-invariant-loop-entry g l = AreWritten (g.L.Log.written l.fn.log) (g.L.Log.written l.log) l.part.items l.length
+invariant-loop-entry g l = AreWritten (g.L.Log.written l.fn.log) (g.L.Log.written l.log) l.part l.length
     (log_bytes first_chain (take l.entry-index l.entries))
     × (l.chain.state ≡ chain_behind first_chain (take l.entry-index l.entries))

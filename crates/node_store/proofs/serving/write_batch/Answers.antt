@@ -1,7 +1,5 @@
-use Rattle.std.proofs.Common.{subst, rules}
-use Rattle.std.specs.Io.KnownBytes.{Appends}
-use Rattle.frames.specs.Writing.{Writes}
-use Rattle.node_store.proofs.OutputLemmas.{failed, late_unsent}
+use Rattle.std.proofs.Common.{rules}
+use Rattle.node_store.proofs.OutputLemmas.{late_unsent}
 use Rattle.node_store.proofs.serving.write_batch.Goals as goal
 
 pub returns-in-Err-write_out-clause-writes : goal.returns-in-Err-write_out-clause-writes
@@ -13,9 +11,9 @@ returns-in-Err-write_out-clause-writes g c =
     let holds = g.O.Write.contents c.write_out-2.new.output in
     λ chain outputs has. (
       late_unsent chain c.args.batch.now outputs has kept keeps held middle holds c.in-Err-write_out.error
-          (subst (Appends held middle) c.deref.ensures.value c.in_default.ensures)
-          (subst (Appends kept keeps) c.deref-2.ensures.value c.in_default-append_bytes.ensures.kept)
-          (subst (Writes middle holds (failed c.in-Err-write_out.error)) c.deref-3.ensures.value c.in-Err-write_out.ensures),
+          c.in_default.ensures
+          c.in_default-append_bytes.ensures.kept
+          c.in-Err-write_out.ensures,
       λ bytes. tt,
     )
 

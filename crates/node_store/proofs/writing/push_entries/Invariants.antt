@@ -6,5 +6,5 @@ use Rattle.node_store.proofs.writing.push_entries.Given as goal
 
 abbrev pub invariant-loop-entry : goal.invariant-loop-entry
 invariant-loop-entry l =
-    (l.bytes.items ≡ l.fn.bytes.items ++ log_bytes l.fn.chain.state (take l.entry-index l.entries))
+    (l.bytes ≡ l.fn.bytes ++ log_bytes l.fn.chain.state (take l.entry-index l.entries))
     × (l.chain.state ≡ chain_behind l.fn.chain.state (take l.entry-index l.entries))

@@ -1,0 +1,12 @@
+-- The parts so far were appended.
+use Rattle.std.proofs.Common.{take}
+use Rattle.std.specs.List.{flat_map}
+use Rattle.std.specs.Io.KnownBytes.{Appends}
+use Rattle.frames.proofs.WriteSequenceLemmas.{as_it_is}
+use Rattle.node_store.specs.Logs.{Grows}
+use Rattle.node_store.proofs.writing.append_each.Given as goal
+
+abbrev pub invariant-loop-part : goal.invariant-loop-part
+invariant-loop-part g l =
+    Appends (g.L.Log.written l.fn.log) (g.L.Log.written l.log) (flat_map as_it_is (take l.part-index l.parts))
+    × Grows (g.L.Log.kept l.fn.log) (g.L.Log.kept l.log)
