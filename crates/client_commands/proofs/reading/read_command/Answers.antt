@@ -1,6 +1,6 @@
 use Rattle.std.proofs.Common.{ap, ◌∙◌}
 use Rattle.client_commands.specs.Reading.{command_at}
-use Rattle.client_commands.proofs.CommandLemmas.{is_found, is_only}
+use Rattle.client_commands.proofs.WrittenCommandLemmas.{is_found, is_only}
 use Rattle.client_commands.proofs.reading.read_command.Goals as goal
 
 pub returns-clause-found : goal.returns-clause-found
