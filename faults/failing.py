@@ -27,7 +27,7 @@ class Trial:
     to: int = subprocess.PIPE
     # Whether a call fails, or the program makes fewer of them.
     has_failed: bool = True
-    # Standard output gets the first of these characters, at least so many and at most so many.
+    # Standard output gets the first characters of `lines`: at least `least` of them, and at most `most`.
     lines: str = ""
     least: int = 0
     most: int = 0

@@ -38,7 +38,7 @@ def play_pool(machine, trials, store, wanted):
 
 
 def refuse(machine, trials, before, wanted, least=1):
-    """Refuses each request behind the output `before`, up to the next write. There are at least so many."""
+    """Refuses each request behind the output `before`, up to the next write. There have to be at least `least` of them."""
     place, found, nth = "trials: behind " + repr(before[-8:]), [], 1
     while True:
         run = machine.run([trials], len(before), nth)

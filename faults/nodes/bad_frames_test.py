@@ -14,6 +14,7 @@ sys.path[:0] = [str(Path(__file__).resolve().parent), str(Path(__file__).resolve
 sys.dont_write_bytecode = True
 
 from cluster import Node  # noqa: E402
+from messages import Message, read  # noqa: E402
 from one_node import CLUSTER  # noqa: E402
 
 # Addresses that are none.
@@ -81,13 +82,15 @@ class BadFrames(unittest.TestCase):
         return [frame[1:] for frame in sent if frame[0] == b"node 2"]
 
     def test_frames_of_nodes(self):
-        """Each string of a frame of nodes is taken away, doubled or changed; the node goes on."""
+        """Each string of a frame of nodes is taken away, doubled or changed, or one of its bytes; the node goes on."""
         node = self.start("nodes 1 2 3\nn 3\nk 2\ndelta 8\nmover 1\nlater\nticks 50\n")
         source, requests = random.Random(1), self.requests(node)
         self.assertGreater(len(requests), 1)
         self.assertEqual(node.give([b"node 9", *requests[0]]), [])
         self.assertEqual(self.dropped(node), 1)
-        self.assertEqual(node.give([b"node 2", b"x" * 16, *requests[0][1:]]), [])
+        other = read(requests[0])
+        other.digest = b"x" * 16
+        self.assertEqual(node.give([b"node 2", *other.strings()]), [])
         self.assertEqual(self.dropped(node), 2)
         for _ in range(self.count):
             strings = list(source.choice(requests))
@@ -105,20 +108,18 @@ class BadFrames(unittest.TestCase):
         self.assertEqual(self.answer(node, b"SET", b"a", b"1"), b"+OK\r\n")
         digest = bytes.fromhex(self.line(node, b"cluster").decode())
 
-        def message(name, *words):
-            return [b"node 2", digest, name, b"\x01\x01", b"7", b"1", b"0", b"0", *words]
+        def message(name, kind, number, **more):
+            return [b"node 2", *Message(digest, name, kind, tag=(number, 1), call=7, **more).strings()]
 
-        great = [message(b"a", b"request", b"finalize", b"%d" % number, b"1") for number in (2**64 - 1, 2**62 + 1)]
-        great += [message(b"a", b"request", b"pre-write", b"%d" % (2**64 - 1), b"1", b"0", b"1", b"x"),
-                  message(b"a", b"request", b"fetch", b"%d" % (2**64 - 1), b"1"),
-                  message(b"a", b"reply", b"query", b"0", b"%d" % (2**64 - 1), b"1"),
-                  message(b"a", b"reply", b"finalize", b"%d" % (2**64 - 1), b"1", b"0")]
+        great = [message(b"a", b"finalize", number) for number in (2**64 - 1, 2**62 + 1)]
+        great += [message(b"a", b"pre-write", 2**64 - 1, piece=(0, 1, b"x")), message(b"a", b"fetch", 2**64 - 1),
+                  message(b"a", b"query", 2**64 - 1, is_reply=True), message(b"a", b"finalize", 2**64 - 1, is_reply=True)]
         for count, frame in enumerate(great, 1):
             self.assertEqual(node.give(frame), [], frame)
             self.assertEqual(self.dropped(node), count, frame)
         self.assertEqual(self.answer(node, b"SET", b"a", b"2"), b"+OK\r\n")
         self.assertEqual(self.answer(node, b"GET", b"a"), b"$1\r\n2\r\n")
-        sent = node.give(message(b"b", b"request", b"finalize", b"%d" % 2**62, b"1"))
+        sent = node.give(message(b"b", b"finalize", 2**62))
         self.assertEqual([frame[0] for frame in sent], [b"node 2"])
         self.assertEqual(self.dropped(node), len(great))
 
@@ -127,7 +128,7 @@ class BadFrames(unittest.TestCase):
         if not strings:
             return
         place = source.randrange(len(strings))
-        kind = source.randrange(5)
+        kind = source.randrange(6)
         if kind == 0:
             del strings[place]
         elif kind == 1:
@@ -136,8 +137,12 @@ class BadFrames(unittest.TestCase):
             strings[place] = source.choice(NUMBERS)
         elif kind == 3:
             strings[place] = source.randbytes(source.choice([0, 1, 8, 16, 300]))
-        else:
+        elif kind == 4:
             strings[place] = strings[place][:-1]
+        elif strings[place]:
+            changed = bytearray(strings[place])
+            changed[source.randrange(len(changed))] ^= source.randrange(1, 256)
+            strings[place] = bytes(changed)
 
 
 if __name__ == "__main__":

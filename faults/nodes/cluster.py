@@ -117,7 +117,7 @@ class Cluster:
             self.nodes[number] = Node(words, number, Path(folder) / str(number), file, library)
 
     def set_needed(self, needed):
-        """Before the first start: so many fragments give a value back."""
+        """Sets, before the first start, how many fragments give a value back."""
         lines = self.file.read_text().split("\n")
         self.file.write_text("\n".join(f"k {needed}" if line.startswith("k ") else line for line in lines))
 

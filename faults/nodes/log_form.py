@@ -1,8 +1,8 @@
 """The form of a node's log, for tests: entries, each a head of 16 bytes and a body.
 
-The head's first byte is the form, 2; the next seven are the length of the body, and four are its CRC-32C; the last four
+The head's first byte is the form, 3; the next seven are the length of the body, and four are its CRC-32C; the last four
 are the CRC-32C of the first twelve bytes of all heads up to this one. Numbers have their high byte first."""
-HEAD, SAYS, FORM = 16, 12, 2
+HEAD, SAYS, FORM = 16, 12, 3
 ALL_BITS = 0xFFFFFFFF
 
 
@@ -19,24 +19,24 @@ def crc32c(data):
     return shifted(ALL_BITS, data) ^ ALL_BITS
 
 
-def said_of(body):
+def said_of(body, form=FORM):
     """What a head says of a body."""
-    return bytes([FORM]) + len(body).to_bytes(7, "big") + crc32c(body).to_bytes(4, "big")
+    return bytes([form]) + len(body).to_bytes(7, "big") + crc32c(body).to_bytes(4, "big")
 
 
-def log_of(bodies, behind=()):
+def log_of(bodies, behind=(), form=FORM):
     """The bytes of entries with these bodies, behind those with other bodies."""
     state, log = ALL_BITS, b""
     for body in behind:
-        state = shifted(state, said_of(body))
+        state = shifted(state, said_of(body, form))
     for body in bodies:
-        state = shifted(state, said_of(body))
-        log += said_of(body) + (state ^ ALL_BITS).to_bytes(4, "big") + body
+        state = shifted(state, said_of(body, form))
+        log += said_of(body, form) + (state ^ ALL_BITS).to_bytes(4, "big") + body
     return log
 
 
 def old_log_of(bodies):
-    """The same in the form before: the length has eight bytes, and each head's checksum is of that head alone."""
+    """The same in form 1: the length has eight bytes, and each head's checksum is of that head alone."""
     log = b""
     for body in bodies:
         says = len(body).to_bytes(8, "big") + crc32c(body).to_bytes(4, "big")

@@ -2,8 +2,8 @@
 """Tests what a node program has again from a log that was cut or changed: log_test.py PROGRAM [EVERY].
 
 A node writes a log. Then the log is cut at every byte of its last three entries, also with zeros behind the cut, and
-each of their bytes is changed. Each entry is left out, doubled, or put behind the next one. With a number EVERY, one
-place in so many is tried."""
+each of their bytes is changed. Each entry is left out, doubled, or put behind the next one. With a number EVERY,
+only one place in EVERY is tried."""
 import resource
 import subprocess
 import sys
@@ -13,8 +13,9 @@ from pathlib import Path
 sys.path[:0] = [str(Path(__file__).resolve().parent), str(Path(__file__).resolve().parents[2] / "deploy" / "test")]
 sys.dont_write_bytecode = True
 
-from frames import encode  # noqa: E402
-from log_form import HEAD, bodies_of, log_of, old_log_of, said_of, shifted, split  # noqa: E402
+from frames import Frames, encode  # noqa: E402
+from log_form import FORM, HEAD, bodies_of, log_of, old_log_of, said_of, shifted, split  # noqa: E402
+from messages import old_strings, read  # noqa: E402
 from one_node import OneNode, command  # noqa: E402
 
 QUESTIONS = command(b"GET", b"a") + command(b"GET", b"b")
@@ -30,6 +31,15 @@ def places(log):
     for entry in split(log):
         found.append(found[-1] + len(entry))
     return found
+
+
+def old_bodies(bodies):
+    """The bodies of the same entries with messages of the form before."""
+    changed = []
+    for body in bodies:
+        [[word, *strings]] = Frames().take(body)
+        changed.append(encode([word, *old_strings(read(strings))]) if word in (b"serve", b"take") else body)
+    return changed
 
 
 class Logs(unittest.TestCase):
@@ -125,24 +135,29 @@ class Logs(unittest.TestCase):
         bodies = bodies_of(self.whole)
         chain = shifted(0xFFFFFFFF, b"".join(said_of(body) for body in bodies))
         for length in (100, 1 << 24, 1 << 34, LONGEST_BODY):
-            says = bytes([2]) + length.to_bytes(7, "big") + bytes(4)
+            says = bytes([FORM]) + length.to_bytes(7, "big") + bytes(4)
             head = says + (shifted(chain, says) ^ 0xFFFFFFFF).to_bytes(4, "big")
             self.node.log.write_bytes(self.whole + head + b"x" * 50)
             answers = self.node.answers(QUESTIONS, cut=HEAD + 50, **limited(self.memory))
             self.assertEqual(answers, [b"$1\r\n3\r\n", b"$1\r\n3\r\n"], length)
             self.assertTrue(self.node.log.read_bytes().startswith(self.whole))
 
-    def test_logs_of_the_form_before(self):
-        """A log of the form before is left as it is, and the message names the program that converts it, which keeps it,
-        cuts off its end, and refuses damage. Frames without heads, of the form before that one, are damage."""
-        bodies = bodies_of(self.whole)
-        old, end = old_log_of(bodies), len(old_log_of(bodies[:-1]))
+    def test_logs_of_older_forms(self):
+        """Frames without heads, of the oldest form, are damage."""
+        for old_log in (old_log_of, lambda bodies: log_of(bodies, form=2)):
+            self.is_converted(old_log)
+        self.is_reported(encode([b"cluster", bytes(16), b"1", bytes(8)]), 0)
+
+    def is_converted(self, old_log):
+        """A log of an older form is left as it is, and the message names the program that converts it, which keeps it,
+        cuts off its end, and refuses damage."""
+        bodies, before_today = bodies_of(self.whole), old_bodies(bodies_of(self.whole))
+        old, end = old_log(before_today), len(old_log(before_today[:-1]))
         text = "casd: the log has an older form; deploy/convert-log FOLDER writes it in today's form\n"
-        for log in (old, old_log_of(bodies[:1]), old + b"x" * 20):
+        for log in (old, old_log(before_today[:1]), old + b"x" * 20):
             self.node.log.write_bytes(log)
             self.assertEqual(self.node.run(QUESTIONS), (1, b"", text))
             self.assertEqual(self.node.log.read_bytes(), log)
-        self.is_reported(encode([b"cluster", bytes(16), b"1", bytes(8)]), 0)
         before = self.node.folder / "log.before"
         for log, kept in ((old, bodies), (old[:-1], bodies[:-1]), (old[:end + 10], bodies[:-1]),
                           (old[:end + 10] + bytes(500), bodies[:-1]), (old + bytes(9), bodies), (b"", [])):
@@ -160,12 +175,15 @@ class Logs(unittest.TestCase):
         return ended.returncode, ended.stderr
 
     def test_logs_that_are_not_converted(self):
-        """A log of today's form, damaged ones, and one of a node that runs stay as they are."""
-        bodies = bodies_of(self.whole)
-        old, end = bytearray(old_log_of(bodies)), len(old_log_of(bodies[:-1]))
+        """A log of today's form, damaged ones, one with an entry that no node writes, and one of a node that runs stay as
+        they are."""
+        bodies = old_bodies(bodies_of(self.whole))
+        old, end = bytearray(log_of(bodies, form=2)), len(log_of(bodies[:-1], form=2))
         old[end + 30] ^= 1
+        strange = log_of([*bodies, encode([b"serve", b"x", b"y"])], form=2)
         for log, said in ((self.whole, "the log has today's form already"),
-                          (bytes(old), f"the log, from byte {end}: wrong checksum")):
+                          (bytes(old), f"the log, from byte {end}: wrong checksum"),
+                          (strange, f"entry {len(bodies)} of the log is none that a node writes")):
             self.node.log.write_bytes(log)
             self.assertEqual(self.convert(), (1, f"convert-log: {said}\n"))
             self.assertEqual(([file.name for file in self.node.folder.iterdir()], self.node.log.read_bytes()), (["log"], log))
@@ -175,7 +193,7 @@ class Logs(unittest.TestCase):
 
 
 def limited(memory):
-    """Has a program refused more memory than so many bytes."""
+    """Options that limit the memory of a program to this number of bytes."""
     return {"preexec_fn": lambda: resource.setrlimit(resource.RLIMIT_AS, (memory, memory))} if memory else {}
 
 

@@ -14,14 +14,12 @@ sys.path[:0] = [str(Path(__file__).resolve().parent), str(Path(__file__).resolve
 sys.dont_write_bytecode = True
 
 from cluster import Node  # noqa: E402
+from messages import Message, read  # noqa: E402
 
 # One of the two nodes keeps each object, and one piece gives its value back.
 CLUSTER = "nodes 1 2\nn 1\nk 1\ndelta 8\nmover 1\nlater\nticks %d\n"
 LATE = b"-ERR no quorum answered in time\r\n"
-TAG = [b"1", b"1"]
-# The places of strings in a frame to or from a node: the address, the digest of the cluster file, the object's name, its
-# layout, the call, its phase, the position, the member, the word "request" or "reply", and its kind.
-NAME, PHASE, BODY, KIND = 2, 5, 8, 9
+TAG = (1, 1)
 
 
 class LostPieces(unittest.TestCase):
@@ -58,13 +56,13 @@ class LostPieces(unittest.TestCase):
 
     def lose(self, node, request, name):
         """The node, which alone keeps the object of this name, finalizes a tag of which it has no piece."""
-        [reply] = node.give(self.message(request, name, b"finalize", *TAG))
-        self.assertEqual(reply[BODY:], [b"reply", b"finalize", *TAG, b"0"])
+        self.ask(node, request, name, b"finalize")
 
-    @staticmethod
-    def message(request, name, *body):
-        """A request of node 2 about the object of this name."""
-        return [b"node 2", request[1], name, bytes([1, 1]), b"1", b"1", b"0", b"0", b"request", *body]
+    def ask(self, node, request, name, kind, piece=None):
+        """Node 2 sends a request of this kind about the object of this name, and the node replies to it."""
+        asked = Message(read(request[1:]).digest, name, kind, tag=TAG, piece=piece)
+        [[_, *reply]] = node.give([b"node 2", *asked.strings()])
+        self.assertEqual(reply, Message(asked.digest, name, kind, tag=TAG, is_reply=True).strings())
 
     def test_own_piece(self):
         """All letters of the read go to the node itself: it hears others meanwhile, and gives the read up in time."""
@@ -84,8 +82,7 @@ class LostPieces(unittest.TestCase):
         self.lose(node, request, own)
         self.assertIsNone(self.answer(node, words[0], own, *words[1:]))
         self.assertEqual(node.give([b"client 8", b"PING"]), [[b"client 8", b"+PONG\r\n"]])
-        [reply] = node.give(self.message(request, own, b"pre-write", *TAG, b"0", b"5", b"found"))
-        self.assertEqual(reply[BODY:], [b"reply", b"pre-write", *TAG, b"0"])
+        self.ask(node, request, own, b"pre-write", (0, 5, b"found"))
         self.assertIsNone(self.told(node.give([b"tick"]), b"client 7"))
         told = self.told(node.give([b"tick"]), b"client 7")
         self.assertEqual(self.answer(node, b"GET", own), b"$5\r\nfound\r\n")
@@ -100,13 +97,14 @@ class LostPieces(unittest.TestCase):
     def settle(self, node, sent):
         """Node 2 answers at once: it has finalized the tag, and has no piece of it. Returns the kinds of all requests that
         came, until no more came, and the number of the last phase."""
-        answers = {b"next": [b"unset"], b"query": TAG, b"fetch": [b"none"]}
         kinds, phase = [], 0
         while sent and len(kinds) < 100:
-            [request] = sent
-            kind, phase = request[KIND], int(request[PHASE])
-            kinds.append(kind)
-            sent = node.give([*request[:BODY], b"reply", *request[KIND:], b"0", *answers[kind]])
+            [[address, *strings]] = sent
+            it = read(strings)
+            phase = it.phase
+            kinds.append(it.kind)
+            it.is_reply, it.tag = True, TAG if it.kind == b"query" else it.tag
+            sent = node.give([address, *it.strings()])
         return kinds, phase
 
     def test_pauses(self):
@@ -116,10 +114,11 @@ class LostPieces(unittest.TestCase):
         self.assertEqual(kinds, [b"next", b"query", b"fetch"])
         again = {}
         for tick in range(1, 200):
-            sent = [frame for frame in node.give([b"tick"]) if frame[NAME] == request[NAME]]
+            sent = [frame for frame in node.give([b"tick"]) if read(frame[1:]).name == read(request[1:]).name]
             if sent:
+                first = read(sent[0][1:]).phase
                 again[tick], last = self.settle(node, sent)
-                self.assertEqual((int(sent[0][PHASE]), last), (phase, phase + 3))
+                self.assertEqual((first, last), (phase, phase + 3))
                 phase = last
         self.assertEqual(again, {tick: [b"fetch", *kinds] for tick in (2, 4, 8, 16, 32, 64, 128, 192)})
 

@@ -10,66 +10,30 @@ from pathlib import Path
 sys.dont_write_bytecode = True
 sys.path.append(str(Path(__file__).resolve().parent.parent.parent / "deploy" / "test"))
 
-from cluster import Node  # noqa: E402
+from at_once import Cluster  # noqa: E402
 
 PROGRAM = sys.argv.pop(1)
 FILE = "nodes 1 2 3 4 5\nn 5\nk 3\ndelta 8\nmover {mover}\nlater {later}\nticks 10\n"
 NO_QUORUM = b"-ERR no quorum answered in time\r\n"
-MOST_TICKS = 200
 
 
-class Cluster:
+class Five(Cluster):
     """Five nodes, and later ones. A quorum of five nodes with k = 3 has four."""
 
     def __init__(self, folder, later=""):
-        self.folder, self.file, self.nodes, self.connections = Path(folder), Path(folder) / "cluster", {}, 0
-        self.answers = {}
+        super().__init__(PROGRAM, folder)
         self.write(later=later)
         self.start(1, 2, 3, 4, 5)
 
     def write(self, later="", mover=1):
         self.file.write_text(FILE.format(later=later, mover=mover))
 
-    def start(self, *numbers):
-        for number in numbers:
-            (self.folder / str(number)).mkdir(exist_ok=True)
-            self.nodes[number] = Node([PROGRAM], number, self.folder / str(number), self.file)
-            self.route(number, self.nodes[number].start())
-
-    def stop(self, *numbers):
-        for number in numbers:
-            self.nodes.pop(number).kill()
-
-    def route(self, sender, frames):
-        """Brings frames to the nodes that run, and what these write, until nothing is on its way."""
-        waiting = [(sender, frame) for frame in frames]
-        while waiting:
-            sender, (address, *strings) = waiting.pop(0)
-            kind, number = address.split()
-            if kind == b"client":
-                self.answers[int(number)] = b"".join(strings)
-            elif int(number) in self.nodes:
-                written = self.nodes[int(number)].give([b"node %d" % sender, *strings])
-                waiting += [(int(number), frame) for frame in written]
-
-    def ask(self, number, *words):
-        """What the node answers to a command, with ticks at all nodes until it does."""
-        self.connections += 1
-        client = self.connections
-        self.route(number, self.nodes[number].give([b"client %d" % client, *words]))
-        for _ in range(MOST_TICKS):
-            if client in self.answers:
-                return self.answers[client]
-            for other in list(self.nodes):
-                self.route(other, self.nodes[other].give([b"tick"]))
-        raise AssertionError(f"node {number} does not answer {words}")
-
 
 class Lost(unittest.TestCase):
     def cluster(self, later=""):
         folder = tempfile.TemporaryDirectory()
         self.addCleanup(folder.cleanup)
-        cluster = Cluster(folder.name, later)
+        cluster = Five(folder.name, later)
         self.addCleanup(lambda: cluster.stop(*cluster.nodes))
         return cluster
 

@@ -56,8 +56,8 @@ class OneNode:
                 process.kill()
 
     def answers(self, *frames, cut=0, **options):
-        """What the program answers to frames of clients, each as the bytes that a client gets. It has to say that it cut
-        so many bytes off its log, and nothing else."""
+        """Returns what the program answers to frames of clients, each as the bytes that a client gets. On standard error
+        the program has to say that it cut `cut` bytes off its log, and nothing else."""
         says = f"casd: the log's last entry was cut short; {cut} bytes were cut off\n" if cut else ""
         status, written, text = self.run(b"".join(frames), **options)
         if (status, text) != (0, says):

@@ -13,6 +13,7 @@ sys.dont_write_bytecode = True
 
 from cluster import Node  # noqa: E402
 from frames import Frames, encode  # noqa: E402
+from messages import Message, old_strings  # noqa: E402
 from one_node import CLUSTER, OneNode, command  # noqa: E402
 
 # Node 1 moves objects and keeps all of them at first. The other nodes joined later.
@@ -130,7 +131,7 @@ class OtherClusters(unittest.TestCase):
     @staticmethod
     def message(sender, digest):
         """The frame of a node that asks for a pointer, with the digest of its cluster file."""
-        return encode([b"node %d" % sender, digest, b"a", b"\x01\x01", b"7", b"1", b"0", b"0", b"request", b"next"])
+        return encode([b"node %d" % sender, *Message(digest, b"a", b"next", call=7).strings()])
 
     def said(self, sender, digest):
         return (f"casd: node {sender} has another cluster file: the digest of that file is {digest.hex()}, and that of "
@@ -145,6 +146,17 @@ class OtherClusters(unittest.TestCase):
         info = b"".join(strings)
         self.assertEqual(self.value(info, b"frames_of_other_clusters"), b"2")
         self.assertEqual(self.value(info, b"frames_dropped"), b"2")
+
+    def test_messages_of_the_form_before(self):
+        """The node drops messages of the form before, also where their first byte is that of today's form."""
+        digests = (bytes.fromhex(self.own.decode()), b"\x03" + b"x" * 15)
+        data = b"".join(encode([b"node 2", *old_strings(Message(digest, b"a", b"next"))]) for digest in digests)
+        status, written, text = self.node.run(data + command(b"INFO"))
+        self.assertEqual((status, text), (0, ""))
+        [[_, *strings]] = [frame for frame in Frames().take(written) if frame[0] == b"client 1"]
+        info = b"".join(strings)
+        self.assertEqual(self.value(info, b"frames_dropped"), b"2")
+        self.assertEqual(self.value(info, b"frames_of_other_clusters"), b"0")
 
     def test_each_node_and_digest_once(self):
         """A node that is not in the cluster file is told of too, and a node of the same cluster file is not."""

@@ -1,0 +1,76 @@
+"""Messages between nodes, for tests: their strings, today and in the form before.
+
+Today a message is a head, the object's name, and the bytes of a piece if it has one. The head is the form, 3; the call,
+the phase, the position and the member (8, 4, 4 and 1 bytes); 0 for a request or 1 for a reply; the kind; the status; a
+tag (8 and 8 bytes); the step of a reply (8 bytes); whether there is a piece, its point, and the length of its value (1,
+1 and 4 bytes); the digest of the cluster file; and the layouts, each as the number of its members, k and the members.
+Numbers have their high byte first. What a message does not have is zero."""
+from dataclasses import dataclass
+
+FORM = 3
+KINDS = [b"next", b"spread", b"query", b"pre-write", b"finalize", b"fetch"]
+STATUSES = [b"unset", b"pending", b"final"]
+WIDTHS = {"form": 1, "call": 8, "phase": 4, "position": 4, "member": 1, "is_reply": 1, "kind": 1, "status": 1, "number": 8,
+          "tag_call": 8, "step": 8, "is_piece": 1, "point": 1, "len": 4}
+DIGEST = 16
+
+
+@dataclass
+class Message:
+    """What a message says. Layouts are k and the members, as bytes; a tag is two numbers."""
+    digest: bytes
+    name: bytes
+    kind: bytes
+    layout: bytes = b"\x01\x01"
+    is_reply: bool = False
+    status: bytes = b"unset"
+    tag: tuple = (0, 0)
+    step: int = 0
+    piece: tuple = None
+    call: int = 1
+    phase: int = 1
+    position: int = 0
+    member: int = 0
+    next: bytes = b""
+
+    def strings(self):
+        """The strings of the message: a piece is its point, the length of its value, and its bytes."""
+        point, length, *last = self.piece or (0, 0)
+        said = (FORM, self.call, self.phase, self.position, self.member, self.is_reply, KINDS.index(self.kind),
+                STATUSES.index(self.status), *self.tag, self.step, self.piece is not None, point, length)
+        numbers = b"".join(it.to_bytes(width, "big") for it, width in zip(said, WIDTHS.values()))
+        layouts = b"".join(bytes([len(it) - 1]) + it for it in (self.layout, self.next) if it)
+        return [numbers + self.digest + layouts, self.name, *last]
+
+
+def read(strings):
+    """The message of these strings."""
+    head, name, *last = strings
+    said, place = {}, 0
+    for word, width in WIDTHS.items():
+        said[word] = int.from_bytes(head[place:place + width], "big")
+        place += width
+    digest, place, layouts = head[place:place + DIGEST], place + DIGEST, []
+    while place < len(head):
+        end = place + 2 + head[place]
+        layouts.append(head[place + 1:end])
+        place = end
+    assert said["form"] == FORM and place == len(head) and len(layouts) in (1, 2)
+    return Message(digest, name, KINDS[said["kind"]], layouts[0], bool(said["is_reply"]), STATUSES[said["status"]],
+                   (said["number"], said["tag_call"]), said["step"],
+                   (said["point"], said["len"], *last) if said["is_piece"] else None, said["call"], said["phase"],
+                   said["position"], said["member"], b"".join(layouts[1:]))
+
+
+def old_strings(it):
+    """The strings of a message in the form before, in which all numbers were strings of decimal digits."""
+    status = [it.status]
+    tag = [b"%d" % number for number in it.tag]
+    rest = {b"spread": status, b"pre-write": tag, b"finalize": tag, b"fetch": tag}.get(it.kind, [])
+    piece = [b"%d" % it.piece[0], b"%d" % it.piece[1], it.piece[2]] if it.piece else []
+    if it.is_reply:
+        answers = {b"next": status, b"query": tag, b"fetch": [b"piece", *piece] if it.piece else [b"none"]}
+        piece = [b"%d" % it.step, *answers.get(it.kind, [])]
+    numbers = [b"%d" % number for number in (it.call, it.phase, it.position, it.member)]
+    return [it.digest, it.name, it.layout, *numbers, b"reply" if it.is_reply else b"request", it.kind, *rest, *piece,
+            *([it.next] if it.next else [])]
