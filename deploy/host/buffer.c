@@ -4,6 +4,7 @@
 #include <errno.h>
 #include <stdlib.h>
 #include <string.h>
+#include <sys/uio.h>
 #include <unistd.h>
 
 /* The C library has the system move a large piece of memory, and does not copy it. */
@@ -60,17 +61,6 @@ void buffer_trim(struct buffer *buffer, size_t needed) {
         buffer_resize(buffer, room);
 }
 
-ssize_t buffer_read(struct buffer *buffer, int descriptor, size_t most) {
-    if (!buffer_reserve(buffer, most)) {
-        errno = ENOMEM;
-        return -1;
-    }
-    ssize_t count = read(descriptor, buffer->bytes + buffer->end, most);
-    if (count > 0)
-        buffer->end += (size_t)count;
-    return count;
-}
-
 bool buffer_write(struct buffer *buffer, int descriptor) {
     while (buffer_length(buffer) > 0) {
         ssize_t count = write(descriptor, buffer_front(buffer), buffer_length(buffer));
@@ -79,6 +69,18 @@ bool buffer_write(struct buffer *buffer, int descriptor) {
         buffer_drop(buffer, (size_t)count);
     }
     return true;
+}
+
+ssize_t buffer_write_with(struct buffer *buffer, int descriptor, const char *bytes, size_t length) {
+    size_t waits = buffer_length(buffer);
+    struct iovec parts[] = {{(char *)buffer_front(buffer), waits}, {(char *)bytes, length}};
+    int skipped = waits == 0;
+    ssize_t count = writev(descriptor, parts + skipped, 2 - skipped);
+    if (count < 0)
+        return errno == EAGAIN || errno == EINTR ? 0 : -1;
+    size_t written = (size_t)count, of_buffer = written < waits ? written : waits;
+    buffer_drop(buffer, of_buffer);
+    return (ssize_t)(written - of_buffer);
 }
 
 void buffer_free(struct buffer *buffer) {

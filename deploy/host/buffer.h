@@ -6,8 +6,10 @@
 #include <stddef.h>
 #include <sys/types.h>
 
-/* The room that an empty buffer may keep. */
-enum { KEPT_ROOM = 1 << 19 };
+enum {
+    KEPT_ROOM = 1 << 19,  /* the room that an empty buffer may keep */
+    LONG = 16 << 10       /* so many bytes are not copied, if they can be written from where they lie */
+};
 
 /* The bytes from `start` to `end` wait. All zeros is an empty buffer. */
 struct buffer {
@@ -23,12 +25,12 @@ static inline const char *buffer_front(const struct buffer *buffer) {
     return buffer->bytes == NULL ? "" : buffer->bytes + buffer->start;
 }
 
-/* Moves what waits to the front, and gives the buffer exactly this much room, which is enough for what waits. False, with a
- * message, where memory is refused. */
+/* Moves what waits to the front, and gives the buffer exactly this much room, which is enough for what waits. False,
+ * with a message, where memory is refused. */
 bool buffer_resize(struct buffer *buffer, size_t room);
 
-/* Makes room for so many bytes at the end. An empty buffer gets no more room than that; any other gets more, so that many
- * small additions move its bytes only now and then. False, with a message, where memory is refused. */
+/* Makes room for so many bytes at the end. An empty buffer gets no more room than that; any other gets more, so that
+ * many small additions move its bytes only now and then. False, with a message, where memory is refused. */
 bool buffer_reserve(struct buffer *buffer, size_t count);
 
 /* Adds bytes at the end. False, with a message and nothing added, where memory is refused. */
@@ -40,12 +42,12 @@ void buffer_drop(struct buffer *buffer, size_t count);
 /* Gives memory back that a buffer of so many bytes, and with what waits in it, does not need. */
 void buffer_trim(struct buffer *buffer, size_t needed);
 
-/* One read of at most `most` bytes to the end: their number, 0 at the end of the input, or -1 with errno, which is ENOMEM,
- * with a message, where memory is refused. */
-ssize_t buffer_read(struct buffer *buffer, int descriptor, size_t most);
-
 /* Writes from the front until all is written or the descriptor takes no more. False where writing fails. */
 bool buffer_write(struct buffer *buffer, int descriptor);
+
+/* Writes once: what waits, and behind it bytes that lie elsewhere. How many of those were written; -1 where writing
+ * fails. */
+ssize_t buffer_write_with(struct buffer *buffer, int descriptor, const char *bytes, size_t length);
 
 void buffer_free(struct buffer *buffer);
 

@@ -1,16 +1,13 @@
 #define _GNU_SOURCE
 #include "bus.h"
 #include "say.h"
+#include "spent.h"
 
 #include <inttypes.h>
 #include <stdio.h>
 #include <string.h>
 
-enum {
-    MOST_FOR_CHILD = 32 << 20,    /* with so many bytes waiting for the child, frames from nodes are dropped */
-    FULL_BUNDLE = 64 << 10,       /* with so many bytes for a node, they are sent */
-    FULL_SPENT = 1 << 20          /* with so many bytes in spent messages, they are freed */
-};
+enum { MOST_FOR_CHILD = 32 << 20 };  /* with so many bytes waiting for the child, frames from nodes are dropped */
 
 /* What a message's subject says. */
 struct subject {
@@ -19,17 +16,13 @@ struct subject {
     uint64_t named;           /* the identity under which the sender knows this node */
 };
 
-bool bus_open(struct bus *bus, const struct bus_options *options, const char *node, const char *folder) {
+bool bus_open(struct bus *bus, int epoll, const struct bus_options *options, const char *node, const char *folder) {
     bus->prefix = options->prefix;
     bus->node = node;
-    if (!peers_open(&bus->peers, folder, node) || !connection_open(&bus->connection, options, node))
+    if (!peers_open(&bus->peers, folder, node) || !connection_open(&bus->connection, epoll, options, node))
         return false;
     bus_greet(bus);
     return true;
-}
-
-void bus_poll(struct bus *bus, struct pollfd *polled) {
-    connection_poll(&bus->connection, polled);
 }
 
 /* The next part of a subject, which ends before a dot or at the end; `place` is behind it. */
@@ -72,17 +65,19 @@ static uint64_t frames_in(const char *bytes, size_t length) {
     return count;
 }
 
-/* Hands the frames of a message to the child, with the sender as their address. Counts each that it drops. */
-static bool hand_on(struct bus *bus, uint64_t from, const char *bytes, size_t length, struct child *child) {
+/* Hands the frames of a message to the child, with the sender as their address. Counts each that it drops. `lent` is
+ * how many bytes stay where they lie. */
+static bool hand_on(struct bus *bus, uint64_t from, const char *bytes, size_t length, struct child *child,
+                    size_t *lent) {
     char address[LONGEST_ADDRESS];
     size_t at = 0;
     snprintf(address, sizeof address, "node %" PRIu64, from);
-    while (at < length && buffer_length(&child->out) <= MOST_FOR_CHILD) {
+    while (at < length && queue_holds(&child->out) <= MOST_FOR_CHILD) {
         struct scanner found = {0};
         const char *frame = bytes + at;
         if (scan(&found, frame, length - at, MOST_STRINGS - 1) != FRAME)
             break;
-        if (!child_send(child, address, found.count, frame + found.body, found.at - found.body))
+        if (!child_lend(child, address, found.count, frame + found.body, found.at - found.body, lent))
             return false;
         at += found.at;
     }
@@ -110,7 +105,7 @@ static void tell_stranger(struct bus *bus, uint64_t node) {
 }
 
 /* Takes a message: greetings say who the sender is, and others have frames. False where something failed. */
-static bool take_message(struct bus *bus, natsMsg *message, struct child *child) {
+static bool take_message(struct bus *bus, natsMsg *message, struct child *child, size_t *lent) {
     struct subject subject;
     size_t length = (size_t)natsMsg_GetDataLength(message);
     const char *bytes = length == 0 ? "" : natsMsg_GetData(message);
@@ -122,7 +117,7 @@ static bool take_message(struct bus *bus, natsMsg *message, struct child *child)
     if (hearing == STRANGE && good)
         tell_stranger(bus, subject.from);
     if (hearing == HEARD && !greets)
-        return hand_on(bus, subject.from, bytes, length, child);
+        return hand_on(bus, subject.from, bytes, length, child, lent);
     if (!greets || length > 0)
         bus->lost += frames_in(bytes, length);
     else if (hearing == HEARD && subject.from == bus->peers.own && subject.to_all)
@@ -132,27 +127,17 @@ static bool take_message(struct bus *bus, natsMsg *message, struct child *child)
     return true;
 }
 
-static void free_spent(struct bus *bus) {
-    for (size_t place = 0; place < bus->spent_count; place++)
-        natsMsg_Destroy(bus->spent[place]);
-    bus->spent_count = bus->spent_bytes = 0;
-}
-
-/* Has a message freed with others. The library frees messages in a thread of its own. If messages were destroyed one by
- * one, it would wake this thread for each of them. */
-static void free_later(struct bus *bus, natsMsg *message) {
-    bus->spent[bus->spent_count++] = message;
-    bus->spent_bytes += (size_t)natsMsg_GetDataLength(message);
-    if (bus->spent_count == MOST_SPENT || bus->spent_bytes >= FULL_SPENT)
-        free_spent(bus);
-}
-
-bool bus_serve(struct bus *bus, struct child *child, const struct pollfd *polled) {
-    bool good = connection_serve(&bus->connection, polled);
+/* A message in which long frames lie is freed when the child has them, and any other one now. */
+bool bus_serve(struct bus *bus, struct child *child, bool changed, bool readable) {
+    bool good = connection_serve(&bus->connection, changed, readable);
     natsMsg *message;
     while (good && (message = connection_next(&bus->connection)) != NULL) {
-        good = take_message(bus, message, child);
-        free_later(bus, message);
+        size_t lent = 0;
+        good = take_message(bus, message, child, &lent);
+        if (lent > 0)
+            queue_own(&child->out, spent_add, message, (size_t)natsMsg_GetDataLength(message) - lent);
+        else
+            spent_add(message);
     }
     return good && connection_lasts(&bus->connection);
 }
@@ -160,12 +145,12 @@ bool bus_serve(struct bus *bus, struct child *child, const struct pollfd *polled
 /* Sends the frames that wait for a node as one message, or drops them. */
 static void send_bundle(struct bus *bus, struct bundle *bundle) {
     char to[24];
-    struct buffer *frames = &bundle->frames;
+    size_t length;
+    const char *bytes = bundle_bytes(bundle, &length);
     snprintf(to, sizeof to, "%" PRIu64, bundle->node);
-    if (!publish(bus, to, "", buffer_front(frames), buffer_length(frames)))
+    if (!publish(bus, to, "", bytes, length))
         bus->lost += bundle->count;
-    buffer_drop(frames, buffer_length(frames));
-    bundle->count = 0;
+    bundle_empty(bundle);
 }
 
 void bus_flush(struct bus *bus) {
@@ -193,17 +178,17 @@ static struct bundle *bundle_for(struct bus *bus, uint64_t node) {
     return empty;
 }
 
-void bus_send(struct bus *bus, uint64_t node, size_t count, const char *body, size_t length) {
+void bus_send(struct bus *bus, uint64_t node, size_t count, char *body, size_t length) {
+    char head[LONGEST_HEAD];
     struct bundle *bundle = bundle_for(bus, node);
-    size_t before = buffer_length(&bundle->frames);
-    if (before > 0 && before + length > FULL_BUNDLE)
+    size_t size = put_head(head, count, NULL);
+    memcpy(body - size, head, size);
+    if (!bundle_has_room(bundle, size + length))
         send_bundle(bus, bundle);
-    bundle->count++;
-    if (!add_head(&bundle->frames, count, NULL) || !buffer_add(&bundle->frames, body, length)) {
-        bus->lost += bundle->count;
-        bundle->count = 0;
-        buffer_free(&bundle->frames);
-    }
+    if (bundle_add(bundle, body - size, size + length))
+        return;
+    bus->lost += bundle->count;
+    bundle_empty(bundle);
 }
 
 void bus_greet(struct bus *bus) {
@@ -219,7 +204,7 @@ void bus_report(struct bus *bus) {
 
 void bus_close(struct bus *bus) {
     bus_report(bus);
-    free_spent(bus);
+    spent_free();
     connection_close(&bus->connection);
     for (size_t place = 0; place < MOST_BUNDLES; place++)
         buffer_free(&bus->bundles[place].frames);

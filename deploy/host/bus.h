@@ -8,42 +8,32 @@
 #ifndef BUS_H
 #define BUS_H
 
+#include "bundle.h"
 #include "child.h"
 #include "connection.h"
 #include "peers.h"
 
-enum { MOST_BUNDLES = 16, MOST_SPENT = 256 };
-
-/* Frames that wait to be sent to a node as one message. */
-struct bundle {
-    uint64_t node, count;
-    struct buffer frames;
-};
+enum { MOST_BUNDLES = 16 };
 
 struct bus {
     struct connection connection;
     struct peers peers;
     const char *prefix, *node;
     struct bundle bundles[MOST_BUNDLES];
-    natsMsg *spent[MOST_SPENT];  /* messages whose frames the child has, and which wait to be freed */
-    size_t spent_count, spent_bytes;
-    uint64_t lost, lost_said;   /* frames that were dropped, and how many of them were reported */
+    uint64_t lost, lost_said;  /* frames that were dropped, and how many of them were reported */
 };
 
-/* Reads who this node is, and connects, or goes on trying in the background. False, with a message, where the folder's
- * files are damaged or an option is refused. */
-bool bus_open(struct bus *bus, const struct bus_options *options, const char *node, const char *folder);
+/* Reads who this node is, and connects, or goes on trying in the background; this epoll descriptor waits for what
+ * comes. False, with a message, where the folder's files are damaged or an option is refused. */
+bool bus_open(struct bus *bus, int epoll, const struct bus_options *options, const char *node, const char *folder);
 
-/* Sets what to wait for: two descriptors. */
-void bus_poll(struct bus *bus, struct pollfd *polled);
+/* Reads and writes, and hands the frames that came to the child. `changed` and `readable` say what the host was woken
+ * for. False where the connection is closed for good, where NATS refuses this node, or where something else failed. */
+bool bus_serve(struct bus *bus, struct child *child, bool changed, bool readable);
 
-/* Reads and writes, and hands the frames that came to the child. False where the connection is closed for good, where
- * NATS refuses this node, or where something else failed. */
-bool bus_serve(struct bus *bus, struct child *child, const struct pollfd *polled);
-
-/* A frame goes to a node, with the next flush at the latest: `count` strings, whose bytes are `body`. A frame that cannot
- * be sent is dropped. */
-void bus_send(struct bus *bus, uint64_t node, size_t count, const char *body, size_t length);
+/* A frame goes to a node, with the next flush at the latest: `count` strings, whose bytes are `body`. It may not change
+ * before, and the head of its frame in front of it is overwritten. A frame that cannot be sent is dropped. */
+void bus_send(struct bus *bus, uint64_t node, size_t count, char *body, size_t length);
 
 /* Sends what waits. */
 void bus_flush(struct bus *bus);

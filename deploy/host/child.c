@@ -13,12 +13,16 @@
 #include <time.h>
 #include <unistd.h>
 
-/* A pipe of this size takes more in one turn of the loop. The system may refuse it, which does no harm. */
-enum { PIPE_SIZE = 1 << 20 };
+enum {
+    PIPE_SIZE = 1 << 20,    /* takes more in one turn of the loop; the system may refuse it, which does no harm */
+    FULL_CHILD = 1 << 20,   /* with so many bytes waiting for the child, no client is read */
+    LEAST_READ = 64 << 10   /* the child's output is read into at least so much room */
+};
 
 /*
- * In the child: becomes the node program, which ends where the host ends. For each frame it takes and frees many small
- * pieces of memory. This takes less time if the C library keeps up to 200 free pieces of each size at hand, instead of 7.
+ * In the child: becomes the node program, which ends where the host ends. For each frame it takes and frees many
+ * small pieces of memory. This takes less time if the C library keeps up to 200 free pieces of each size at hand,
+ * instead of 7.
  */
 static void become(int input, int output, pid_t host, char *const arguments[]) {
     sigset_t none;
@@ -63,23 +67,68 @@ bool child_start(struct child *child, const char *program, const char *file, con
     return true;
 }
 
-bool child_send(struct child *child, const char *address, size_t count, const char *body, size_t length) {
-    size_t before = buffer_length(&child->out);
-    if (!add_head(&child->out, count, address) || !buffer_add(&child->out, body, length))
+bool child_lend(struct child *child, const char *address, size_t count, const char *body, size_t length, size_t *lent) {
+    char head[LONGEST_HEAD];
+    size_t before = child->out.length;
+    if (!queue_add(&child->out, head, put_head(head, count, address))
+        || !queue_lend(&child->out, body, length, lent))
         return false;
-    child->queued += buffer_length(&child->out) - before;
+    child->queued += child->out.length - before;
+    return true;
+}
+
+bool child_pass(struct child *child, const char *address, size_t count, const char *body, size_t length) {
+    size_t lent = 0;
+    if (!child_lend(child, address, count, body, length, &lent))
+        return false;
+    if (lent > 0)
+        child_write(child);
+    return lent == 0 || queue_settle(&child->out);
+}
+
+bool child_send(struct child *child, const char *address, size_t count, const char *body, size_t length) {
+    char head[LONGEST_HEAD];
+    size_t before = child->out.length;
+    if (!queue_add(&child->out, head, put_head(head, count, address)) || !queue_add(&child->out, body, length))
+        return false;
+    child->queued += child->out.length - before;
     return true;
 }
 
 bool child_tick(struct child *child, size_t count, const char *heard, size_t length) {
     int unread = 0;
     ioctl(child->to, FIONREAD, &unread);
-    if (child->tick_end > child->queued - buffer_length(&child->out) - (size_t)unread)
+    if (child->tick_end > child->queued - child->out.length - (size_t)unread)
         return true;
     if (!child_send(child, "tick", count, heard, length))
         return false;
     child->tick_end = child->queued;
     return true;
+}
+
+bool child_is_full(const struct child *child) {
+    return queue_holds(&child->out) >= FULL_CHILD;
+}
+
+/* A frame that has begun gets all the room that it needs, so that its bytes are moved once at most. */
+ssize_t child_read(struct child *child) {
+    struct buffer *in = &child->in;
+    size_t length = buffer_length(in), missing = child->scanner.need > length ? child->scanner.need - length : 0;
+    size_t least = missing > LEAST_READ ? missing : LEAST_READ;
+    size_t room = length + least > KEPT_ROOM ? length + least : KEPT_ROOM;
+    if (in->room - in->end < least && !buffer_resize(in, room)) {
+        errno = ENOMEM;
+        return -1;
+    }
+    ssize_t count = read(child->from, in->bytes + in->end, in->room - in->end);
+    if (count > 0)
+        in->end += (size_t)count;
+    return count;
+}
+
+void child_write(struct child *child) {
+    if (!queue_write(&child->out, child->to) && errno != EPIPE)
+        say("cannot write to the node program: %s", strerror(errno));
 }
 
 int child_stop(struct child *child) {
@@ -92,7 +141,7 @@ int child_stop(struct child *child) {
             kill(child->process, SIGKILL);
         nanosleep(&(struct timespec){.tv_nsec = 10000000}, NULL);
     }
-    buffer_free(&child->out);
+    queue_free(&child->out);
     buffer_free(&child->in);
     return status;
 }

@@ -1,4 +1,5 @@
 #include "client.h"
+#include "commands.h"
 #include "input.h"
 #include "say.h"
 
@@ -8,6 +9,7 @@
 #include <stdio.h>
 #include <stdlib.h>
 #include <string.h>
+#include <sys/epoll.h>
 #include <sys/ioctl.h>
 #include <sys/socket.h>
 #include <unistd.h>
@@ -77,44 +79,93 @@ static void write_output(struct client *client) {
     buffer_trim(&client->out, 0);
 }
 
-bool client_serve(struct client *client, struct child *child, struct share *share, short events) {
-    if (events & POLLERR || (events & POLLHUP && client->state < LINGERING))
+/* Where so much waited for it that it was not read, and now does no longer, it is served once more. Nothing is written
+ * behind the last look at what waits: it could then be neither read nor written to, and nobody would wait for it. */
+bool client_serve(struct client *client, struct child *child, struct share *share) {
+    uint32_t events = client->events;
+    bool readable = events & (EPOLLIN | EPOLLHUP);
+    client->events = 0;
+    if (events & EPOLLERR || (events & EPOLLHUP && client->state < LINGERING))
         client->state = BROKEN;
-    else if (events & (POLLIN | POLLHUP))
-        input_read(client, share);
-    else if (client->waits)
-        input_room(client, share);
     write_output(client);
-    if (client->state == OPEN && !input_forward(client, child, share))
-        return false;
-    write_output(client);
+    if (client->state == LINGERING && readable)
+        input_discard(client);
+    for (bool goes_on = true; goes_on && client->state == OPEN; readable = false) {
+        if (!input_serve(client, child, share, readable))
+            return false;
+        bool was_full = commands_are_stopped(client);
+        write_output(client);
+        goes_on = was_full && !commands_are_stopped(client);
+    }
     client_count(client, share);
     return true;
 }
 
-void client_answer(struct client *client, const char *frame, size_t at, size_t strings, size_t length) {
-    if (client->answered < client->asked)
-        client->unanswered -= client->costs[client->answered++ % MOST_UNANSWERED];
-    if (client->state >= CLOSING)
-        return;
-    if (!buffer_reserve(&client->out, length)) {
+uint32_t client_wants(const struct client *client, const struct child *child) {
+    bool reads = client->state == LINGERING || input_is_read(client, child);
+    bool writes = buffer_length(&client->out) > 0;
+    return EPOLLERR | (reads ? EPOLLIN : 0) | (writes ? EPOLLOUT : 0);
+}
+
+/* Copies the strings of a short answer. */
+static void copy_answer(struct client *client, const struct answer *answer) {
+    size_t length, at = answer->at;
+    if (!buffer_reserve(&client->out, answer->length)) {
         client->state = BROKEN;
         return;
     }
-    for (size_t string = 0; string < strings; string++) {
-        const char *bytes = string_at(frame, at, &length, &at);
+    for (size_t string = 0; string < answer->strings; string++) {
+        const char *bytes = string_at(answer->frame, at, &length, &at);
         buffer_add(&client->out, bytes, length);
         client->untaken += length;
     }
+}
+
+/* Writes a long answer from where it lies, behind what waits. */
+static size_t write_answer(struct client *client, struct answer *answer, size_t room) {
+    answer_join(answer);
+    ssize_t written = buffer_write_with(&client->out, client->descriptor, answer->bytes, answer->length);
+    if (written < 0) {
+        client->state = BROKEN;
+        return 0;
+    }
+    size_t left = answer->length - (size_t)written;
+    client->untaken += answer->length;
+    if (buffer_length(&client->out) == 0 && left >= room / 2)
+        return left;
+    if (!buffer_add(&client->out, answer->bytes + written, left))
+        client->state = BROKEN;
+    return 0;
+}
+
+size_t client_answer(struct client *client, struct answer *answer, size_t room) {
+    size_t left = 0;
+    if (client->answered < client->asked)
+        client->unanswered -= client->costs[client->answered++ % MOST_UNANSWERED];
+    if (client->state >= CLOSING)
+        return 0;
+    if (answer->length >= LONG)
+        left = write_answer(client, answer, room);
+    else
+        copy_answer(client, answer);
     if (buffer_length(&client->out) > MOST_WAITING) {
         say("client %" PRIu64 " does not take its answers, and is disconnected", client->number);
         client->state = BROKEN;
     }
+    return left;
 }
 
-/* Notes what the client has taken since the last tick. Its side of the connection may have room for much. */
+void client_keep(struct client *client, const struct buffer *memory) {
+    buffer_free(&client->out);
+    client->out = *memory;
+}
+
+/* Notes what the client has taken since the last tick. Its side of the connection may have room for much. The system is
+ * not asked about a client that had taken all before and has got nothing since. */
 static void count_taken(struct client *client) {
     int unsent = 0;
+    if (client->untaken == 0 && buffer_length(&client->out) == 0)
+        return;
     ioctl(client->descriptor, SIOCOUTQ, &unsent);
     size_t untaken = buffer_length(&client->out) + (size_t)unsent;
     if (untaken < client->untaken) {

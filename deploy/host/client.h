@@ -2,18 +2,17 @@
 #ifndef CLIENT_H
 #define CLIENT_H
 
+#include "answer.h"
 #include "child.h"
 #include "share.h"
-
-#include <poll.h>
 
 enum { MOST_UNANSWERED = 1024 };  /* commands of one client that the child has not answered */
 
 /*
- * The states of a connection, in order. Refused: its input was no command, or the rest of one may not come, and it is told
- * so after its answers. Done: its input has ended. Closing: nothing but what waits is written. Lingering: all is written,
- * and its input is thrown away, since closing with unread input would destroy the last answer. Broken: closed at its next
- * turn.
+ * The states of a connection, in order. Refused: its input was no command, or the rest of one may not come, and it is
+ * told so after its answers. Done: its input has ended. Closing: nothing but what waits is written. Lingering: all is
+ * written, and its input is thrown away, since closing with unread input would destroy the last answer. Broken: closed
+ * at its next turn.
  */
 enum state { OPEN, REFUSED, DONE, CLOSING, LINGERING, BROKEN };
 
@@ -32,20 +31,32 @@ struct client {
     uint32_t costs[MOST_UNANSWERED];  /* the bytes of each unanswered command: of number N at place N % 1,024 */
     size_t unanswered;      /* their sum */
     struct part part;
-    unsigned quiet, stuck;  /* ticks for which it has sent nothing of its command, and has taken nothing of its answers */
+    unsigned quiet, stuck;  /* ticks for which it has sent nothing of its command, and taken nothing of its answers */
     size_t untaken;         /* bytes of answers that it had not taken at the last tick, and those that came since */
     size_t credit;          /* bytes sent and taken, less what is expected in each tick in which it is waited for */
-    nfds_t place;           /* its place among those that are polled */
+    uint32_t watched;       /* the events for which it is waited for */
+    uint32_t events;        /* those that have happened since its last turn */
+    bool is_due;            /* it is among those that are served at the next turn */
 };
 
 /* A client that has just connected. NULL, with a message, where memory is refused. */
 struct client *client_new(uint64_t number, int descriptor);
 
 /* Reads, hands whole commands to the child while it takes them, and writes. False where memory is refused. */
-bool client_serve(struct client *client, struct child *child, struct share *share, short events);
+bool client_serve(struct client *client, struct child *child, struct share *share);
 
-/* Takes an answer to its oldest unanswered command: the strings at a place of a frame, which have `length` bytes there. */
-void client_answer(struct client *client, const char *frame, size_t at, size_t strings, size_t length);
+/* The events for which it has to be waited for now. */
+uint32_t client_wants(const struct client *client, const struct child *child);
+
+/*
+ * Takes an answer to its oldest unanswered command, which lies in memory of `room` bytes. A long answer is written from
+ * there. Gives how many bytes at its end were neither written nor copied, because they are most of that memory: then
+ * `client_keep` has to get it.
+ */
+size_t client_answer(struct client *client, struct answer *answer, size_t room);
+
+/* Takes memory over in which an answer waits, in the place of its empty output. */
+void client_keep(struct client *client, const struct buffer *memory);
 
 /* Its input is read no further, and it is told why once its commands are answered. */
 void client_refuse(struct client *client, const char *error);

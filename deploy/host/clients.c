@@ -1,56 +1,38 @@
-#define _GNU_SOURCE
 #include "clients.h"
 #include "input.h"
+#include "listener.h"
 #include "say.h"
+#include "watch.h"
 
 #include <errno.h>
 #include <inttypes.h>
-#include <netdb.h>
-#include <netinet/in.h>
-#include <netinet/tcp.h>
 #include <string.h>
-#include <sys/socket.h>
 #include <unistd.h>
 
-bool clients_listen(struct clients *clients, const char *address, const char *port) {
-    struct addrinfo hints = {.ai_flags = AI_NUMERICHOST | AI_PASSIVE, .ai_socktype = SOCK_STREAM}, *found;
-    int fault = getaddrinfo(address, port, &hints, &found), on = 1;
-    if (fault != 0) {
-        say("cannot listen on %s port %s: %s", address, port, gai_strerror(fault));
-        return false;
-    }
-    clients->listener = socket(found->ai_family, SOCK_STREAM | SOCK_NONBLOCK | SOCK_CLOEXEC, 0);
-    setsockopt(clients->listener, SOL_SOCKET, SO_REUSEADDR, &on, sizeof on);
-    bool listens = bind(clients->listener, found->ai_addr, found->ai_addrlen) == 0
-        && listen(clients->listener, 128) == 0;
-    freeaddrinfo(found);
-    if (!listens) {
-        say("cannot listen on %s port %s: %s", address, port, strerror(errno));
-        return false;
-    }
-    struct sockaddr_storage bound;
-    socklen_t size = sizeof bound;
-    getsockname(clients->listener, (struct sockaddr *)&bound, &size);
-    in_port_t taken = bound.ss_family == AF_INET6 ? ((struct sockaddr_in6 *)&bound)->sin6_port
-                                                  : ((struct sockaddr_in *)&bound)->sin_port;
-    say("listening on %s port %d", address, ntohs(taken));
-    return true;
+bool clients_open(struct clients *clients, int epoll, const char *address, const char *port) {
+    clients->epoll = epoll;
+    clients->listener = listener_open(address, port);
+    return clients->listener >= 0;
 }
 
-nfds_t clients_poll(struct clients *clients, const struct child *child, struct pollfd *polled) {
-    nfds_t count = 1;
-    polled[0] = (struct pollfd){.fd = clients->paused ? -1 : clients->listener, .events = POLLIN};
-    for (size_t slot = 0; slot < clients->top; slot++) {
-        struct client *client = clients->slots[slot];
-        if (client == NULL)
-            continue;
-        bool reads = client->state == LINGERING || input_is_read(client, child);
-        bool writes = buffer_length(&client->out) > 0;
-        client->place = count;
-        polled[count++] = (struct pollfd){
-            .fd = client->descriptor, .events = (short)((reads ? POLLIN : 0) | (writes ? POLLOUT : 0))};
-    }
-    return count;
+bool clients_watch(struct clients *clients) {
+    uint32_t wanted = clients->paused ? 0 : EPOLLIN;
+    return watch(clients->epoll, clients->listener, LISTENER, &clients->listener_watched, wanted);
+}
+
+static size_t slot_of(const struct client *client) {
+    return client->number % MOST_CLIENTS;
+}
+
+static void mark_due(struct clients *clients, struct client *client) {
+    if (!client->is_due)
+        clients->due[clients->due_count++] = client;
+    client->is_due = true;
+}
+
+void clients_ready(struct clients *clients, size_t slot, uint32_t events) {
+    clients->slots[slot]->events |= events;
+    mark_due(clients, clients->slots[slot]);
 }
 
 static size_t free_slot(const struct clients *clients) {
@@ -60,38 +42,10 @@ static size_t free_slot(const struct clients *clients) {
     return slot;
 }
 
-static void turn_away(int descriptor, const char *refusal) {
-    send(descriptor, refusal, strlen(refusal), MSG_NOSIGNAL);
-    close(descriptor);
-}
-
-static void accept_client(struct clients *clients) {
-    int on = 1, descriptor = accept4(clients->listener, NULL, NULL, SOCK_NONBLOCK | SOCK_CLOEXEC);
-    if (descriptor < 0) {
-        clients->paused = errno != EAGAIN && errno != EINTR && errno != ECONNABORTED;
-        return;
-    }
-    size_t slot = free_slot(clients);
-    if (slot == MOST_CLIENTS) {
-        turn_away(descriptor, "-ERR max number of clients reached\r\n");
-        return;
-    }
-    struct client *client = client_new(++clients->opened * MOST_CLIENTS + slot, descriptor);
-    if (client == NULL) {
-        turn_away(descriptor, "-ERR out of memory\r\n");
-        return;
-    }
-    setsockopt(descriptor, IPPROTO_TCP, TCP_NODELAY, &on, sizeof on);
-    setsockopt(descriptor, SOL_SOCKET, SO_KEEPALIVE, &on, sizeof on);
-    client->place = MOST_POLLED;
-    clients->slots[slot] = client;
-    if (slot == clients->top)
-        clients->top++;
-}
-
-/* What the child still has of its commands counts for some time, since the child does not say when it has ended them. */
+/* What the child still has of its commands counts for some time, since the child does not say when it has ended them.
+ * */
 static void free_client(struct clients *clients, struct client *client) {
-    clients->slots[client->number % MOST_CLIENTS] = NULL;
+    clients->slots[slot_of(client)] = NULL;
     while (clients->top > 0 && clients->slots[clients->top - 1] == NULL)
         clients->top--;
     clients->share.gone += client->unanswered;
@@ -99,33 +53,66 @@ static void free_client(struct clients *clients, struct client *client) {
     client_free(client);
 }
 
-static bool serve(struct clients *clients, struct client *client, struct child *child, short events) {
-    if (!client_serve(client, child, &clients->share, events))
-        return false;
-    if (client->state != BROKEN)
-        return true;
-    bool told = client_leaves(client, child);
-    free_client(clients, client);
-    return told;
+void clients_accept(struct clients *clients) {
+    int descriptor = listener_accept(clients->listener);
+    if (descriptor < 0) {
+        clients->paused = errno != EAGAIN && errno != EINTR && errno != ECONNABORTED;
+        return;
+    }
+    size_t slot = free_slot(clients);
+    if (slot == MOST_CLIENTS) {
+        listener_turn_away(descriptor, "-ERR max number of clients reached\r\n");
+        return;
+    }
+    struct client *client = client_new(++clients->opened * MOST_CLIENTS + slot, descriptor);
+    if (client == NULL) {
+        listener_turn_away(descriptor, "-ERR out of memory\r\n");
+        return;
+    }
+    clients->slots[slot] = client;
+    if (slot == clients->top)
+        clients->top++;
+    if (!watch(clients->epoll, descriptor, CLIENTS + (uint32_t)slot, &client->watched, EPOLLERR | EPOLLIN))
+        free_client(clients, client);
 }
 
-bool clients_serve(struct clients *clients, struct child *child, const struct pollfd *polled, nfds_t count) {
-    if (polled[0].revents & POLLIN)
-        accept_client(clients);
-    size_t top = clients->top;
-    clients->first++;
-    for (size_t turn = 0; turn < top; turn++) {
-        struct client *client = clients->slots[(clients->first + turn) % top];
-        if (client == NULL)
-            continue;
-        short events = client->place < count ? polled[client->place].revents : 0;
-        if (!serve(clients, client, child, events))
+/* A client that waits for room or for the child goes on as soon as others leave room: so it is served at each turn. */
+static bool is_held_up(const struct client *client, const struct child *child) {
+    return client->state == OPEN && (client->waits || child_is_full(child));
+}
+
+static bool serve(struct clients *clients, struct client *client, struct child *child) {
+    client->is_due = false;
+    if (!client_serve(client, child, &clients->share))
+        return false;
+    if (client->state == BROKEN) {
+        bool told = client_leaves(client, child);
+        free_client(clients, client);
+        return told;
+    }
+    if (is_held_up(client, child))
+        mark_due(clients, client);
+    clients->held_up |= client->state == OPEN && child_is_full(child);
+    uint32_t source = CLIENTS + (uint32_t)slot_of(client);
+    return watch(clients->epoll, client->descriptor, source, &client->watched, client_wants(client, child));
+}
+
+/* Those that are held up come first at the next turn. */
+bool clients_serve(struct clients *clients, struct child *child) {
+    static struct client *served[MOST_CLIENTS];
+    size_t count = clients->due_count;
+    memcpy(served, clients->due, count * sizeof *served);
+    clients->due_count = 0;
+    clients->held_up = false;
+    for (size_t turn = 0; turn < count; turn++) {
+        if (!serve(clients, served[turn], child))
             return false;
     }
     return true;
 }
 
-/* Ends the connection that holds the most of what it is to send or to take: the most of all, or of those that are slow. */
+/* Ends the connection that holds the most of what it is to send or to take: the most of all, or of those that are slow.
+ */
 static bool end_largest(struct clients *clients, bool slow) {
     struct client *largest = NULL;
     size_t most = OWN_ROOM;
@@ -140,21 +127,36 @@ static bool end_largest(struct clients *clients, bool slow) {
         return false;
     client_evict(largest);
     client_count(largest, &clients->share);
+    mark_due(clients, largest);
     clients->crowded++;
     return true;
 }
 
-void clients_answer(struct clients *clients, uint64_t number, const char *frame, size_t at, size_t strings, size_t length) {
-    struct client *client = clients->slots[number % MOST_CLIENTS];
-    if (client == NULL || client->number != number)
-        return;
-    if (strings > 0)
-        client_answer(client, frame, at, strings, length);
-    else if (client->state < CLOSING)
-        client->state = CLOSING;
+/* Counts what a client holds that got something, and ends connections while all hold too much. */
+static void settle(struct clients *clients, struct client *client) {
+    mark_due(clients, client);
     client_count(client, &clients->share);
     while (share_is_over(&clients->share) && (end_largest(clients, true) || end_largest(clients, false)))
         continue;
+}
+
+size_t clients_answer(struct clients *clients, uint64_t number, struct answer *answer, size_t room) {
+    struct client *client = clients->slots[number % MOST_CLIENTS];
+    size_t left = 0;
+    if (client == NULL || client->number != number)
+        return 0;
+    if (answer->strings > 0)
+        left = client_answer(client, answer, room);
+    else if (client->state < CLOSING)
+        client->state = CLOSING;
+    settle(clients, client);
+    return left;
+}
+
+void clients_keep(struct clients *clients, uint64_t number, const struct buffer *memory) {
+    struct client *client = clients->slots[number % MOST_CLIENTS];
+    client_keep(client, memory);
+    settle(clients, client);
 }
 
 void clients_tick(struct clients *clients, const struct child *child) {
@@ -162,8 +164,13 @@ void clients_tick(struct clients *clients, const struct child *child) {
     share_tick(&clients->share);
     for (size_t slot = 0; slot < clients->top; slot++) {
         struct client *client = clients->slots[slot];
-        if (client != NULL && client_tick(client, child, clients->patience))
+        if (client == NULL)
+            continue;
+        enum state before = client->state;
+        if (client_tick(client, child, clients->patience))
             clients->late++;
+        if (client->state != before)
+            mark_due(clients, client);
     }
     if (clients->share.first != 0)
         end_largest(clients, true);

@@ -1,6 +1,7 @@
 #define _GNU_SOURCE
 #include "connection.h"
 #include "say.h"
+#include "watch.h"
 
 #include <errno.h>
 #include <stdio.h>
@@ -40,7 +41,8 @@ static bool open_once(struct connection *connection) {
     return false;
 }
 
-bool connection_open(struct connection *connection, const struct bus_options *options, const char *node) {
+bool connection_open(struct connection *connection, int epoll, const struct bus_options *options, const char *node) {
+    connection->epoll = epoll;
     connection->url = options->url;
     connection->prefix = options->prefix;
     connection->node = node;
@@ -48,6 +50,8 @@ bool connection_open(struct connection *connection, const struct bus_options *op
     connection->loop = pthread_self();
     connection->wake = eventfd(0, EFD_NONBLOCK | EFD_CLOEXEC);
     pthread_mutex_init(&connection->lock, NULL);
+    if (!watch(epoll, connection->wake, NATS_CHANGES, &connection->wake_watched, EPOLLIN))
+        return false;
     natsStatus status = natsOptions_Create(&connection->options);
     if (status == NATS_OK)
         status = connection_settings(connection, options);
@@ -67,8 +71,8 @@ static void drop(struct connection *connection) {
 
 /*
  * The connection is closed for good. The library closes a first connection where the server refuses the node, and often
- * also where a busy server takes the connection and does not answer soon; it gives the same reason for both. So the host
- * opens a connection that never stood some times again, and then ends.
+ * also where a busy server takes the connection and does not answer soon; it gives the same reason for both. So the
+ * host opens a connection that never stood some times again, and then ends.
  */
 static bool open_again(struct connection *connection) {
     const char *reason = "";
@@ -86,12 +90,13 @@ static bool open_again(struct connection *connection) {
     return open_once(connection);
 }
 
-void connection_poll(struct connection *connection, struct pollfd *polled) {
+bool connection_watch(struct connection *connection) {
     pthread_mutex_lock(&connection->lock);
-    short events = (short)((connection->reads ? POLLIN : 0) | (connection->writes ? POLLOUT : 0));
-    polled[0] = (struct pollfd){.fd = connection->wake, .events = POLLIN};
-    polled[1] = (struct pollfd){.fd = events == 0 ? -1 : connection->socket, .events = events};
+    uint32_t wanted = (connection->reads ? EPOLLIN : 0) | (connection->writes ? EPOLLOUT : 0);
+    bool good = connection->socket < 0
+        || watch(connection->epoll, connection->socket, NATS_SOCKET, &connection->socket_watched, wanted);
     pthread_mutex_unlock(&connection->lock);
+    return good;
 }
 
 static bool has_unsent(struct connection *connection) {
@@ -101,13 +106,13 @@ static bool has_unsent(struct connection *connection) {
     return writes;
 }
 
-bool connection_serve(struct connection *connection, const struct pollfd *polled) {
+bool connection_serve(struct connection *connection, bool changed, bool readable) {
     uint64_t changes;
-    if (polled[0].revents & POLLIN && read(connection->wake, &changes, sizeof changes) < 0) {
+    if (changed && read(connection->wake, &changes, sizeof changes) < 0) {
         say("cannot read an event of NATS: %s", strerror(errno));
         return false;
     }
-    if (polled[1].revents & (POLLIN | POLLHUP | POLLERR))
+    if (readable)
         natsConnection_ProcessReadEvent(connection->nats);
     if (has_unsent(connection))
         natsConnection_ProcessWriteEvent(connection->nats);

@@ -3,7 +3,6 @@
 #define CONNECTION_H
 
 #include <nats/nats.h>
-#include <poll.h>
 #include <pthread.h>
 #include <stdbool.h>
 #include <stddef.h>
@@ -28,8 +27,10 @@ struct connection {
     unsigned tries;               /* how often a first connection was opened again */
     pthread_t loop;               /* the thread of the loop */
     pthread_mutex_t lock;         /* of all below, which the library changes from threads of its own */
+    int epoll;                    /* which waits for the two descriptors below */
     int wake;                     /* an event descriptor that is written at each change */
     int socket;                   /* -1 while there is no connection */
+    uint32_t wake_watched, socket_watched;  /* the events for which they are waited for */
     bool reads, writes, was_connected, closed;
     bool refused;                 /* NATS does not permit what the node needs */
 };
@@ -44,13 +45,13 @@ void connection_stood(natsConnection *nats, void *user);
 natsStatus connection_settings(struct connection *connection, const struct bus_options *from);
 
 /* Connects, or goes on trying in the background. False where an option is refused. */
-bool connection_open(struct connection *connection, const struct bus_options *options, const char *node);
+bool connection_open(struct connection *connection, int epoll, const struct bus_options *options, const char *node);
 
-/* Sets what to wait for: two descriptors. */
-void connection_poll(struct connection *connection, struct pollfd *polled);
+/* Waits for what the library wants of its socket. False, with a message, where the system refuses it. */
+bool connection_watch(struct connection *connection);
 
-/* Reads and writes. False where it cannot. */
-bool connection_serve(struct connection *connection, const struct pollfd *polled);
+/* Writes, and reads. `changed` and `readable` say which of the two descriptors can be read. False where it cannot. */
+bool connection_serve(struct connection *connection, bool changed, bool readable);
 
 /* Takes the next message to this node, or to all nodes. NULL where none is left. */
 natsMsg *connection_next(struct connection *connection);

@@ -3,6 +3,7 @@
 #include "say.h"
 
 #include <string.h>
+#include <sys/epoll.h>
 #include <unistd.h>
 
 enum { READ_SIZE = 256 << 10 };
@@ -16,13 +17,22 @@ static void wake(struct connection *connection) {
         return;  /* the counter is full, so that the loop wakes anyhow */
 }
 
-/* The library calls these where it begins and ends to use a socket, and where it wants to read and to write. */
+/* Waits no longer for the socket, which the library may close now: another descriptor may get its number then. */
+static void forget_socket(struct connection *connection) {
+    if (connection->socket_watched != 0)
+        epoll_ctl(connection->epoll, EPOLL_CTL_DEL, connection->socket, NULL);
+    connection->socket_watched = 0;
+}
+
+/* The library calls these where it begins and ends to use a socket, and where it wants to read and to write. What the
+ * loop waits for changes before it waits the next time. */
 static natsStatus attach(void **user, void *loop, natsConnection *nats, natsSock socket) {
     struct connection *connection = loop;
     (void)nats;
     *user = connection;
     pthread_mutex_lock(&connection->lock);
     connection->socket = (int)socket;
+    connection->socket_watched = 0;
     connection->reads = true;
     connection->writes = false;
     pthread_mutex_unlock(&connection->lock);
@@ -34,6 +44,8 @@ static natsStatus want_read(void *user, bool wanted) {
     struct connection *connection = user;
     pthread_mutex_lock(&connection->lock);
     connection->reads = wanted;
+    if (!wanted)
+        forget_socket(connection);
     pthread_mutex_unlock(&connection->lock);
     wake(connection);
     return NATS_OK;
@@ -51,6 +63,7 @@ static natsStatus want_write(void *user, bool wanted) {
 static natsStatus detach(void *user) {
     struct connection *connection = user;
     pthread_mutex_lock(&connection->lock);
+    forget_socket(connection);
     connection->socket = -1;
     pthread_mutex_unlock(&connection->lock);
     return NATS_OK;

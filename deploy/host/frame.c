@@ -89,18 +89,14 @@ char *put_line(char *to, char type, size_t number) {
     return to;
 }
 
-bool add_head(struct buffer *buffer, size_t count, const char *address) {
-    char head[64 + LONGEST_ADDRESS], *end;
-    if (address == NULL) {
-        end = put_line(head, '*', count);
-    } else {
-        size_t length = strlen(address);
-        end = put_line(put_line(head, '*', count + 1), '$', length);
-        memcpy(end, address, length);
-        memcpy(end + length, "\r\n", 2);
-        end += length + 2;
-    }
-    return buffer_add(buffer, head, (size_t)(end - head));
+size_t put_head(char *head, size_t count, const char *address) {
+    if (address == NULL)
+        return (size_t)(put_line(head, '*', count) - head);
+    size_t length = strlen(address);
+    char *end = put_line(put_line(head, '*', count + 1), '$', length);
+    memcpy(end, address, length);
+    memcpy(end + length, "\r\n", 2);
+    return (size_t)(end + length + 2 - head);
 }
 
 bool read_number(const char *digits, size_t length, uint64_t *number) {

@@ -11,7 +11,8 @@ enum {
     MOST_STRINGS = 1024,
     LONGEST_STRING = (16 << 20) + (64 << 10),
     LONGEST_FRAME = 32 << 20,
-    LONGEST_ADDRESS = 32
+    LONGEST_ADDRESS = 32,
+    LONGEST_HEAD = 64 + LONGEST_ADDRESS
 };
 
 enum found { MORE, FRAME, FAULT };
@@ -37,8 +38,9 @@ const char *string_at(const char *bytes, size_t at, size_t *length, size_t *next
 /* Writes a line such as "$5\r\n", and returns the place behind it. */
 char *put_line(char *to, char type, size_t number);
 
-/* Adds a frame's first bytes: the number of its strings, and its address where it is not NULL. */
-bool add_head(struct buffer *buffer, size_t count, const char *address);
+/* Writes a frame's first bytes, at most LONGEST_HEAD: the number of its strings, and its address where it is not NULL.
+ * How many they are. */
+size_t put_head(char *head, size_t count, const char *address);
 
 /* Reads a decimal number without sign and leading zeros. */
 bool read_number(const char *digits, size_t length, uint64_t *number);

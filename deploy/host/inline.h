@@ -14,9 +14,9 @@ struct command {
 };
 
 /*
- * Reads the command that the first line holds: MORE where the line has not wholly come, FRAME where it has, FAULT, with the
- * line that the client is told, where it is no command. `looked` is how many bytes hold no end of a line. The strings stay
- * as they are until the next call.
+ * Reads the command that the first line holds: MORE where the line has not wholly come, FRAME where it has, FAULT, with
+ * the line that the client is told, where it is no command. `looked` is how many bytes hold no end of a line. The
+ * strings stay as they are until the next call.
  */
 enum found read_line(const char *bytes, size_t length, size_t *looked, struct command *command, const char **error);
 

@@ -7,13 +7,11 @@
 /* Whether the host is ready to read from it. */
 bool input_is_read(const struct client *client, const struct child *child);
 
-/* How many bytes of a command the client may have sent: more than it has, or 0, and then it waits for room. */
-size_t input_room(struct client *client, struct share *share);
+/* Reads once, if there is something to read, and hands whole commands to the child while it takes more. False where
+ * memory is refused. */
+bool input_serve(struct client *client, struct child *child, struct share *share, bool readable);
 
-/* Reads once, or throws away what comes behind the end of all answers. */
-void input_read(struct client *client, struct share *share);
-
-/* Hands whole commands to the child while it takes more. False where memory is refused. */
-bool input_forward(struct client *client, struct child *child, struct share *share);
+/* Throws away what comes behind the end of all answers. */
+void input_discard(struct client *client);
 
 #endif

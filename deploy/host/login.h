@@ -1,4 +1,5 @@
-/* A login to NATS: a user and a password, which stand in a file, because all users of a machine can see a command line. */
+/* A login to NATS: a user and a password, which stand in a file, because all users of a machine can see a command line.
+ * */
 #ifndef LOGIN_H
 #define LOGIN_H
 

@@ -3,11 +3,11 @@
  * frames and nothing of what they mean. It may lose frames of nodes, and starts nothing again that has ended.
  */
 #define _GNU_SOURCE
-#include "bus.h"
-#include "clients.h"
+#include "host.h"
 #include "options.h"
 #include "password.h"
 #include "say.h"
+#include "watch.h"
 
 #include <errno.h>
 #include <inttypes.h>
@@ -20,25 +20,19 @@
 #include <sys/wait.h>
 #include <unistd.h>
 
-enum { SIGNALS, TIMER, GREETINGS, FROM_CHILD, TO_CHILD, BUS, CLIENTS = BUS + 2 };
-enum { ONE_READ = KEPT_ROOM / 2, TICKS_OF_A_REPORT = 100, LARGE = 128 << 10, GREETING = 1000 /* milliseconds */ };
-
-/* What the loop goes on with: it runs, it was told to stop, the child ended, or something failed that was reported. */
-enum course { RUNS, STOPS, ENDED, FAILS };
-
-struct host {
-    struct child child;
-    struct clients clients;
-    struct bus bus;
-    int signals, timer, greetings;
-    uint64_t ticks;
-};
+enum { TICKS_OF_A_REPORT = 100, LARGE = 128 << 10, GREETING = 1000 /* milliseconds */, MOST_READY = 256 };
 
 /* A descriptor that can be read each time that so many milliseconds have passed, or -1. */
 static int open_timer(long milliseconds) {
     int timer = timerfd_create(CLOCK_MONOTONIC, TFD_CLOEXEC | TFD_NONBLOCK);
     struct timespec every = {.tv_sec = milliseconds / 1000, .tv_nsec = milliseconds % 1000 * 1000000};
     return timerfd_settime(timer, 0, &(struct itimerspec){every, every}, NULL) == 0 ? timer : -1;
+}
+
+/* Waits for the input of a descriptor from now on. */
+static bool watch_input(const struct host *host, int descriptor, enum source source) {
+    uint32_t watched = 0;
+    return watch(host->epoll, descriptor, source, &watched, EPOLLIN);
 }
 
 static bool open_events(struct host *host, long tick) {
@@ -48,58 +42,15 @@ static bool open_events(struct host *host, long tick) {
     sigaddset(&wanted, SIGINT);
     signal(SIGPIPE, SIG_IGN);
     pthread_sigmask(SIG_BLOCK, &wanted, NULL);
+    host->epoll = epoll_create1(EPOLL_CLOEXEC);
     host->signals = signalfd(-1, &wanted, SFD_CLOEXEC | SFD_NONBLOCK);
     host->timer = open_timer(tick);
     host->greetings = open_timer(GREETING);
-    if (host->timer >= 0 && host->greetings >= 0 && host->signals >= 0)
-        return true;
+    if (host->epoll >= 0 && host->timer >= 0 && host->greetings >= 0 && host->signals >= 0)
+        return watch_input(host, host->signals, SIGNALS) && watch_input(host, host->timer, TIMER)
+            && watch_input(host, host->greetings, GREETINGS);
     say("cannot wait for signals and for time: %s", strerror(errno));
     return false;
-}
-
-/* Sends a frame of the child where its address says. False where there is no such address. */
-static bool route(struct host *host, const char *frame, const struct scanner *found) {
-    size_t length, next;
-    uint64_t number;
-    const char *address = string_at(frame, found->body, &length, &next);
-    if (length > 7 && memcmp(address, "client ", 7) == 0 && read_number(address + 7, length - 7, &number)) {
-        clients_answer(&host->clients, number, frame, next, found->count - 1, found->at - next);
-        return true;
-    }
-    if (length > 5 && memcmp(address, "node ", 5) == 0 && read_number(address + 5, length - 5, &number)) {
-        bus_send(&host->bus, number, found->count - 1, frame + next, found->at - next);
-        return true;
-    }
-    return false;
-}
-
-/* Reads what the child wrote, and routes the frames that are whole. */
-static enum course route_all(struct host *host) {
-    struct child *child = &host->child;
-    ssize_t count = buffer_read(&child->in, child->from, ONE_READ);
-    if (count == 0)
-        return ENDED;
-    if (count < 0 && errno != EAGAIN && errno != EINTR) {
-        say("cannot read from the node program: %s", strerror(errno));
-        return FAILS;
-    }
-    for (;;) {
-        enum found found = scan(&child->scanner, buffer_front(&child->in), buffer_length(&child->in), MOST_STRINGS);
-        if (found == MORE)
-            return RUNS;
-        if (found == FAULT || child->scanner.count == 0 || !route(host, buffer_front(&child->in), &child->scanner)) {
-            say("the node program wrote what is no frame, or has no address");
-            return FAILS;
-        }
-        buffer_drop(&child->in, child->scanner.at);
-        child->scanner = (struct scanner){0};
-    }
-}
-
-static enum course read_child(struct host *host) {
-    enum course course = route_all(host);
-    bus_flush(&host->bus);
-    return course;
 }
 
 /* Greets the other nodes where it is time to. */
@@ -125,38 +76,54 @@ static bool tick(struct host *host) {
     return child_tick(&host->child, count, heard, length);
 }
 
-static void write_child(struct child *child) {
-    if (!buffer_write(&child->out, child->to) && errno != EPIPE)
-        say("cannot write to the node program: %s", strerror(errno));
-}
-
-/* One turn of the loop. What waits for the child is written before clients are served, since they are read no more while
- * much of it waits. */
-static enum course turn(struct host *host) {
-    static struct pollfd polled[MOST_POLLED];
-    struct child *child = &host->child;
-    polled[SIGNALS] = (struct pollfd){.fd = host->signals, .events = POLLIN};
-    polled[TIMER] = (struct pollfd){.fd = host->timer, .events = POLLIN};
-    polled[GREETINGS] = (struct pollfd){.fd = host->greetings, .events = POLLIN};
-    polled[FROM_CHILD] = (struct pollfd){.fd = child->from, .events = POLLIN};
-    polled[TO_CHILD] = (struct pollfd){.fd = buffer_length(&child->out) > 0 ? child->to : -1, .events = POLLOUT};
-    bus_poll(&host->bus, polled + BUS);
-    nfds_t clients = clients_poll(&host->clients, child, polled + CLIENTS);
-    if (poll(polled, CLIENTS + clients, -1) < 0) {
-        if (errno == EINTR)
-            return RUNS;
+/* Waits until something is ready, and notes what: `ready` gets the events of each source but the clients. */
+static enum course wait_for_events(struct host *host, uint32_t *ready) {
+    static struct epoll_event events[MOST_READY];
+    uint32_t to_child = host->child.out.length > 0 ? EPOLLOUT : 0;
+    if (!watch(host->epoll, host->child.to, TO_CHILD, &host->to_child_watched, to_child)
+        || !connection_watch(&host->bus.connection) || !clients_watch(&host->clients))
+        return FAILS;
+    int count = epoll_wait(host->epoll, events, MOST_READY, host->hurries ? 0 : -1);
+    if (count < 0 && errno != EINTR) {
         say("cannot wait for input: %s", strerror(errno));
         return FAILS;
     }
-    if (polled[SIGNALS].revents != 0)
+    for (int place = 0; place < count; place++) {
+        uint32_t source = events[place].data.u32;
+        if (source < CLIENTS)
+            ready[source] = events[place].events;
+        else
+            clients_ready(&host->clients, source - CLIENTS, events[place].events);
+    }
+    return RUNS;
+}
+
+/* Serves the clients. What waits for the child is written before, since clients are read no more while much of it
+ * waits. */
+static bool serve_clients(struct host *host, bool accepts) {
+    struct child *child = &host->child;
+    child_write(child);
+    if (accepts)
+        clients_accept(&host->clients);
+    bool served = clients_serve(&host->clients, child);
+    child_write(child);
+    host->hurries = host->clients.held_up && !child_is_full(child);
+    return served;
+}
+
+/* One turn of the loop. */
+static enum course turn(struct host *host) {
+    uint32_t ready[CLIENTS] = {0};
+    if (wait_for_events(host, ready) != RUNS)
+        return FAILS;
+    if (ready[SIGNALS] != 0)
         return STOPS;
-    if (polled[GREETINGS].revents != 0)
+    if (ready[GREETINGS] != 0)
         greet(host);
-    enum course course = polled[FROM_CHILD].revents != 0 ? read_child(host) : RUNS;
-    bool served = (polled[TIMER].revents == 0 || tick(host)) && bus_serve(&host->bus, child, polled + BUS);
-    write_child(child);
-    served = served && clients_serve(&host->clients, child, polled + CLIENTS, clients);
-    write_child(child);
+    enum course course = ready[FROM_CHILD] != 0 ? route_frames(host) : RUNS;
+    bool served = (ready[TIMER] == 0 || tick(host))
+        && bus_serve(&host->bus, &host->child, ready[NATS_CHANGES] != 0, ready[NATS_SOCKET] & ~(uint32_t)EPOLLOUT)
+        && serve_clients(host, ready[LISTENER] != 0);
     return course == RUNS && !served ? FAILS : course;
 }
 
@@ -169,6 +136,7 @@ static int stop(struct host *host, enum course course) {
     close(host->signals);
     close(host->timer);
     close(host->greetings);
+    close(host->epoll);
     if (course == STOPS)
         say("told to end");
     else if (course == FAILS)
@@ -180,7 +148,8 @@ static int stop(struct host *host, enum course course) {
     return course != STOPS;
 }
 
-/* A large piece of memory goes back to the system as soon as it is freed. Without this the C library keeps more and more. */
+/* A large piece of memory goes back to the system as soon as it is freed. Without this the C library keeps more and
+ * more. */
 static void prepare(struct host *host, const struct options *options) {
     long patience = options->timeout * 1000 / options->tick;
     mallopt(M_MMAP_THRESHOLD, LARGE);
@@ -197,10 +166,12 @@ int main(int count, char **words) {
     if (options.password != NULL && !password_read(options.password))
         return 1;
     prepare(&host, &options);
-    if (!open_events(&host, options.tick) || !clients_listen(&host.clients, options.address, options.port)
-        || !child_start(&host.child, options.program, options.cluster, options.node, options.folder))
+    if (!open_events(&host, options.tick)
+        || !clients_open(&host.clients, host.epoll, options.address, options.port)
+        || !child_start(&host.child, options.program, options.cluster, options.node, options.folder)
+        || !watch_input(&host, host.child.from, FROM_CHILD))
         return 1;
-    if (!bus_open(&host.bus, &options.bus, options.node, options.folder))
+    if (!bus_open(&host.bus, host.epoll, &options.bus, options.node, options.folder))
         course = FAILS;
     while (course == RUNS)
         course = turn(&host);

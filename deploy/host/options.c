@@ -79,7 +79,8 @@ bool read_options(struct options *options, int count, char **words) {
         {"port", 1, NULL, 0}, {"program", 1, NULL, 0}, {"tick", 1, NULL, 0}, {"nats", 1, NULL, 0},
         {"subject", 1, NULL, 0}, {"nats-credentials", 1, NULL, 0}, {"nats-ca", 1, NULL, 0},
         {"nats-certificate", 1, NULL, 0}, {"nats-key", 1, NULL, 0}, {"client-memory", 1, NULL, 0},
-        {"client-timeout", 1, NULL, 0}, {"nats-login", 1, NULL, 0}, {"client-password", 1, NULL, 0}, {NULL, 0, NULL, 0}};
+        {"client-timeout", 1, NULL, 0}, {"nats-login", 1, NULL, 0}, {"client-password", 1, NULL, 0},
+        {NULL, 0, NULL, 0}};
     int place, found;
     while ((found = getopt_long(count, words, "", known, &place)) == 0)
         *values[place] = optarg;

@@ -99,8 +99,9 @@ const char *password_judge(bool *known, struct command *command) {
     first.bytes = string_at(command->body, 0, &first.length, &next);
     if (*known || is(&first, "quit"))
         return NULL;
-    return is(&first, "hello") ? "-NOAUTH HELLO must be called with the client already authenticated, otherwise the HELLO "
-                                 "<proto> AUTH <user> <pass> option can be used to authenticate the client and select the "
-                                 "RESP protocol version at the same time\r\n"
-                               : "-NOAUTH Authentication required.\r\n";
+    return is(&first, "hello")
+        ? "-NOAUTH HELLO must be called with the client already authenticated, otherwise the HELLO <proto> AUTH <user> "
+          "<pass> option can be used to authenticate the client and select the RESP protocol version at the same "
+          "time\r\n"
+        : "-NOAUTH Authentication required.\r\n";
 }

@@ -30,8 +30,8 @@ void share_count(struct share *share, struct part *part, size_t held);
 /* Whether a connection may hold so many bytes more for its commands. */
 bool share_has(const struct share *share, const struct part *part, size_t more);
 
-/* How many bytes more a client may hold for its command: `most`, or all of its own if that is `least`, or 0. With 0 it waits,
- * and from then on one client after another gets room, beginning with the first that waits. */
+/* How many bytes more a client may hold for its command: `most`, or all of its own if that is `least`, or 0. With 0 it
+ * waits, and from then on one client after another gets room, beginning with the first that waits. */
 size_t share_gives(struct share *share, const struct part *part, size_t least, size_t most, uint64_t number);
 
 /* A client waits no longer. */
