@@ -72,15 +72,16 @@ class Bus(unittest.TestCase):
         self.assertIn("host of node 1: 38 frames of nodes were dropped so far\n", self.host.said())
 
     def test_each_frame_that_the_child_does_not_take_counts(self):
-        """On a busy machine the host may lose its connection, and with it messages that it never got. Then this begins anew,
-        and does not ask the sanitizers: the library of NATS loses the memory of a message of which it had a part."""
+        """On a busy machine the host may lose its connection, and with it messages that it never got. Then this begins
+        anew, and does not ask the sanitizers: the library of NATS loses the memory of a message of which it had a
+        part."""
         while not self.counts_what_the_child_does_not_take():
             self.host.process.kill()
             self.host.process.wait()
 
     def counts_what_the_child_does_not_take(self):
-        """A child that reads nothing for a while gets 32 MiB or more, and each frame that it does not get counts. The host
-        reports the count at each hundredth tick. False where the connection was lost."""
+        """A child that reads nothing for a while gets 32 MiB or more, and each frame that it does not get counts. The
+        host reports the count at each hundredth tick. False where the connection was lost."""
         self.start("late", "--tick", "20")
         sent = 0
         while "frames of nodes were dropped so far" not in self.host.said():
@@ -121,7 +122,8 @@ class Bus(unittest.TestCase):
 
     def send(self, frames):
         """Has the child write these frames at once, behind those that it was told before."""
-        self.client.send(encode([b"RELAY", b"".join(encode([b"node %d" % node, *strings]) for node, *strings in frames)]))
+        written = b"".join(encode([b"node %d" % node, *strings]) for node, *strings in frames)
+        self.client.send(encode([b"RELAY", written]))
 
     def test_frames_that_are_ready_together_are_one_message_for_each_node(self):
         self.start("relay")

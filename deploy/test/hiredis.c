@@ -32,7 +32,8 @@ static void pipeline(void) {
     }
     for (int n = 0; n < 20; n++) {
         redisReply *set = NULL, *length = NULL;
-        if (redisGetReply(nodes[0], (void **)&set) != REDIS_OK || redisGetReply(nodes[0], (void **)&length) != REDIS_OK ||
+        if (redisGetReply(nodes[0], (void **)&set) != REDIS_OK ||
+            redisGetReply(nodes[0], (void **)&length) != REDIS_OK ||
             set->type != REDIS_REPLY_STATUS || length->type != REDIS_REPLY_INTEGER || length->integer != 1 + (n > 9)) {
             fprintf(stderr, "hiredis: another answer in a pipeline\n");
             exit(1);

@@ -1,5 +1,6 @@
 #!/usr/bin/env python3
-"""Tests a host's connection to NATS, with servers that refuse it, come late, or send nonsense: host_nats_test.py HOST."""
+"""Tests a host's connection to NATS, with servers that refuse it, come late, or send nonsense: host_nats_test.py
+HOST."""
 import contextlib
 import shutil
 import socket
@@ -105,7 +106,8 @@ class Nats(unittest.TestCase):
         host.wait_for("the connection to NATS is closed")
 
     def test_files_that_are_no_login(self):
-        for text in ("", "\n", "u", "u\n", "u\n\n", "\nsesame\n", "u\nsesame\nmore", "u\nsesame\n\n", "u\n" + 600 * "s"):
+        for text in ("", "\n", "u", "u\n", "u\n\n", "\nsesame\n", "u\nsesame\nmore", "u\nsesame\n\n",
+                     "u\n" + 600 * "s"):
             host = Host("echo", *self.login(text))
             self.assertEqual((text, host.status()), (text, 2))
             host.wait_for("cannot use the login in .*: it has to be two short lines, a user and a password\n")

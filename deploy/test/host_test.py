@@ -158,6 +158,15 @@ class Frames(unittest.TestCase):
             self.assertEqual(client.rest(), b"-ERR protocol\r\n")
         self.assertEqual(host.end(), 0)
 
+    def test_command_behind_a_long_answer(self):
+        """A client that takes a long answer while the host writes it is read on as soon as it has taken the answer."""
+        host, value = Host("echo"), os.urandom(1 << 16) * (16 << 4)
+        with host.connect() as client:
+            for _ in range(10):
+                self.assertEqual(client.ask(b"PING", value), value)
+                self.assertEqual(client.ask(b"PING", b"next"), b"next")
+        self.assertEqual(host.end(), 0)
+
     def test_frame_too_long(self):
         """Each string is within its limit, but the frame is longer than 32 MiB."""
         host = Host("echo")

@@ -1,7 +1,7 @@
 #!/usr/bin/python3
 """Tests a cluster by Python's library for Redis, Debian's python3-redis: library_test.py PORT PORT PORT. What is
-expected is what the library's documentation says of a Redis server. A server of Redis is asked the same, and answers in the same
-way."""
+expected is what the library's documentation says of a Redis server. A server of Redis is asked the same, and answers in
+the same way."""
 import shutil
 import socket
 import subprocess
@@ -91,8 +91,9 @@ class Library(unittest.TestCase):
 SAME = [
     ["SET", "same", "hello"], ["GET", "same"], ["GET", "missing"], ["STRLEN", "same"], ["STRLEN", "missing"],
     ["EXISTS", "same"], ["EXISTS", "missing"], ["exists", "same"], ["PING"], ["ECHO", "text"],
-    ["SELECT", "0"], ["SELECT", "99"], ["SELECT"], ["AUTH", "word"], ["AUTH", "default", "word"], ["AUTH", "nobody", "word"],
-    ["AUTH"], ["STRLEN"], ["STRLEN", "same", "missing"], ["EXISTS"], ["HELLO", "9"], ["HELLO", "2", "AUTH", "nobody", "word"],
+    ["SELECT", "0"], ["SELECT", "99"], ["SELECT"], ["AUTH", "word"], ["AUTH", "default", "word"],
+    ["AUTH", "nobody", "word"], ["AUTH"], ["STRLEN"], ["STRLEN", "same", "missing"], ["EXISTS"], ["HELLO", "9"],
+    ["HELLO", "2", "AUTH", "nobody", "word"],
     ["CLIENT", "GETNAME"], ["CLIENT", "SETNAME", "tester"], ["SET", "same"], ["SET", "same", "value", "WORD"],
     ["GET", "same"],
 ]
@@ -110,7 +111,8 @@ def asked(connection, words):
         return f"{type(error).__name__}: {error}"
 
 
-# Debian's redis-tools has the server too, under the name of a tool: the program looks at the name by which it is started.
+# Debian's redis-tools has the server too, under the name of a tool: the program looks at the name by which it is
+# started.
 SERVER = shutil.which("redis-server") or shutil.which("redis-check-rdb")
 
 

@@ -1,7 +1,6 @@
 #!/usr/bin/env python3
-"""Tests how much memory clients can take, and how long they can let the host wait: memory_test.py HOST. The memory of a
-host that was built with sanitizers is not looked at, since they keep what was freed."""
-import contextlib
+"""Tests how much memory clients can take: memory_test.py HOST. The memory of a host that was built with sanitizers is
+not looked at, since they keep what was freed."""
 import os
 import re
 import resource
@@ -68,8 +67,8 @@ class Bounds(unittest.TestCase):
         self.assertEqual(host.end(), 0)
 
     def test_half_frames(self):
-        """Forty clients send commands of 32 MiB short of their last byte. Others are served meanwhile and afterwards, also
-        with a long command, and the host never has more than what it says."""
+        """Forty clients send commands of 32 MiB short of their last byte. Others are served meanwhile and afterwards,
+        also with a long command, and the host never has more than what it says."""
         host = Host("echo", "--client-memory", "64")
         with Senders(host, 40, LONGEST[:-1]) as senders, host.connect() as other:
             for _ in range(10):
@@ -88,8 +87,8 @@ class Bounds(unittest.TestCase):
         self.least(host, 64 + 40 / 16 + 64)
 
     def test_unanswered_commands_of_one_client(self):
-        """Of 600 commands of 64 KiB on one connection the child gets less than a mebibyte before it answers; in the end all
-        are answered in order."""
+        """Of 600 commands of 64 KiB on one connection the child gets less than a mebibyte before it answers; in the end
+        all are answered in order."""
         host, values = Host("holds"), [b"%d " % n + bytes(64 << 10) for n in range(600)]
         with host.connect() as client:
             sender = threading.Thread(target=client.send, args=[b"".join(encode([b"SET", value]) for value in values)])
@@ -150,8 +149,8 @@ class Service(unittest.TestCase):
         self.assertEqual(host.end(), 0)
 
     def test_clients_that_send_next_to_nothing_make_room(self):
-        """Eight clients begin a command of 16 MiB and send a byte of it now and then. They are refused once another one has
-        a long command, and not before."""
+        """Eight clients begin a command of 16 MiB and send a byte of it now and then. They are refused once another one
+        has a long command, and not before."""
         host = Host("echo", "--client-memory", "64")
         clients = [host.connect() for _ in range(8)]
         for client in clients:
@@ -168,65 +167,6 @@ class Service(unittest.TestCase):
             client.close()
         self.assertEqual(host.end(), 0)
         self.assertEqual((waits, said[0][:4]), ([], b"-ERR"))
-
-    def test_slow_clients(self):
-        """A client that sends a byte now and then is served, and so is one that reads its answers slowly."""
-        host = Host("big", "--client-timeout", "3")
-        with host.connect() as client:
-            for byte in b"GET x\r\n":
-                client.send(bytes([byte]))
-                time.sleep(0.6)
-            self.assertEqual(client.answer(), bytes(MIB))
-            client.send(encode([b"GET", b"x"]) * 24)
-            for _ in range(12):
-                time.sleep(0.5)
-                self.assertTrue(client.file.read(MIB))
-            left = 24 * (MIB + 12) - 12 * MIB
-            self.assertEqual(len(client.file.read(left)), left)
-        self.assertEqual(host.end(), 0)
-
-
-class Times(unittest.TestCase):
-    def test_idle_half_frames(self):
-        """A thousand clients that begin a command and do not go on lose their places."""
-        host, clients = Host("echo", "--client-timeout", "1"), []
-        for number in range(1000):
-            clients.append(host.connect())
-            with contextlib.suppress(OSError):
-                clients[-1].send(encode([b"PING", b"x"])[:1 + number % 20])
-        end, answer = time.monotonic() + PATIENCE / 10, None
-        while answer != b"y" and time.monotonic() < end:
-            with host.connect() as client, contextlib.suppress(OSError):
-                answer = client.ask(b"PING", b"y")
-        self.assertEqual(answer, b"y")
-        for client in clients:
-            client.close()
-        self.assertEqual(host.end(), 0)
-
-    def test_what_a_client_is_told(self):
-        """It gets the answers to what it sent before. A client that has begun nothing is not ended."""
-        host = Host("echo", "--client-timeout", "1")
-        with host.connect() as client, host.connect() as idle:
-            self.assertEqual(idle.ask(b"PING", b"before"), b"before")
-            client.send(encode([b"PING", b"whole"]) + b"*1\r\n$4\r\nPI")
-            self.assertEqual(client.rest(), b"$5\r\nwhole\r\n-ERR timeout: the rest of the command did not come\r\n")
-            time.sleep(1)
-            self.assertEqual(idle.ask(b"PING", b"after"), b"after")
-        self.assertEqual(host.end(), 0)
-        self.assertIn("so far 1 clients were disconnected since they sent or took nothing for too long", host.said())
-
-    def test_unread_answers(self):
-        """A client that reads nothing of its answers is ended, although they are few."""
-        host = Host("big", "--client-timeout", "1")
-        with host.connect() as client:
-            client.send(encode([b"GET", b"x"]) * 20)
-            time.sleep(4)
-            read = 0
-            with contextlib.suppress(ConnectionResetError):
-                while count := len(client.socket.recv(MIB)):
-                    read += count
-            self.assertLess(read, 20 * MIB)
-        self.assertEqual(host.end(), 0)
 
 
 @unittest.skipIf(IS_CHECKED, "sanitizers need much memory of their own")

@@ -39,10 +39,12 @@ class Password(unittest.TestCase):
     def test_nothing_goes_to_the_child_without_the_password(self):
         host = self.host()
         with host.connect() as client:
-            for words in ([b"GET", b"a"], [b"SET", b"a", b"AUTH"], [b"PING"], [b"auth", b"word of 14 b.."] + [b"x"] * 2):
+            for words in ([b"GET", b"a"], [b"SET", b"a", b"AUTH"], [b"PING"],
+                          [b"auth", b"word of 14 b.."] + [b"x"] * 2):
                 self.assertEqual(client.ask(*words), NO_AUTH)
-            for words in ([b"AUTH", b"word"], [b"AUTH", b"word of 14 b.,"], [b"AUTH", b"word of 14 b..x"], [b"AUTH", b""],
-                          [b"AUTH", b"nobody", b"word of 14 b.."], [b"HELLO", b"2", b"AUTH", b"default", b"word"]):
+            for words in ([b"AUTH", b"word"], [b"AUTH", b"word of 14 b.,"], [b"AUTH", b"word of 14 b..x"],
+                          [b"AUTH", b""], [b"AUTH", b"nobody", b"word of 14 b.."],
+                          [b"HELLO", b"2", b"AUTH", b"default", b"word"]):
                 self.assertEqual((words, client.ask(*words)), (words, WRONG))
             self.assertTrue(client.ask(b"HELLO", b"2").startswith(b"-NOAUTH HELLO must be called"))
             self.assertEqual(client.ask(b"AUTH", b"word of 14 b.."), b"-")
@@ -51,7 +53,8 @@ class Password(unittest.TestCase):
     def test_password(self):
         host = self.host()
         with host.connect() as client:
-            client.send(encode([b"GET", b"a"]) + encode([b"AUTH", b"default", b"word of 14 b.."]) + encode([b"GET", b"b"]))
+            login = encode([b"AUTH", b"default", b"word of 14 b.."])
+            client.send(encode([b"GET", b"a"]) + login + encode([b"GET", b"b"]))
             self.assertEqual([client.answer() for _ in range(3)], [NO_AUTH, b"-", b"b"])
             client.send(encode([b"GET", b"c"]) + encode([b"AUTH", b"word"]) + encode([b"GET", b"d"]))
             self.assertEqual([client.answer() for _ in range(3)], [b"c", b"", b"d"])
@@ -72,8 +75,9 @@ class Password(unittest.TestCase):
             self.assertEqual(client.ask(b"AUTH", b"word"), b"word")
 
     def test_wrong_files(self):
-        for content, mode, wanted in ((b"word", 0o640, "other users can read"), (b"word", 0o604, "other users can read"),
-                                      (b"\n", 0o600, "has no byte"), (b"x" * 513, 0o600, "more than 512")):
+        for content, mode, wanted in ((b"word", 0o640, "other users can read"),
+                                      (b"word", 0o604, "other users can read"), (b"\n", 0o600, "has no byte"),
+                                      (b"x" * 513, 0o600, "more than 512")):
             self.file.write_bytes(content)
             os.chmod(self.file, mode)
             host = Host("echo", "--client-password", self.file)

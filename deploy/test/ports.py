@@ -1,5 +1,5 @@
 #!/usr/bin/env python3
-"""Ports of the loopback address for servers that a test stops and starts again: ports.py COUNT prints so many.
+"""Ports of the loopback address for servers that a test stops and starts again: ports.py COUNT prints COUNT of them.
 
 They lie below those that the system gives to connections. Otherwise a client's own connection could get the port of a
 server that is down, which then could not start again. Processes that look for ports at the same time find different

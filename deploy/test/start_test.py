@@ -1,6 +1,6 @@
 #!/usr/bin/env python3
-"""Tests deploy/run: who can use the cluster that it starts and read what it writes, and what it says where a program does
-not start: start_test.py HOST. The variable CASD names another node program than the stand-in."""
+"""Tests deploy/run: who can use the cluster that it starts and read what it writes, and what it says where a program
+does not start: start_test.py HOST. The variable CASD names another node program than the stand-in."""
 import contextlib
 import os
 import re
@@ -76,7 +76,8 @@ class Strangers(unittest.TestCase):
         passwords = self.passwords()
         self.assertEqual(len(set(passwords)), len(NODES))
         self.assertEqual([password for password in passwords if not re.fullmatch("[0-9a-f]{64}", password)], [])
-        shown = [*Path("/proc").glob("[0-9]*/cmdline"), *Path("/proc").glob("[0-9]*/environ"), *self.folder.glob("*.log")]
+        shown = [*Path("/proc").glob("[0-9]*/cmdline"), *Path("/proc").glob("[0-9]*/environ"),
+                 *self.folder.glob("*.log")]
         looked_at = b""
         for file in shown:
             with contextlib.suppress(OSError):
@@ -89,7 +90,8 @@ class Strangers(unittest.TestCase):
         """Without a login, or with that of somebody else, NATS takes nobody."""
         first, second = self.login(1), self.login(2)
         for login in ({}, {"user": "node1"}, {"user": "node1", "pass": ""}, {"user": "node1", "pass": second["pass"]},
-                      {"user": "node4", "pass": first["pass"]}, {"auth_token": first["pass"]}, {"user": "", "pass": ""}):
+                      {"user": "node4", "pass": first["pass"]}, {"auth_token": first["pass"]},
+                      {"user": "", "pass": ""}):
             with Nats(self.nats, **login) as client:
                 self.assertIn("-ERR 'Authorization Violation'", client.said() or client.said(), login)
 
@@ -137,8 +139,9 @@ class Strangers(unittest.TestCase):
         stop(self.folder)
         for mode in (0o701, 0o710, 0o755, 0o777):
             self.folder.chmod(mode)
-            self.assertEqual(start(self.folder), (1, f"deploy/run: other users can use the folder {self.folder}; take it "
-                                                     f"from them by: chmod -R go= {self.folder}\n"))
+            wanted = (f"deploy/run: other users can use the folder {self.folder}; take it from them by: "
+                      f"chmod -R go= {self.folder}\n")
+            self.assertEqual(start(self.folder), (1, wanted))
             self.assertEqual(stat.S_IMODE(self.folder.stat().st_mode), mode)
         self.folder.chmod(0o700)
         status, said = start(self.folder)

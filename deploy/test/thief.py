@@ -1,8 +1,8 @@
 #!/usr/bin/env python3
-"""What somebody can do with the key of a certificate on the port where NATS servers join: thief.py CERTIFICATE ROUTE_PORT
-NODE_PORT NODE_CERTIFICATE NATS_PORT. The node's port is where clients of node 1 connect; the node's certificate, on the
-port of NATS, is that of node 1. Prints `refused`, with the reason, or whether the thief heard a message of nodes, and
-whether node 1 would have heard one that the thief sent in the name of node 2."""
+"""What somebody can do with the key of a certificate on the port where NATS servers join: thief.py CERTIFICATE
+ROUTE_PORT NODE_PORT NODE_CERTIFICATE NATS_PORT. The node's port is where clients of node 1 connect; the node's
+certificate, on the port of NATS, is that of node 1. Prints `refused`, with the reason, or whether the thief heard a
+message of nodes, and whether node 1 would have heard one that the thief sent in the name of node 2."""
 import ssl
 import sys
 import time
@@ -25,8 +25,8 @@ def is_heard(listener, speak, wanted):
 
 
 def join(port, certificate):
-    """A connection by which the thief has joined, and why there is none. An alert of TLS is a refusal. A busy server may
-    also end a connection that did not finish its handshake in time, so the thief tries again."""
+    """A connection by which the thief has joined, and why there is none. An alert of TLS is a refusal. A busy server
+    may also end a connection that did not finish its handshake in time, so the thief tries again."""
     why = None
     for _ in range(MOST_TRIES):
         try:
