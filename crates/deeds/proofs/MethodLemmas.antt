@@ -4,7 +4,7 @@ use Rattle.std.proofs.lemmas.List.{append-nil, map-append}
 use Rattle.std.specs.List.{AllByRecursion}
 use Rattle.encoder.specs.Fragment.{fragment}
 use Rattle.record.specs.Fragments.{Code}
-use Rattle.local_object.specs.declared.letter.Letter.{Letter}
+use Rattle.letter.specs.declared.letter.Letter.{Letter}
 use Rattle.local_object.specs.Doing.{IsDone}
 use Rattle.local_object.specs.Ended.{all_told, told}
 use Rattle.local_object.specs.Local.{LocalObject}

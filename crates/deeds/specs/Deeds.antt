@@ -3,7 +3,7 @@
 use Rattle.std.specs.Prelude.{ℕ, List, [], ◌∷◌, ◌++◌, map}
 use Rattle.layout.specs.Layout.{Layout}
 use Rattle.record.specs.Fragments.{Code}
-use Rattle.local_object.specs.declared.letter.Letter.{Letter}
+use Rattle.letter.specs.declared.letter.Letter.{Letter}
 use Rattle.local_object.specs.declared.progress.Ended.{Ended}
 use Rattle.local_object.specs.Local.{LocalObject}
 use Rattle.local_object.specs.Events.{LocalEvent, done_here}

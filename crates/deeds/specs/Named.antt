@@ -2,7 +2,7 @@
 -- Objects and letters by the names of objects.
 use Rattle.std.specs.Prelude.{◌≡◌, ℕ, nat_eq, Bool, if◌then◌else◌, List, map, Some, slice_get}
 use Rattle.std.specs.Cmp.Lexicographic.{pointwise}
-use Rattle.local_object.specs.declared.letter.Letter.{Letter}
+use Rattle.letter.specs.declared.letter.Letter.{Letter}
 use Rattle.local_object.specs.Local.{LocalObject}
 
 -- a letter, with the name of the object that it is about

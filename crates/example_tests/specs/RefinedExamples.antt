@@ -16,7 +16,7 @@ use Rattle.mail.specs.declared.message.Body.TheVariants as body
 use Rattle.record.specs.declared.call.Entry.{Entry}
 use Rattle.record.specs.declared.call.Operation.TheVariants as operation
 use Rattle.network.specs.Worlds.{ClusterFile}
-use Rattle.local_object.specs.declared.letter.Letter.{Letter}
+use Rattle.letter.specs.declared.letter.Letter.{Letter}
 use Rattle.local_object.specs.Events.{LocalEvent}
 use Rattle.refinement.specs.Systems.{MayRunIn, System, SystemEvent, opened_system, system_run}
 use Rattle.example_tests.specs.RecordExamples.{whole}

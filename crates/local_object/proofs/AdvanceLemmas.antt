@@ -5,7 +5,7 @@ use Rattle.std.proofs.lemmas.Bool.{le-ltb}
 use Rattle.bank.specs.declared.kind.Kind.{Kind}
 use Rattle.layout.specs.Layout.{Layout}
 use Rattle.call.specs.Call.{OpenCall as Machine}
-use Rattle.local_object.specs.declared.letter.Letter.{Letter}
+use Rattle.letter.specs.declared.letter.Letter.{Letter}
 use Rattle.local_object.specs.Coding.{is_sendable}
 use Rattle.local_object.specs.Going.{IsAdvancedIf, IsAdvanced}
 use Rattle.local_object.specs.Local.{Place, layout_in, heard_place}

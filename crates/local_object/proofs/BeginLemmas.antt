@@ -18,7 +18,7 @@ use Rattle.record.specs.Legal.{is_move}
 use Rattle.call.specs.Call.{OpenCall as Machine}
 use Rattle.encoder.specs.Fragment.{fragment}
 use Rattle.open_calls.specs.OpenCalls.{NodeCall, open_call}
-use Rattle.local_object.specs.declared.letter.Letter.{Letter}
+use Rattle.letter.specs.declared.letter.Letter.{Letter}
 use Rattle.local_object.specs.Codes.{at_node, carried}
 use Rattle.local_object.specs.Distinct.{HaveOtherIds, HaveDistinctIds, IsCallAt}
 use Rattle.local_object.specs.Doing.{IsDone, is_moving, move_refusal}

@@ -8,7 +8,7 @@ use Rattle.bank.specs.Bank.{Bank}
 use Rattle.bank.specs.declared.request.Request.{Request}
 use Rattle.mail.specs.declared.message.Body.{Body}
 use Rattle.mail.specs.declared.message.Body.TheVariants as body
-use Rattle.local_object.specs.declared.letter.Letter.{Letter}
+use Rattle.letter.specs.declared.letter.Letter.{Letter}
 use Rattle.local_object.specs.ChangedBanks.{changes_bank, kept_bank}
 use Rattle.local_object.specs.Changing.{HasOnlyHeard, IsUnchangedBy, changes_in_body, is_changed_by}
 use Rattle.local_object.specs.Distinct.{IsBankInOrderIfOpen}

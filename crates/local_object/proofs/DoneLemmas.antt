@@ -1,7 +1,7 @@
 -- Events in a row.
 use Rattle.std.proofs.Common.{◌≡◌, List, [], ◌∷◌, ◌++◌, append_assoc, refl, sym, subst, ap, ◌∙◌}
 use Rattle.encoder.specs.Fragment.{fragment}
-use Rattle.local_object.specs.declared.letter.Letter.{Letter}
+use Rattle.letter.specs.declared.letter.Letter.{Letter}
 use Rattle.local_object.specs.declared.progress.Ended.{Ended}
 use Rattle.local_object.specs.Ended.{all_told, told}
 use Rattle.local_object.specs.Events.{LocalEvent, all_done, done_here}

@@ -4,7 +4,7 @@ use Rattle.std.proofs.Common.{refl, sym, ap, ◌∙◌}
 use Rattle.std.proofs.lemmas.Bool.{false≢true}
 use Rattle.layout.specs.Layout.{Layout}
 use Rattle.bank.specs.Bank.{Bank}
-use Rattle.local_object.specs.declared.letter.Letter.{Letter}
+use Rattle.letter.specs.declared.letter.Letter.{Letter}
 use Rattle.local_object.specs.Events.{learnt_from}
 use Rattle.local_object.specs.Local.{LocalObject, Place, added_place, bank_here, bank_in, bank_or_opened, layout_here, layout_in}
 use Rattle.local_object.specs.Local.{heard_place, learnt_if, with_bank_here, with_heard}

@@ -1,7 +1,6 @@
 -- The calls of an object, as they are found, changed and removed by its events.
 use Rattle.std.proofs.Common.{◌≡◌, ℕ, ◌⊎◌, Bool, true, false, cond, IsSome, List, [], ◌∷◌}
-use Rattle.std.proofs.Common.{set, slice_get, Option, Some, None, inl, inr, refl, sym, subst, ap, ◌∙◌}
-use Rattle.std.proofs.Common.{MatchOption}
+use Rattle.std.proofs.Common.{set, slice_get, Option, Some, None, inl, inr, refl, sym, subst, ap, ◌∙◌, MatchOption}
 use Rattle.std.specs.List.{remove}
 use Rattle.std.proofs.lemmas.Option.{none-some, same_Some}
 use Rattle.bank.specs.declared.kind.Kind.{Kind}
@@ -13,7 +12,7 @@ use Rattle.call.specs.declared.next.Next.TheVariants as next
 use Rattle.call.specs.Call.{OpenCall as Machine, reached}
 use Rattle.call.specs.Steps.{entered, phase_next, taken_call}
 use Rattle.open_calls.specs.OpenCalls.{taking_open, NodeCall, open_call, due_phase, with_open, without_call}
-use Rattle.local_object.specs.declared.letter.Letter.{Letter}
+use Rattle.letter.specs.declared.letter.Letter.{Letter}
 use Rattle.local_object.specs.declared.progress.Ended.{Ended}
 use Rattle.local_object.specs.Codes.{at_node, carried}
 use Rattle.local_object.specs.Coding.{is_sendable}
@@ -32,8 +31,7 @@ use Rattle.local_object.proofs.CarriedCallLemmas.{open_none, same_call, with_set
 use Rattle.local_object.proofs.DoneLemmas.{by_none, by_one}
 use Rattle.local_object.proofs.FetchedLemmas.{may_settle_here}
 use Rattle.local_object.proofs.NextLemmas.{again_answer, again_begin, again_restart}
-use Rattle.local_object.proofs.NextLemmas.{answer_of, begin_of, due_begun, lacking_of, ready_of, restart_of}
-use Rattle.local_object.proofs.NextLemmas.{settle_of}
+use Rattle.local_object.proofs.NextLemmas.{answer_of, begin_of, due_begun, lacking_of, ready_of, restart_of, settle_of}
 
 pub silent_sent : (local : LocalObject) (o : Option NodeCall) (f : NodeCall → LocalObject)
     → (on_open_call local o (λ call. silent (f call))).sent ≡ []

@@ -7,7 +7,7 @@ use Rattle.mail.specs.Phase.{has_taken}
 use Rattle.record.specs.Fragments.{Code}
 use Rattle.open_calls.specs.OpenCalls.{NodeCall, open_call}
 use Rattle.call.specs.Call.{OpenCall as Machine}
-use Rattle.local_object.specs.declared.letter.Letter.{Letter}
+use Rattle.letter.specs.declared.letter.Letter.{Letter}
 use Rattle.local_object.specs.Coding.{is_sendable}
 use Rattle.local_object.specs.Going.{is_restart, next_here}
 use Rattle.local_object.specs.Local.{LocalObject, layout_here}

@@ -10,7 +10,7 @@ use Rattle.bank.specs.declared.request.Request.{Request}
 use Rattle.mail.specs.Message.{body_kind}
 use Rattle.mail.specs.declared.message.Body.{Body}
 use Rattle.mail.specs.declared.message.Body.TheVariants as body
-use Rattle.local_object.specs.declared.letter.Letter.{Letter}
+use Rattle.letter.specs.declared.letter.Letter.{Letter}
 use Rattle.local_object.specs.Doing.{IsDone, has_member, is_member, is_served, names_node, serve_events}
 use Rattle.mail.specs.Message.{is_request}
 use Rattle.local_object.specs.Events.{LocalEvent, learnt_from, next_in_body, served_here}

@@ -7,7 +7,7 @@ use Rattle.mail.specs.declared.message.Body.{Body}
 use Rattle.mail.specs.declared.message.Body.TheVariants as body
 use Rattle.open_calls.specs.OpenCalls.{taking_open, open_call, with_open}
 use Rattle.std.proofs.Common.{List, ◌∷◌, ◌++◌, subst}
-use Rattle.local_object.specs.declared.letter.Letter.{Letter}
+use Rattle.letter.specs.declared.letter.Letter.{Letter}
 use Rattle.local_object.specs.declared.progress.Ended.{Ended}
 use Rattle.local_object.specs.Doing.{is_taken}
 use Rattle.mail.specs.Message.{is_request}

@@ -3,7 +3,7 @@
 use Rattle.std.specs.Prelude.{suc, ◌&&◌, ◌==◌, Bool, true, false, nat_eq, Option, None, Some}
 use Rattle.std.specs.Cmp.Lexicographic.{pointwise}
 use Rattle.layout.specs.Layout.{Layout}
-use Rattle.local_object.specs.declared.letter.Letter.{Letter}
+use Rattle.letter.specs.declared.letter.Letter.{Letter}
 use Rattle.local_object.specs.Local.{LocalObject, layout_here}
 
 -- whether two layouts are the same

@@ -7,7 +7,7 @@ use Rattle.bank.specs.Bank.{Bank}
 use Rattle.bank.specs.Bytes.{bank_bytes}
 use Rattle.mail.specs.declared.message.Body.{Body}
 use Rattle.mail.specs.declared.message.Body.TheVariants as body
-use Rattle.local_object.specs.declared.letter.Letter.{Letter}
+use Rattle.letter.specs.declared.letter.Letter.{Letter}
 use Rattle.local_object.specs.ChangedBanks.{changes_bank}
 use Rattle.local_object.specs.Doing.{is_served, serve_events}
 use Rattle.local_object.specs.Events.{all_done, learnt_from}

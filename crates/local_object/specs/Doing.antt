@@ -11,7 +11,7 @@ use Rattle.layout.specs.Layout.{Layout}
 use Rattle.mail.specs.Message.{is_request}
 use Rattle.record.specs.Legal.{is_move}
 use Rattle.open_calls.specs.OpenCalls.{NodeCall, open_call}
-use Rattle.local_object.specs.declared.letter.Letter.{Letter}
+use Rattle.letter.specs.declared.letter.Letter.{Letter}
 use Rattle.local_object.specs.Events.{LocalEvent, all_done, learnt_from}
 use Rattle.local_object.specs.Local.{LocalObject, last_position, layout_here}
 use Rattle.local_object.specs.May.{MayAllHappen}

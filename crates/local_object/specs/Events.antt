@@ -27,7 +27,7 @@ use Rattle.record.specs.Sending.{fragment_piece, requests, sent_value, value_or_
 use Rattle.record.specs.Steps.{new_phase}
 use Rattle.open_calls.specs.OpenCalls.{NodeCall, open_call, with_open, without_call, stage_reached, due_phase}
 use Rattle.open_calls.specs.OpenCalls.{taking_open}
-use Rattle.local_object.specs.declared.letter.Letter.{Letter}
+use Rattle.letter.specs.declared.letter.Letter.{Letter}
 use Rattle.local_object.specs.ChangedBanks.{kept_bank}
 use Rattle.local_object.specs.Local.{LocalObject, layout_here, bank_here, bank_in, heard_place, with_bank_here}
 use Rattle.local_object.specs.Local.{last_position, with_heard, learnt_if}

@@ -14,7 +14,7 @@ use Rattle.call.specs.Call.{OpenCall as Machine}
 use Rattle.call.specs.Limits.{is_within_limits}
 use Rattle.call.specs.Next.{is_unsettled, next_of}
 use Rattle.call.specs.Steps.{entered, phase_next}
-use Rattle.local_object.specs.declared.letter.Letter.{Letter}
+use Rattle.letter.specs.declared.letter.Letter.{Letter}
 use Rattle.local_object.specs.declared.progress.Ended.{Ended}
 use Rattle.local_object.specs.Coding.{call_value}
 use Rattle.local_object.specs.Doing.{IsDone}

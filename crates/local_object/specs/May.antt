@@ -12,7 +12,7 @@ use Rattle.record.specs.declared.call.CallKind.TheVariants.{Move}
 use Rattle.record.specs.Fragments.{Code, IsValue, IsFetch, HasPieces}
 use Rattle.record.specs.Records.{Object, layout_at}
 use Rattle.open_calls.specs.OpenCalls.{NodeCall, open_call, due_phase, IsReady, IsLacking}
-use Rattle.local_object.specs.declared.letter.Letter.{Letter}
+use Rattle.letter.specs.declared.letter.Letter.{Letter}
 use Rattle.local_object.specs.Local.{LocalObject, layout_here}
 use Rattle.local_object.specs.Events.{LocalEvent, done_here, learnt_from}
 

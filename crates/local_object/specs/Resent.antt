@@ -4,7 +4,7 @@ use Rattle.std.specs.Prelude.{◌≡◌, ℕ, if◌then◌else◌, List, [], Opt
 use Rattle.layout.specs.Layout.{Layout}
 use Rattle.record.specs.Fragments.{Code}
 use Rattle.open_calls.specs.OpenCalls.{NodeCall, open_call}
-use Rattle.local_object.specs.declared.letter.Letter.{Letter}
+use Rattle.letter.specs.declared.letter.Letter.{Letter}
 use Rattle.local_object.specs.Coding.{is_sendable}
 use Rattle.local_object.specs.Local.{LocalObject, layout_here}
 use Rattle.local_object.specs.Events.{phase_letters, pieces_here}

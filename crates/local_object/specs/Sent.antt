@@ -7,7 +7,7 @@ use Rattle.mail.specs.Phase.{has_taken}
 use Rattle.mail.specs.declared.phase.Taken.{Taken}
 use Rattle.record.specs.Sending.{fragment_piece, requests}
 use Rattle.call.specs.Call.{OpenCall as Machine}
-use Rattle.local_object.specs.declared.letter.Letter.{Letter}
+use Rattle.letter.specs.declared.letter.Letter.{Letter}
 use Rattle.local_object.specs.Coding.{call_value}
 use Rattle.local_object.specs.Going.{is_restart, next_here}
 use Rattle.local_object.specs.Letters.{letter_in}

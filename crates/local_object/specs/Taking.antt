@@ -12,7 +12,7 @@ use Rattle.call.specs.Call.{OpenCall as Machine}
 use Rattle.mail.specs.declared.message.Message.{Message}
 use Rattle.mail.specs.Phase.{Phase, has_taken}
 use Rattle.open_calls.specs.OpenCalls.{NodeCall, open_call}
-use Rattle.local_object.specs.declared.letter.Letter.{Letter}
+use Rattle.letter.specs.declared.letter.Letter.{Letter}
 use Rattle.local_object.specs.declared.progress.Ended.{Ended}
 use Rattle.local_object.specs.Coding.{is_sendable}
 use Rattle.local_object.specs.Doing.{IsDone}

@@ -14,17 +14,18 @@ ghost use Rattle.local_object.specs.Going.{IsAdvancedIf, IsFetchedValue, IsOnlyV
 ghost use Rattle.local_object.specs.Going.{is_restart, next_here, next_if};
 ghost use Rattle.local_object.specs.Taking.{can_begin};
 
+use crate::Ended;
 use crate::calls::Calls;
 use crate::coding::{coded_for, is_sendable};
 use crate::letters::letters_of;
 use crate::pieces::first_pieces;
 use crate::places::Places;
-use crate::{Ended, Letter};
 use bank::Kind;
 use bytes::Bytes;
 use call::{Call, Next, requests};
 use decoder::decode;
 use layout::Layout;
+use letter::Letter;
 use mail::{Ask, Message};
 use piece::Piece;
 use std::alloc::Global;
@@ -108,7 +109,7 @@ pub(crate) fn advance(
 
     ensures refused { IfErr result (λ e. e ≡ NoMemory) }
 {
-    let Some(layout) = places.layout_of(u64::from(position)) else {
+    let Some(layout) = places.shared_layout_of(u64::from(position)) else {
         return Ok(Vec::new(alloc));
     };
     let call = calls.at(index);
@@ -125,9 +126,9 @@ pub(crate) fn advance(
         position,
         kind,
     };
-    let messages = coded_requests(alloc, ask, call, layout)?;
+    let messages = coded_requests(alloc, ask, call, layout.layout())?;
     let letters = letters_of(alloc, places, layout, messages)?;
-    calls.begin_next(index, kind, position, layout)?;
+    calls.begin_next(index, kind, position, layout.layout())?;
     Ok(letters)
 }
 

@@ -6,10 +6,9 @@ ghost use Rattle.local_object.specs.Local.{layout_in, heard_place};
 ghost use Rattle.local_object.specs.Letters.{letter_in};
 ghost use Rattle.mail.specs.Message.{names_next, status_names_next};
 
-use crate::Letter;
 use crate::places::Places;
 use bank::{Answer, Request, Status};
-use layout::Layout;
+use letter::{Letter, SharedLayout};
 use mail::{Body, Message};
 use std::alloc::Global;
 use tag::Refusal;
@@ -18,7 +17,7 @@ use tag::Refusal;
 pub(crate) fn letters_of(
     alloc: Global,
     places: &Places,
-    layout: &Layout,
+    layout: &SharedLayout,
     messages: Vec<Message>,
 ) -> Result<Vec<Letter>, Refusal>
     ensures letters { IfOk result (λ ls. ls.items ≡ map (letter_in places.now layout.now) messages.items) }
@@ -35,7 +34,7 @@ pub(crate) fn letters_of(
 /// there is one. `NoMemory` is the only refusal.
 pub(crate) fn letter_of(
     places: &Places,
-    layout: Layout,
+    layout: SharedLayout,
     message: Message,
 ) -> Result<Letter, Refusal>
     ensures letter { IfOk result (λ l. l ≡ letter_in places.now layout message) }
@@ -54,11 +53,11 @@ pub(crate) fn letter_of(
 }
 
 // The layout of the position after this one, if the node has heard of it.
-fn next_layout(places: &Places, position: u32) -> Result<Option<Layout>, Refusal>
+fn next_layout(places: &Places, position: u32) -> Result<Option<SharedLayout>, Refusal>
     ensures layout { IfOk result (λ l. l ≡ layout_in (heard_place places.now (suc position))) }
     ensures refused { IfErr result (λ e. e ≡ NoMemory) }
 {
-    match places.layout_of(u64::from(position) + 1) {
+    match places.shared_layout_of(u64::from(position) + 1) {
         Some(layout) => Ok(Some(layout.clone()?)),
         None => Ok(None),
     }

@@ -2,7 +2,6 @@
 //! carries out calls. The node hands each letter in, and sends those that come out.
 #![tactic(auto)]
 
-pub use letter::Letter;
 pub use local_object::LocalObject;
 pub use place::Place;
 pub use progress::{Ended, Progress};
@@ -11,7 +10,6 @@ mod calls;
 mod changes;
 mod coding;
 mod going;
-mod letter;
 mod letters;
 mod local_object;
 mod missing;

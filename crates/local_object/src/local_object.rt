@@ -4,11 +4,11 @@ ghost use Rattle.local_object.specs.Local.{new_local, heard_place};
 ghost use Rattle.local_object.specs.Events.{learnt_from, served_here};
 ghost use Rattle.local_object.specs.Doing.{IsDone, has_member, is_served, serve_events};
 
-use crate::Letter;
 use crate::calls::Calls;
 use crate::letters::letter_of;
 use crate::places::Places;
 use layout::Layout;
+use letter::Letter;
 use mail::{Body, Message};
 use std::alloc::Global;
 use std::marker::Model;
@@ -116,7 +116,7 @@ impl LocalObject {
         }
         match self.places.layout_of(u64::from(letter.message.position)) {
             Some(layout) => has_member(layout, letter.message.member, self.node),
-            None => has_member(&letter.layout, letter.message.member, self.node),
+            None => has_member(letter.layout.layout(), letter.message.member, self.node),
         }
     }
 

@@ -5,12 +5,11 @@ ghost use Rattle.tag.specs.declared.refusal.Refusal.TheVariants.{NoMemory};
 ghost use Rattle.local_object.specs.Coding.{is_sendable};
 ghost use Rattle.local_object.specs.Sent.{missing_letters, unanswered};
 
-use crate::Letter;
 use crate::going::{begins_anew, coded_requests};
 use crate::letters::letters_of;
 use crate::places::Places;
 use call::Call;
-use layout::Layout;
+use letter::{Letter, SharedLayout};
 use std::alloc::Global;
 use tag::Refusal;
 
@@ -22,13 +21,13 @@ pub(crate) fn missing(
     alloc: Global,
     places: &Places,
     call: &Call,
-    layout: &Layout,
+    layout: &SharedLayout,
 ) -> Result<Vec<Letter>, Refusal>
     requires { is_sendable call.now.phase.kind call.now ≡ true }
     ensures letters { IfOk result (λ letters. letters.items ≡ missing_letters places.now call.now layout.now) }
     ensures refused { IfErr result (λ e. e ≡ NoMemory) }
 {
-    let messages = coded_requests(alloc, call.ask(), call, layout)?;
+    let messages = coded_requests(alloc, call.ask(), call, layout.layout())?;
     let mut letters = letters_of(alloc, places, layout, messages)?;
     if begins_anew(call) {
         return Ok(letters);

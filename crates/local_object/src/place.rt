@@ -9,6 +9,7 @@ ghost use Rattle.local_object.specs.ChangedBanks.{kept_bank};
 use crate::changes::is_changed;
 use bank::{Bank, Reply, Request};
 use layout::Layout;
+use letter::SharedLayout;
 use std::alloc::Global;
 use std::marker::Model;
 use tag::Refusal;
@@ -17,7 +18,7 @@ use tag::Refusal;
 #[derive(Debug, Drop)]
 pub struct Place {
     position: u32,
-    layout: Layout,
+    layout: SharedLayout,
     // The node's bank for this position. None before a request has changed it.
     bank: Option<Bank>,
 }
@@ -45,7 +46,7 @@ impl Place {
     ghost use Rattle.local_object.specs.New.{is_new_place};
 
     /// Makes a position of this layout, without a bank.
-    pub(crate) fn new(position: u32, layout: Layout) -> Place
+    pub(crate) fn new(position: u32, layout: SharedLayout) -> Place
         ensures { result ≡ record { position = position; layout = layout; bank = None } }
     {
         Place {
@@ -66,6 +67,13 @@ impl Place {
     pub fn layout(&self) -> &Layout
         ensures { result.now ≡ self.now.layout }
     {
+        self.layout.layout()
+    }
+
+    /// Returns the layout of the position, to be shared.
+    pub fn shared_layout(&self) -> &SharedLayout
+        ensures { result.now ≡ self.now.layout }
+    {
         &self.layout
     }
 
@@ -82,7 +90,7 @@ impl Place {
         ensures { result ≡ is_new_place first.now self.now }
     {
         let is_first = self.position == 0;
-        is_first && self.bank.is_none() && self.layout == *first
+        is_first && self.bank.is_none() && *self.layout() == *first
     }
 
     /// The number of bytes of all pieces in the bank, or `u64::MAX` if there are more.

@@ -14,6 +14,7 @@ ghost use Rattle.local_object.specs.New.{are_new_places};
 use crate::place::Place;
 use bank::{Bank, Reply, Request};
 use layout::Layout;
+use letter::SharedLayout;
 use std::alloc::Global;
 use std::marker::Model;
 use tag::Refusal;
@@ -54,7 +55,7 @@ impl Places {
         ensures refused { IfErr result (λ e. e ≡ NoMemory) }
     {
         let mut places = Vec::new(alloc);
-        places.push(Place::new(0, first))?;
+        places.push(Place::new(0, SharedLayout::new(alloc, first)?))?;
         Ok(Places { places })
     }
 
@@ -72,6 +73,16 @@ impl Places {
     {
         match place_of(&self.places, position) {
             Some(index) => Some(self.places[index].layout()),
+            None => None,
+        }
+    }
+
+    /// Returns the same layout, to be shared.
+    pub(crate) fn shared_layout_of(&self, position: u64) -> Option<&SharedLayout>
+        ensures { option_copied result ≡ layout_in (heard_place self.now position) }
+    {
+        match place_of(&self.places, position) {
+            Some(index) => Some(self.places[index].shared_layout()),
             None => None,
         }
     }
@@ -121,7 +132,7 @@ impl Places {
     /// The node hears of a position and its layout. Nothing changes if it had heard of the position before.
     ///
     /// `NoMemory` is the only refusal.
-    pub(crate) fn learn(&mut self, position: u32, layout: &Layout) -> Result<(), Refusal>
+    pub(crate) fn learn(&mut self, position: u32, layout: &SharedLayout) -> Result<(), Refusal>
         ensures places { OnOk result
             (self.new ≡ added_place self.old (heard_place self.old position) position layout.now) }
 

@@ -2,8 +2,8 @@
 
 ghost use Rattle.std.specs.Prelude.{◌≡◌, [], None, Some};
 
-use crate::Letter;
 use bytes::Bytes;
+use letter::Letter;
 use record::Operation;
 use std::alloc::Global;
 use tag::CallId;

@@ -16,7 +16,7 @@ use Rattle.node_effects.specs.Seen.{all_seen, named_of, seen_of}
 use Rattle.node_strings.specs.Strings.{Strings}
 use Rattle.node_effects.specs.Work.{IsDueTaken, IsEmpty, IsOwnTaken}
 use Rattle.node_effects.specs.declared.effects.Effects.{Effects}
-use Rattle.node_effects.specs.declared.letter.NamedLetter.{NamedLetter}
+use Rattle.letter.specs.declared.letter.NamedLetter.{NamedLetter}
 use Rattle.node_effects.specs.declared.work.Work.{Work}
 use Rattle.node_keeper.specs.Acts.{Acts}
 use Rattle.node_keeper.specs.Keeping.{heeds, if_heeded, kept_of}

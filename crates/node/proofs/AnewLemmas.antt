@@ -4,7 +4,7 @@ use Rattle.std.proofs.Common.{subst}
 use Rattle.std.specs.List.{AllByRecursion}
 use Rattle.layout.specs.Layout.{IsLawful, Layout}
 use Rattle.cluster_file.proofs.DigestLemmas.{placed_again}
-use Rattle.local_object.specs.declared.letter.Letter.{Letter}
+use Rattle.letter.specs.declared.letter.Letter.{Letter}
 use Rattle.node_messages.specs.declared.error.Fault.{Fault}
 use Rattle.node_messages.specs.declared.message.NodeMessage.{NodeMessage}
 use Rattle.node_messages.specs.Reading.{message_from}
@@ -26,7 +26,6 @@ use Rattle.node_strings.specs.Strings.{Strings}
 use Rattle.node_effects.specs.Seen.{named_of}
 use Rattle.node_keeper.specs.Keeping.{heeds, if_heeded, kept_of, names_of}
 use Rattle.node_keeper.specs.Logging.{deeds_of, letter_records}
-use Rattle.node_keeper.specs.Sendings.{letter_of_message}
 use Rattle.node_keeper.specs.declared.keeper.Keeper.{Keeper}
 use Rattle.node.specs.Anew.{HandledFramesKeepOwn, HandledFramesKeepOwnCalls, StartingNodesHaveOwn, OwnCallsAreDistinct}
 use Rattle.node.specs.Anew.{RecoveredEntriesKeepOwn, StartedNodesKeepOwn}
@@ -39,22 +38,22 @@ next_lawful None is = tt
 next_lawful (Some layout) is = is
 
 read_lawful : (frame : Strings) (message : NodeMessage) → message_from frame ≡ Ok message →
-    HasLawfulLayouts (letter_of_message message).letter
+    HasLawfulLayouts message.named.letter
 read_lawful frame message e =
-    let is = (message_ok frame message e).0 in (is.layout, next_lawful message.next is.next)
+    let is = (message_ok frame message e).0 in (is.layout, next_lawful message.named.letter.next is.next)
 
 all_if : {A : Type 0} (P : A → Type 0) (b : Bool) (x : A) → P x → AllByRecursion P (cond b (x ∷ []) [])
 all_if P true x here = (here, tt)
 all_if P false x here = tt
 
-from_lawful : (keeper : Keeper) (sender : ℕ) (message : NodeMessage) → HasLawfulLayouts (letter_of_message message).letter →
+from_lawful : (keeper : Keeper) (sender : ℕ) (message : NodeMessage) → HasLawfulLayouts message.named.letter →
     AllByRecursion IsLawfulLetter (letter_from keeper sender message)
 from_lawful keeper sender message lawful = go (is_admitted keeper sender message)
   where
     go : (b : Bool) →
-        AllByRecursion IsLawfulLetter (cond b (if_heeded (kept_of keeper) (named_of (letter_of_message message))) [])
-    go true = all_if IsLawfulLetter (heeds (kept_of keeper) (named_of (letter_of_message message)))
-        (named_of (letter_of_message message)) lawful
+        AllByRecursion IsLawfulLetter (cond b (if_heeded (kept_of keeper) (named_of message.named)) [])
+    go true = all_if IsLawfulLetter (heeds (kept_of keeper) (named_of message.named))
+        (named_of message.named) lawful
     go false = tt
 
 frame_lawful : (keeper : Keeper) (sender : ℕ) (frame : Strings) (r : Result NodeMessage Fault) → message_from frame ≡ r →
@@ -93,7 +92,7 @@ letter_lawful : (recorded : (name : List ℕ) → Letter → LogRecord)
     → (frame : Strings) (r : Result NodeMessage Fault) → message_from frame ≡ r
     → AllByRecursion HasLawfulLetter (letter_records recorded r)
 letter_lawful recorded fits frame (Ok message) e =
-    (fits (letter_of_message message).name (letter_of_message message).letter (read_lawful frame message e), tt)
+    (fits message.named.name message.named.letter (read_lawful frame message e), tt)
 letter_lawful recorded fits frame (Err fault) e = tt
 
 deeds_lawful : (it : Record) → AllByRecursion HasLawfulLetter (deeds_of it)

@@ -18,8 +18,7 @@ use Rattle.node_effects.specs.declared.error.NodeError.{NodeError}
 use Rattle.node_effects.specs.declared.work.Work.{Work}
 use Rattle.node_clients.specs.Answers.{answer_growth, answer_sent, quit_growth}
 use Rattle.node_clients.specs.Desk.{IsIdleAgain, connection_of, is_connected, with_told}
-use Rattle.node_clients.specs.Served.{HasQuit, IsClientAnswered, IsOpened, IsServiceDone, IsCommandTaken}
-use Rattle.node_clients.specs.Served.{KeepsOthers, call_begun}
+use Rattle.node_clients.specs.Served.{HasQuit, IsClientAnswered, IsOpened, IsServiceDone, IsCommandTaken, KeepsOthers, call_begun}
 use Rattle.node_clients.specs.Services.{Service}
 use Rattle.node_clients.specs.declared.desk.Desk.{Desk}
 use Rattle.node_clients.proofs.ServedLemmas.{busy_is_there}
@@ -28,8 +27,7 @@ use Rattle.indexmap.specs.IndexMap.{index_map_len}
 use Rattle.node_clients.specs.declared.counts.Counts.{Counts}
 use Rattle.node.specs.AtOnce.{IsCarriedOut, IsPlainHere, IsReplyHere}
 use Rattle.node.specs.Replies.{IsPlainReply, IsReplyTo, IsRight}
-use Rattle.node.specs.Serving.{FollowsUp, IsCommandDone}
-use Rattle.node.specs.Serving.{ServesClients, ServesCommand, ServesNext}
+use Rattle.node.specs.Serving.{FollowsUp, IsCommandDone, ServesClients, ServesCommand, ServesNext}
 use Rattle.node.specs.declared.node.Node.{Node}
 use Rattle.node.specs.declared.peers.Peers.{Peers}
 use Rattle.node.proofs.ServingLemmas.{serves_one}
@@ -96,8 +94,7 @@ no_first None frame waiting none idle waits = absurd (cc)
 no_first (Some connection) frame waiting none idle waits =
     go connection.state connection.waiting.items none idle waits
   where
-    go : (state : State) (commands : List Strings) → gives_next_of state commands ≡ false → state ≡ Idle →
-        commands ≡ frame ∷ waiting → ⊥
+    go : (state : State) (commands : List Strings) → gives_next_of state commands ≡ false → state ≡ Idle → commands ≡ frame ∷ waiting → ⊥
     go Idle [] none idle waits = absurd (cc)
     go Idle (command ∷ commands) none idle waits = absurd (cc)
     go Busy commands none idle waits = absurd (cc)
@@ -112,8 +109,7 @@ nothing_next client old new u v none serves = record {
 }
 
 carried_as : (a b : Keeper) (r s : Peers) (m n : ℕ) (p q : Counts) (client : ℕ) (frame also : Strings) (service : Service) → b ≡ a →
-    s ≡ r → n ≡ m → q ≡ p → also ≡ frame → IsCarriedOut b s n q client frame service →
-    IsCarriedOut a r m p client also service
+    s ≡ r → n ≡ m → q ≡ p → also ≡ frame → IsCarriedOut b s n q client frame service → IsCarriedOut a r m p client also service
 carried_as a b r s m n p q client frame also service keeper peers calls counts same is =
     subst (λ (f : Strings). IsCarriedOut a r m p client f service) (sym same)
     (subst (λ (k : Keeper). IsCarriedOut k r m p client frame service) keeper

@@ -14,7 +14,7 @@ use Rattle.mail.specs.Message.{is_request}
 use Rattle.node_effects.specs.Seen.{named_of}
 use Rattle.node_strings.specs.Strings.{Strings}
 use Rattle.node_effects.specs.Work.{IsGrown}
-use Rattle.node_effects.specs.declared.letter.NamedLetter.{NamedLetter}
+use Rattle.letter.specs.declared.letter.NamedLetter.{NamedLetter}
 use Rattle.node_effects.specs.declared.work.Work.{Work}
 use Rattle.node_clients.specs.Answers.{answer_frame, ended_answer}
 use Rattle.node_clients.specs.Calls.{call_under, waiting_for, wanted_by}

@@ -1,6 +1,6 @@
 -- Each node with another cluster file is told of once.
 use Rattle.std.proofs.Common.{◌≡◌, ◌&&◌, ℕ, Bool, true, false, not, cond, List, [], ◌∷◌, ◌++◌, length, nat_lt}
-use Rattle.std.proofs.Common.{Option, None, Some, Result, Ok, Err, refl, sym, subst, ap, ◌∙◌}
+use Rattle.std.proofs.Common.{None, Some, Result, Ok, Err, refl, sym, subst, ap, ◌∙◌}
 use Rattle.std.proofs.lemmas.Bool.{and_parts}
 use Rattle.std.proofs.lemmas.List.{append-nil, append_assoc}
 use Rattle.node_effects.specs.declared.report.Report.{Report}
@@ -8,7 +8,6 @@ use Rattle.node_keeper.specs.declared.keeper.Keeper.{Keeper}
 use Rattle.node_messages.specs.Reading.{message_from}
 use Rattle.node_messages.specs.declared.error.Fault.{Fault}
 use Rattle.node_messages.specs.declared.message.NodeMessage.{NodeMessage}
-use Rattle.node_strings.specs.declared.arrival.Arrival.{Arrival}
 use Rattle.node_strings.specs.declared.arrival.Arrival.TheVariants as arrived
 use Rattle.node.specs.Peers.{AreOnce, HasNotedIf, IsChangedIfRead, OthersAreToldOnce, is_foreign, is_known, report_of, with_other}
 use Rattle.node.specs.declared.peers.Peers.{Peers}

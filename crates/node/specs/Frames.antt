@@ -14,9 +14,8 @@ use Rattle.node_strings.specs.declared.arrival.Arrival.{Arrival}
 use Rattle.node_strings.specs.declared.arrival.Arrival.TheVariants as came
 use Rattle.node_effects.specs.Seen.{named_of}
 use Rattle.node_strings.specs.Strings.{Strings}
-use Rattle.node_effects.specs.declared.letter.NamedLetter.{NamedLetter}
+use Rattle.letter.specs.declared.letter.NamedLetter.{NamedLetter}
 use Rattle.node_keeper.specs.Keeping.{if_heeded, kept_of}
-use Rattle.node_keeper.specs.Sendings.{letter_of_message}
 use Rattle.node_keeper.specs.declared.keeper.Keeper.{Keeper}
 
 -- whether a message comes from a node of the cluster with the same cluster file
@@ -26,17 +25,18 @@ is_from_cluster keeper sender message =
 
 -- whether a message comes from the cluster, and has no tag whose number is above the limit
 abbrev pub is_admitted : Keeper → (sender : ℕ) → NodeMessage → Bool
-is_admitted keeper sender message = is_from_cluster keeper sender message && has_low_tags message.message.body
+is_admitted keeper sender message =
+    is_from_cluster keeper sender message && has_low_tags message.named.letter.message.body
 
 -- the letter of a message from the node of this number, if the message is admitted and the node heeds it
 abbrev pub letter_from : Keeper → (sender : ℕ) → NodeMessage → List Named
 letter_from keeper sender message =
     if is_admitted keeper sender message
-    then if_heeded (kept_of keeper) (named_of (letter_of_message message)) else []
+    then if_heeded (kept_of keeper) (named_of message.named) else []
 
 -- the frame is a message, and this is the letter of that message
 abbrev pub IsLetterOf : Strings → NamedLetter → Type 0
-IsLetterOf frame it = (message : NodeMessage) × (message_from frame ≡ Ok message) × (it ≡ letter_of_message message)
+IsLetterOf frame it = (message : NodeMessage) × (message_from frame ≡ Ok message) × (it ≡ message.named)
 
 -- the letter of a message that was read, if one was
 abbrev pub letter_if_read : Keeper → (sender : ℕ) → Result NodeMessage Fault → List Named

@@ -211,7 +211,7 @@ impl Node {
         ensures peers { self.new.peers ≡ self.old.peers }
     {
         if let Some(it) = work.next_own() {
-            self.deliver(number, it, work)?;
+            self.deliver(number, it, None, work)?;
             return Ok(true);
         }
         if let Some(client) = work.next_due() {

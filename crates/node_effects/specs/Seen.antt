@@ -3,7 +3,7 @@
 use Rattle.std.specs.Prelude.{List, map}
 use Rattle.deeds.specs.Named.{NamedLetter as Named}
 use Rattle.deeds.specs.Deeds.{Notice as Seen}
-use Rattle.node_effects.specs.declared.letter.NamedLetter.{NamedLetter}
+use Rattle.letter.specs.declared.letter.NamedLetter.{NamedLetter}
 use Rattle.node_effects.specs.declared.notice.Notice.{Notice}
 use Rattle.node_effects.specs.declared.notice.Notice.TheVariants as notice
 

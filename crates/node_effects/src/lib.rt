@@ -3,7 +3,6 @@
 
 pub use effects::Effects;
 pub use error::{NodeError, RecoveryError};
-pub use letter::NamedLetter;
 pub use machine::Machine;
 pub use notice::Notice;
 pub use output::Output;
@@ -12,7 +11,6 @@ pub use work::Work;
 
 mod effects;
 mod error;
-mod letter;
 mod machine;
 mod notice;
 mod output;

@@ -12,12 +12,12 @@ ghost use Rattle.node_effects.specs.Work.{IsDueTaken, IsOwnTaken, OnlyLogs, entr
 
 use crate::effects::Effects;
 use crate::error::NodeError;
-use crate::letter::NamedLetter;
 use crate::notice::Notice;
 use crate::output::Output;
 use bytes::Bytes;
 use client_commands::{Answer, push_answer};
 use frames::{Frame, FrameError};
+use letter::NamedLetter;
 use node_log::Entry;
 use node_strings::{ConnectionId, Record, client_address, node_address, record_strings};
 use std::alloc::Global;

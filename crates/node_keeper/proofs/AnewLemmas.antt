@@ -4,7 +4,7 @@ use Rattle.std.proofs.Common.{Some, Result, Ok, Err, OnOk, slice_get, get_or, ap
 use Rattle.std.proofs.lemmas.List.{append-nil, map-append}
 use Rattle.std.proofs.lemmas.Option.{slice_get-get_or}
 use Rattle.std.specs.List.{AllByRecursion}
-use Rattle.local_object.specs.declared.letter.Letter.{Letter}
+use Rattle.letter.specs.declared.letter.Letter.{Letter}
 use Rattle.deeds.specs.Kept.{KeptNode}
 use Rattle.open_calls.proofs.ListLemmas.{all_append}
 use Rattle.node_effects.specs.Errors.{WritesOrFails}

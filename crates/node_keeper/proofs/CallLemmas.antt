@@ -7,7 +7,7 @@ use Rattle.encoder.specs.Fragment.{fragment}
 use Rattle.deeds.specs.CallId.{CallIds, with_next_epoch}
 use Rattle.tag.specs.declared.refusal.Refusal.{Refusal}
 use Rattle.tag.specs.declared.refusal.Refusal.TheVariants.{NoMemory}
-use Rattle.local_object.specs.declared.letter.Letter.{Letter}
+use Rattle.letter.specs.declared.letter.Letter.{Letter}
 use Rattle.local_object.specs.Events.{done_here}
 use Rattle.node_keeper.specs.Doing.{IsDoneAt}
 use Rattle.node_keeper.specs.declared.objects.Objects.{Objects}

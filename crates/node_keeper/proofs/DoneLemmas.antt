@@ -1,7 +1,7 @@
 -- What is done to the object of a name, as the laws on logs say it.
 use Rattle.std.proofs.Common.{◌≡◌, ℕ, List, ap}
 use Rattle.deeds.specs.CallId.{CallIds}
-use Rattle.local_object.specs.declared.letter.Letter.{Letter}
+use Rattle.letter.specs.declared.letter.Letter.{Letter}
 use Rattle.local_object.specs.declared.progress.Ended.{Ended}
 use Rattle.local_object.specs.Events.{LocalEvent}
 use Rattle.node_keeper.specs.Doing.{IsDoneAt, IsTakenAt}

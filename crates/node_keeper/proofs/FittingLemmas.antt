@@ -21,7 +21,7 @@ use Rattle.node_messages.specs.Strings.{strings_of}
 use Rattle.node_messages.specs.Writing.{is_frame, same, strings_or_fault}
 use Rattle.node_strings.specs.Strings.{Strings}
 use Rattle.deeds.specs.CallId.{CallIds}
-use Rattle.local_object.specs.declared.letter.Letter.{Letter}
+use Rattle.letter.specs.declared.letter.Letter.{Letter}
 use Rattle.local_object.specs.declared.progress.Ended.{Ended}
 use Rattle.local_object.specs.Doing.{serve_events}
 use Rattle.node_keeper.specs.Doing.{IsDoneAt, IsTakenAt}
@@ -30,7 +30,7 @@ use Rattle.node_keeper.specs.Objects.{objects_of}
 use Rattle.node_strings.specs.Record.{record_strings}
 use Rattle.node_strings.specs.declared.record.Record.TheVariants as record_of
 use Rattle.node_effects.specs.Errors.{IsUnwritten, WritesOrFails, error_of_message}
-use Rattle.node_effects.specs.declared.letter.NamedLetter.{NamedLetter}
+use Rattle.letter.specs.declared.letter.NamedLetter.{NamedLetter}
 use Rattle.node_effects.proofs.ErrorLemmas.{start_fits}
 use Rattle.node_effects.specs.declared.error.NodeError.{NodeError}
 use Rattle.node_effects.specs.declared.error.NodeError.TheVariants as errors
@@ -71,13 +71,14 @@ same_bools false b e = ap not (sym e)
 
 message_written : (m : NodeMessage) → IsMessage m → IsFrame (strings_of m) → strings_or_fault m ≡ Ok (strings_of m)
 message_written m is frame =
-    let name : ltb LONGEST_NAME (length m.name) ≡ false = le-ltb LONGEST_NAME (length m.name) is.name in
-    let member : ltb m.message.member (length m.layout.members) ≡ true = lt-ltb m.message.member (length m.layout.members) is.member in
+    let name : ltb LONGEST_NAME (length m.named.name) ≡ false = le-ltb LONGEST_NAME (length m.named.name) is.name in
+    let member : ltb m.named.letter.message.member (length m.named.letter.layout.members) ≡ true =
+    lt-ltb m.named.letter.message.member (length m.named.letter.layout.members) is.member in
     rw (
       name,
       member,
-      fits_kind m.message.body is.body,
-      same_bools (is_some m.next) (names_next m.message.body) is.named,
+      fits_kind m.named.letter.message.body is.body,
+      same_bools (is_some m.named.letter.next) (names_next m.named.letter.message.body) is.named,
       frame_again (strings_of m) frame,
     ) refl
 

@@ -19,7 +19,7 @@ use Rattle.node_keeper.specs.Doing.{IsDoneAt}
 use Rattle.node_keeper.specs.Objects.{objects_of}
 use Rattle.node_effects.specs.Seen.{all_seen, named_of}
 use Rattle.node_effects.specs.Work.{both_grown, log_all, no_growth}
-use Rattle.node_effects.specs.declared.letter.NamedLetter.{NamedLetter}
+use Rattle.letter.specs.declared.letter.NamedLetter.{NamedLetter}
 use Rattle.node_effects.specs.declared.work.Work.{Work}
 use Rattle.node_effects.proofs.GrowthLemmas.{grown_none}
 use Rattle.node_keeper.specs.Acts.{Acts, logged_growth}

@@ -8,7 +8,7 @@ use Rattle.call.specs.declared.next.Next.{Next}
 use Rattle.call.specs.declared.next.Next.TheVariants as next
 use Rattle.deeds.specs.CallId.{CallIds}
 use Rattle.open_calls.specs.OpenCalls.{NodeCall, open_call}
-use Rattle.local_object.specs.declared.letter.Letter.{Letter}
+use Rattle.letter.specs.declared.letter.Letter.{Letter}
 use Rattle.local_object.specs.declared.progress.Ended.{Ended}
 use Rattle.local_object.specs.Doing.{IsDone, give_up_events, gives_up, is_served, serve_events}
 use Rattle.local_object.specs.Ended.{all_told}

@@ -7,7 +7,7 @@ use Rattle.node_messages.specs.Strings.{strings_of}
 use Rattle.node_strings.specs.declared.record.Record.TheVariants as record_of
 use Rattle.node_strings.proofs.RecordLemmas.{record_again}
 use Rattle.recoveries.specs.Records.{LogRecord}
-use Rattle.node_effects.specs.declared.letter.NamedLetter.{NamedLetter}
+use Rattle.letter.specs.declared.letter.NamedLetter.{NamedLetter}
 use Rattle.node_keeper.specs.Logging.{IsReadBack, deeds_if, letter_records}
 use Rattle.node_keeper.specs.Sendings.{message_of}
 

@@ -18,7 +18,7 @@ use Rattle.record.specs.declared.stage.Stage.{Stage}
 use Rattle.record.specs.Legal.{first_stage}
 use Rattle.record.specs.PhaseOrder.{begun_at}
 use Rattle.record.specs.Sending.{requests}
-use Rattle.local_object.specs.declared.letter.Letter.{Letter}
+use Rattle.letter.specs.declared.letter.Letter.{Letter}
 use Rattle.mail.specs.Message.{is_request}
 use Rattle.local_object.specs.Doing.{IsDone, is_served, serve_events}
 use Rattle.local_object.specs.Events.{LocalEvent, advanced_at, advanced_here, all_done, begun_here, done_here, learnt_from, letter_of}

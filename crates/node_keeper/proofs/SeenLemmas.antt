@@ -7,7 +7,7 @@ use Rattle.local_object.specs.declared.progress.Ended.{Ended}
 use Rattle.mail.specs.Message.{is_request}
 use Rattle.node_effects.specs.Seen.{named_of}
 use Rattle.node_effects.specs.Work.{Growth, IsGrown}
-use Rattle.node_effects.specs.declared.letter.NamedLetter.{NamedLetter}
+use Rattle.letter.specs.declared.letter.NamedLetter.{NamedLetter}
 use Rattle.node_effects.specs.declared.notice.Notice.{Notice}
 use Rattle.node_effects.specs.declared.work.Work.{Work}
 use Rattle.node_keeper.specs.Acts.{ClientsSee, GivesId}

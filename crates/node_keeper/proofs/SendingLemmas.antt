@@ -3,7 +3,7 @@ use Rattle.std.proofs.Common.{◌≡◌, ℕ, Bool, true, false, cond, ◌==◌,
 use Rattle.std.proofs.lemmas.List.{map-append}
 use Rattle.std.specs.List.{AllByRecursion}
 use Rattle.deeds.specs.Named.{with_names}
-use Rattle.local_object.specs.declared.letter.Letter.{Letter}
+use Rattle.letter.specs.declared.letter.Letter.{Letter}
 use Rattle.node_effects.specs.Seen.{named_of}
 use Rattle.node_strings.specs.Strings.{Strings}
 use Rattle.node_effects.specs.Work.{IsGrown, both_grown, no_growth, send_all}
@@ -11,7 +11,7 @@ use Rattle.node_effects.specs.declared.output.Output.{Output}
 use Rattle.node_effects.specs.declared.output.Output.TheVariants as output
 use Rattle.node_effects.specs.declared.work.Work.{Work}
 use Rattle.node_effects.proofs.GrowthLemmas.{grown_as, grown_then}
-use Rattle.node_effects.specs.declared.letter.NamedLetter.{NamedLetter}
+use Rattle.letter.specs.declared.letter.NamedLetter.{NamedLetter}
 use Rattle.node_keeper.specs.Sendings.{IsDirected, Sending, asked, frame_to, going, letters_of, member_or, posted, reply_sendings, sending}
 use Rattle.node_keeper.specs.Sendings.{sent_growth, to_itself, to_one}
 use Rattle.node_keeper.proofs.RequestLemmas.{Asks, Replies}

@@ -1,6 +1,6 @@
 -- What was done at an object stays true where the map then changes and no object does.
 use Rattle.std.proofs.Common.{ℕ, List, ◌∙◌}
-use Rattle.local_object.specs.declared.letter.Letter.{Letter}
+use Rattle.letter.specs.declared.letter.Letter.{Letter}
 use Rattle.local_object.specs.declared.progress.Ended.{Ended}
 use Rattle.local_object.specs.Events.{LocalEvent}
 use Rattle.local_object.specs.Local.{LocalObject}

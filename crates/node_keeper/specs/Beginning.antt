@@ -4,7 +4,7 @@ use Rattle.std.specs.Prelude.{◌≡◌, ⊤, ℕ, List, [], ◌∷◌, Option, 
 use Rattle.encoder.specs.Fragment.{fragment}
 use Rattle.layout.specs.Layout.{Layout}
 use Rattle.tag.specs.declared.refusal.Refusal.{Refusal}
-use Rattle.local_object.specs.declared.letter.Letter.{Letter}
+use Rattle.letter.specs.declared.letter.Letter.{Letter}
 use Rattle.local_object.specs.Doing.{move_refusal, read_refusal, write_refusal}
 use Rattle.local_object.specs.Events.{LocalEvent, done_here}
 use Rattle.local_object.specs.Local.{LocalObject}

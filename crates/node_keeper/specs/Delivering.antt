@@ -4,7 +4,7 @@ use Rattle.std.specs.Prelude.{◌≡◌, ℕ, Bool, true, false, if◌then◌els
 use Rattle.std.specs.Prelude.{Option, None, Some, option_to_list}
 use Rattle.std.specs.List.{AllByRecursion}
 use Rattle.encoder.specs.Fragment.{fragment}
-use Rattle.local_object.specs.declared.letter.Letter.{Letter}
+use Rattle.letter.specs.declared.letter.Letter.{Letter}
 use Rattle.local_object.specs.declared.progress.Ended.{Ended}
 use Rattle.local_object.specs.Changing.{is_changed_by}
 use Rattle.mail.specs.Message.{is_request}
@@ -16,7 +16,7 @@ use Rattle.node_keeper.specs.Objects.{objects_of}
 use Rattle.recoveries.specs.Records.{LogRecord}
 use Rattle.node_effects.specs.Seen.{named_of}
 use Rattle.node_effects.specs.Work.{Growth, IsGrown, both_grown, no_growth}
-use Rattle.node_effects.specs.declared.letter.NamedLetter.{NamedLetter}
+use Rattle.letter.specs.declared.letter.NamedLetter.{NamedLetter}
 use Rattle.node_effects.specs.declared.notice.Notice.{Notice}
 use Rattle.node_effects.specs.declared.notice.Notice.TheVariants as notice
 use Rattle.node_effects.specs.declared.work.Work.{Work}

@@ -3,7 +3,7 @@
 use Rattle.std.specs.Prelude.{◌==◌, ◌&&◌, ◌||◌, not, Bool, if◌then◌else◌, nat_lt, List, [], ◌∷◌, length}
 use Rattle.cluster_file.specs.File.{FileContents, placement_of}
 use Rattle.cluster_file.specs.Placement.{placed}
-use Rattle.local_object.specs.declared.letter.Letter.{Letter}
+use Rattle.letter.specs.declared.letter.Letter.{Letter}
 use Rattle.local_object.specs.Agreement.{agrees, knows_all_of}
 use Rattle.deeds.specs.Kept.{FileOfNames, KeptNode}
 use Rattle.deeds.specs.Named.{NamedLetter as Named}

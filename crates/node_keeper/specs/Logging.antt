@@ -1,7 +1,7 @@
 -- The contracts that docs/trusted.md lists do not depend on this file; other contracts and proofs do.
 -- The entries of a node's log, and what they record.
 use Rattle.std.specs.Prelude.{◌≡◌, ℕ, List, [], ◌∷◌, Option, None, Some, Result, Ok, Err}
-use Rattle.local_object.specs.declared.letter.Letter.{Letter}
+use Rattle.letter.specs.declared.letter.Letter.{Letter}
 use Rattle.node_messages.specs.Reading.{message_from}
 use Rattle.node_messages.specs.Strings.{strings_of}
 use Rattle.node_messages.specs.declared.error.Fault.{Fault}
@@ -11,7 +11,7 @@ use Rattle.node_strings.specs.declared.record.Record.{Record}
 use Rattle.node_strings.specs.declared.record.Record.TheVariants as record_of
 use Rattle.recoveries.specs.Records.{LogRecord}
 use Rattle.node_strings.specs.Strings.{Strings}
-use Rattle.node_keeper.specs.Sendings.{letter_of_message, message_of}
+use Rattle.node_keeper.specs.Sendings.{message_of}
 
 -- the entry that records that an epoch began
 abbrev pub start_entry : Strings
@@ -34,7 +34,7 @@ log_entry_of digest it = strings_for digest it
 
 -- what an entry with a letter records, if its strings were read as a message
 abbrev pub letter_records : ((name : List ℕ) → Letter → LogRecord) → Result NodeMessage Fault → List LogRecord
-letter_records recorded (Ok message) = recorded (letter_of_message message).name (letter_of_message message).letter ∷ []
+letter_records recorded (Ok message) = recorded message.named.name message.named.letter ∷ []
 letter_records recorded (Err fault) = []
 
 -- what a record of a log says that the node did: nothing, if it names the cluster and the node

@@ -2,32 +2,25 @@
 -- Letters that go out, and where they go.
 use Rattle.std.specs.Prelude.{◌≡◌, ℕ, ◌==◌, if◌then◌else◌, List, [], ◌∷◌, map, Option, None, Some, slice_get}
 use Rattle.deeds.specs.Named.{NamedLetter as Named}
-use Rattle.local_object.specs.declared.letter.Letter.{Letter}
+use Rattle.letter.specs.declared.letter.Letter.{Letter}
 use Rattle.mail.specs.Message.{is_request}
+use Rattle.node_messages.specs.Message.{IsMessage}
 use Rattle.node_messages.specs.Strings.{strings_of}
 use Rattle.node_messages.specs.declared.message.NodeMessage.{NodeMessage}
 use Rattle.node_strings.specs.Arrival.{node_address}
 use Rattle.node_effects.specs.Seen.{named_of}
 use Rattle.node_strings.specs.Strings.{Strings}
 use Rattle.node_effects.specs.Work.{Growth, no_growth, send_all}
-use Rattle.node_effects.specs.declared.letter.NamedLetter.{NamedLetter}
+use Rattle.letter.specs.declared.letter.NamedLetter.{NamedLetter}
 
 -- the message that has a letter, from a node whose cluster file has this digest
 abbrev pub message_of : (digest : List ℕ) → NamedLetter → NodeMessage
-message_of digest it = record {
-  digest = digest;
-  name = it.name;
-  layout = it.letter.layout;
-  next = it.letter.next;
-  message = it.letter.message;
-}
+message_of digest it = record { digest = digest; named = it }
 
--- the letter of a message, with the name of its object
-abbrev pub letter_of_message : NodeMessage → NamedLetter
-letter_of_message message = record {
-  name = message.name;
-  letter = record { layout = message.layout; next = message.next; message = message.message };
-}
+-- these strings are those of the letter, as a message from a node whose cluster file has this digest
+pub record IsFrameOf (digest : List ℕ) (it : NamedLetter) (frame : Strings) : Type 0 where
+  pub message : IsMessage (message_of digest it)
+  pub strings : frame ≡ strings_of (message_of digest it)
 
 -- a letter that goes to the node of this number
 pub record Sending : Type 0 where

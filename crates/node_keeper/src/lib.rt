@@ -7,7 +7,6 @@ pub use entries::push_entry;
 pub use ids::OwnIds;
 pub use keeper::Keeper;
 pub use objects::Objects;
-pub use post::letter_of;
 
 mod delivered;
 mod entries;

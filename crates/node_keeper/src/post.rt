@@ -1,47 +1,31 @@
-//! Turning letters about an object into messages between nodes, and messages into letters.
-ghost use Rattle.std.specs.Prelude.{◌≡◌, IfErr, IfOk, OnOk};
+//! Letters as messages between nodes, and their frames.
+ghost use Rattle.std.specs.Prelude.{◌≡◌, IfErr, IfOk, IfSome, OnOk};
 ghost use Rattle.frames.specs.Frame.{IsFrame};
 ghost use Rattle.mail.specs.Message.{is_request};
 ghost use Rattle.node_messages.specs.Message.{IsMessage};
 ghost use Rattle.node_messages.specs.Strings.{strings_of};
-ghost use Rattle.node_effects.specs.Errors.{IsUnwritten};
-ghost use Rattle.node_keeper.specs.Sendings.{letter_of_message, member_or, message_of};
+ghost use Rattle.node_effects.specs.Errors.{IsUnwritten, WritesOrFails};
+ghost use Rattle.node_effects.specs.Work.{IsGrown, one_entry};
+ghost use Rattle.node_keeper.specs.Delivering.{arrival_record};
+ghost use Rattle.node_keeper.specs.Fitting.{IsLoggable};
+ghost use Rattle.node_keeper.specs.Logging.{log_entry_of};
+ghost use Rattle.node_keeper.specs.Sendings.{IsFrameOf, member_or, message_of};
 
-use bytes::Bytes;
+use crate::entries::log_record;
 use cluster_file::DIGEST_LENGTH;
 use frames::Frame;
-use local_object::Letter;
+use letter::{Letter, NamedLetter};
 use mail::Body;
-use node_effects::{NamedLetter, NodeError};
+use node_effects::{NodeError, Work};
 use node_messages::{NodeMessage, frame_of};
+use node_strings::Record;
 use std::alloc::Global;
-
-/// Returns the letter of a message, with the name of its object.
-pub fn letter_of(message: NodeMessage) -> NamedLetter
-    ensures { result ≡ letter_of_message message }
-{
-    NamedLetter {
-        name: message.name,
-        letter: Letter {
-            layout: message.layout,
-            next: message.next,
-            message: message.message,
-        },
-    }
-}
 
 /// Returns the message that has a letter, from a node whose cluster file has this digest.
 pub(crate) fn message_of(digest: [u8; DIGEST_LENGTH], it: NamedLetter) -> NodeMessage
     ensures { result ≡ message_of digest it }
 {
-    let NamedLetter { name, letter } = it;
-    NodeMessage {
-        digest,
-        name,
-        layout: letter.layout,
-        next: letter.next,
-        message: letter.message,
-    }
+    NodeMessage { digest, named: it }
 }
 
 /// Returns the frame of a message between nodes.
@@ -51,6 +35,39 @@ pub(crate) fn framed(alloc: Global, message: &NodeMessage) -> Result<Frame, Node
     ensures refused { IfErr result (IsUnwritten (IsMessage message.now × IsFrame (strings_of message.now))) }
 {
     Ok(frame_of(alloc, message)?)
+}
+
+// Returns the frame of a message: the frame in which it came, or a new one if it came in none.
+fn frame_for(alloc: Global, message: &NodeMessage, came: Option<Frame>) -> Result<Frame, NodeError>
+    requires { IfSome came (IsFrameOf message.now.digest message.now.named) }
+    ensures made { IfOk result (λ frame. frame ≡ strings_of message.now) }
+    ensures fits { OnOk result (IsMessage message.now) }
+    ensures refused { IfErr result (IsUnwritten (IsMessage message.now × IsFrame (strings_of message.now))) }
+{
+    match came {
+        Some(frame) => Ok(frame),
+        None => framed(alloc, message),
+    }
+}
+
+/// A message goes to the log, as a request that is served, or as a reply that is taken.
+pub(crate) fn log_message(
+    alloc: Global,
+    message: &NodeMessage,
+    came: Option<Frame>,
+    work: &mut Work,
+) -> Result<(), NodeError>
+    requires { IfSome came (IsFrameOf message.now.digest message.now.named) }
+    ensures logged { OnOk result (IsGrown work.old work.new
+        (one_entry (log_entry_of message.now.digest (arrival_record message.now.named)))) }
+    ensures writes { WritesOrFails
+        (IsLoggable message.now.digest (arrival_record message.now.named)) result }
+{
+    let frame = frame_for(alloc, message, came)?;
+    match &message.named.letter.message.body {
+        Body::Request(_) => log_record(work, Record::Serve(frame)),
+        Body::Reply { kind: _, reply: _ } => log_record(work, Record::Take(frame)),
+    }
 }
 
 /// Returns the frame of a letter, as a message from a node whose cluster file has this digest.
@@ -82,8 +99,8 @@ pub(crate) fn is_request(letter: &Letter) -> bool
 pub(crate) fn member_or(number: u8, letter: &Letter) -> u8
     ensures { result ≡ member_or number letter.now }
 {
-    if letter.message.member < letter.layout.n() {
-        letter.layout.member(letter.message.member)
+    if letter.message.member < letter.layout.layout().n() {
+        letter.layout.layout().member(letter.message.member)
     } else {
         number
     }

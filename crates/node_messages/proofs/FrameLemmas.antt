@@ -85,8 +85,9 @@ joined numbers digest layout next a b c d =
 head_short : (m : NodeMessage) → IsMessage m → IsShort (head_of m)
 head_short m is =
     let limit : DIGEST_LENGTH ≡ 16 = refl in
-    joined (number_bytes m.message (said_of m.message.body)) m.digest (layout_bytes m.layout) (next_bytes m.next)
-    refl (omega (arith, is.digest)) (most_members m.layout is.layout) (next_length m.next is.next)
+    joined (number_bytes m.named.letter.message (said_of m.named.letter.message.body)) m.digest (layout_bytes m.named.letter.layout)
+    (next_bytes m.named.letter.next)
+    refl (omega (arith, is.digest)) (most_members m.named.letter.layout is.layout) (next_length m.named.letter.next is.next)
 
 -- the strings of a piece, of which there is at most one
 record Piece (ss : Strings) : Type 0 where
@@ -109,10 +110,10 @@ piece_short (body.Request (request.Finalize t)) le = record { few = omega arith;
 piece_short (body.Request (request.Fetch t)) le = record { few = omega arith; short = tt }
 piece_short (body.Reply k r) le = answer_short r.answer le
 
-is_framed : (m : NodeMessage) → IsMessage m → message_bytes m.message ≤ LONGEST_STRING → IsFrame (strings_of m)
+is_framed : (m : NodeMessage) → IsMessage m → message_bytes m.named.letter.message ≤ LONGEST_STRING → IsFrame (strings_of m)
 is_framed m is le =
-    let name : IsShort m.name = small m.name (let e : LONGEST_NAME ≡ 255 = refl in omega (arith, is.name)) in
-    let piece = piece_short m.message.body le in
+    let name : IsShort m.named.name = small m.named.name (let e : LONGEST_NAME ≡ 255 = refl in omega (arith, is.name)) in
+    let piece = piece_short m.named.letter.message.body le in
     let most : MOST_STRINGS ≡ 1024 = refl in
     record { few = omega (arith, piece.few); short = (head_short m is, (name, piece.short)) }
 
@@ -128,12 +129,13 @@ same_bools false b e = ap not (sym e)
 
 pub short_piece_written : ShortPiecesHaveFrames
 short_piece_written m is le =
-    let name : ltb LONGEST_NAME (length m.name) ≡ false = le-ltb LONGEST_NAME (length m.name) is.name in
-    let member : ltb m.message.member (length m.layout.members) ≡ true = lt-ltb m.message.member (length m.layout.members) is.member in
+    let name : ltb LONGEST_NAME (length m.named.name) ≡ false = le-ltb LONGEST_NAME (length m.named.name) is.name in
+    let member : ltb m.named.letter.message.member (length m.named.letter.layout.members) ≡ true =
+    lt-ltb m.named.letter.message.member (length m.named.letter.layout.members) is.member in
     rw (
       name,
       member,
-      fits_kind m.message.body is.body,
-      same_bools (is_some m.next) (names_next m.message.body) is.named,
+      fits_kind m.named.letter.message.body is.body,
+      same_bools (is_some m.named.letter.next) (names_next m.named.letter.message.body) is.named,
       frame_again (strings_of m) (is_framed m is le),
     ) refl

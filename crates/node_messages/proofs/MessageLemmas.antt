@@ -1,181 +1,40 @@
 -- A message that is read is the message that was written, and what was written is read again.
-use Rattle.std.proofs.Common.{◌≡◌, ℕ, ◌<◌, ◌≤◌, ◌^◌, Bool, true, false, ltb, eqb, cond, not, List, [], ◌∷◌, ◌++◌}
-use Rattle.std.proofs.Common.{length, take, drop}
-use Rattle.std.proofs.Common.{Option, Some, None, Result, Ok, Err, refl, sym, ap, ap₂, subst, ◌∙◌, inl, inr, arith, drop_at, length-append}
-use Rattle.std.proofs.Common.{take_all, take-append-drop}
+use Rattle.std.proofs.Common.{◌≡◌, ℕ, ◌<◌, ◌≤◌, ◌^◌, Bool, true, false, ltb, cond, not, List, ◌∷◌, ◌++◌}
+use Rattle.std.proofs.Common.{length}
+use Rattle.std.proofs.Common.{Option, Result, Ok, Err, refl, sym, ap, ap₂, subst, ◌∙◌, arith}
 use Rattle.std.specs.Prelude.{IfOk, IfSome, is_some}
 use Rattle.std.specs.Str.{bytes_eq}
-use Rattle.std.proofs.lemmas.Bool.{ltb-false, le-ltb, lt-ltb, ltb-true, eqb-true, eq-eqb}
-use Rattle.std.proofs.lemmas.List.{take-append-le, length-take-le}
+use Rattle.std.proofs.lemmas.Bool.{lt-ltb, ltb-true}
 use Rattle.std.proofs.lemmas.Slice.Eq.{bytes_eq-Decides}
 use Rattle.tag.specs.declared.limits.TheConstants.{LONGEST_NAME, MOST_MEMBERS}
 use Rattle.piece.specs.declared.piece.Piece.{Piece}
 use Rattle.layout.specs.Layout.{Layout, IsLawful}
 use Rattle.mail.specs.declared.message.Body.{Body}
-use Rattle.mail.specs.declared.message.Message.{Message}
 use Rattle.mail.specs.Message.{names_next}
-use Rattle.cluster_file.specs.declared.file.TheConstants.{DIGEST_LENGTH}
 use Rattle.words.specs.Parts.{and_then}
-use Rattle.words.proofs.PartLemmas.{bind_ok, chosen, guarded, guarded_above, ok_is}
+use Rattle.words.proofs.PartLemmas.{bind_ok, guarded, guarded_above, ok_is}
 use Rattle.node_strings.specs.Strings.{Strings}
 use Rattle.node_messages.specs.declared.error.Fault.{Fault}
-use Rattle.node_messages.specs.declared.error.Fault.TheVariants.{OtherForm, NameTooLong, NoMember, UnusedPlace}
+use Rattle.node_messages.specs.declared.error.Fault.TheVariants.{NoMember, UnusedPlace}
 use Rattle.node_messages.specs.declared.error.MessageError.{MessageError}
 use Rattle.node_messages.specs.declared.layouts.Layouts.{Layouts}
 use Rattle.node_messages.specs.declared.message.NodeMessage.{NodeMessage}
-use Rattle.node_messages.specs.declared.places.TheConstants.{FORM, NUMBERS_LENGTH, FORM_PLACE, PIECE_PLACE}
+use Rattle.node_messages.specs.declared.places.TheConstants.{PIECE_PLACE}
 use Rattle.node_messages.specs.declared.places.TheConstants.{POSITION_PLACE, MEMBER_PLACE}
-use Rattle.node_messages.specs.declared.said.Said.{Said}
-use Rattle.node_messages.specs.Codes.{flag_from}
 use Rattle.node_messages.specs.Gives.{Agrees}
 use Rattle.node_messages.specs.Head.{byte_in, short_in, number_bytes, said_of, head_of, layout_bytes, next_bytes}
 use Rattle.node_messages.specs.Laws.{WrittenMessageIsRead, ReadMessageWasWritten, StringsNameOneMessage}
-use Rattle.node_messages.specs.Message.{IsMessage, IsPiece, IsBody}
-use Rattle.node_messages.specs.Reading.{first_string, first_name, ending, split_bytes, parts_of, piece_in, piece_if, last_piece}
+use Rattle.node_messages.specs.Message.{IsMessage, IsBody}
+use Rattle.node_messages.specs.Reading.{first_string, first_name, parts_of, last_piece}
 use Rattle.node_messages.specs.Reading.{body_from, layouts_from, made_of, checked_places, message_of_parts, message_from}
 use Rattle.node_messages.specs.Strings.{body_piece, piece_strings, strings_of}
-use Rattle.node_messages.proofs.NumberLemmas.{Says, numbers_say, body_said, long_below, short_below, byte_below, call_again}
+use Rattle.node_messages.proofs.NumberLemmas.{Says, numbers_say, body_said, long_below, short_below, call_again}
 use Rattle.node_messages.proofs.NumberLemmas.{phase_again, position_again, member_again}
-use Rattle.node_messages.proofs.BodyLemmas.{HasPiece, PieceSaid, piece_is_said, last_again, body_again, body_ok}
+use Rattle.node_messages.proofs.BodyLemmas.{piece_is_said, last_again, body_again}
 use Rattle.node_messages.proofs.LayoutLemmas.{layouts_ok, layouts_again}
-
--- ---- strings and names
-
-string_ok : (strings : Strings) (x : List ℕ × Strings) → first_string strings ≡ Ok x → strings ≡ x.0 ∷ x.1
-unfolding first_string
-string_ok [] x e = absurd cc
-string_ok (s ∷ rest) x e = ap (λ (p : List ℕ × Strings). p.0 ∷ p.1) (ok_is (s, rest) x e)
-
-name_ok : (strings : Strings) (x : List ℕ × Strings) → first_name strings ≡ Ok x → (strings ≡ x.0 ∷ x.1) × (length x.0 ≤ LONGEST_NAME)
-unfolding first_name
-name_ok strings x e =
-    let a = bind_ok (first_string strings) (λ string. cond (ltb LONGEST_NAME (length string.0)) (Err NameTooLong) (Ok string)) x e in
-    let g = guarded_above (ltb LONGEST_NAME (length a.0.0)) NameTooLong (Ok a.0) x a.2 in
-    subst (λ (y : List ℕ × Strings). (strings ≡ y.0 ∷ y.1) × (length y.0 ≤ LONGEST_NAME)) (ok_is a.0 x g.1)
-    (string_ok strings a.0 a.1, ltb-false LONGEST_NAME (length a.0.0) g.0)
-
-name_again : (name : List ℕ) (rest : Strings) → length name ≤ LONGEST_NAME → first_name (name ∷ rest) ≡ Ok (name, rest)
-unfolding first_name first_string
-name_again name rest le =
-    let short : ltb LONGEST_NAME (length name) ≡ false = le-ltb LONGEST_NAME (length name) le in
-    rw short refl
-
--- ---- the parts of a head
-
-abbrev Parts : Type 0
-Parts = List ℕ × List ℕ × List ℕ
-
--- the first bytes, and those after them, have this length and are these bytes
-abbrev IsSplit : ℕ → List ℕ → List ℕ × List ℕ → Type 0
-IsSplit n bytes x = (bytes ≡ x.0 ++ x.1) × (length x.0 ≡ n)
-
-split_ok : (n : ℕ) (bytes : List ℕ) (x : List ℕ × List ℕ) → split_bytes n bytes ≡ Ok x → IsSplit n bytes x
-unfolding split_bytes
-split_ok n bytes x e =
-    let g = guarded_above (ltb (length bytes) n) OtherForm (Ok (take n bytes, drop n bytes)) x e in
-    let enough : n ≤ length bytes = ltb-false (length bytes) n g.0 in
-    subst (IsSplit n bytes) (ok_is (take n bytes, drop n bytes) x g.1) (sym (take-append-drop n bytes), length-take-le n bytes enough)
-
-split_again : (n : ℕ) (a b : List ℕ) → length a ≡ n → split_bytes n (a ++ b) ≡ Ok (a, b)
-unfolding split_bytes
-split_again n a b e =
-    let enough : ltb (length (a ++ b)) n ≡ false = le-ltb (length (a ++ b)) n (omega (arith, length-append a b)) in
-    let front : take n (a ++ b) ≡ a = take-append-le n a b (omega arith) ∙ take_all n a (omega arith) in
-    rw (enough, front, drop_at a b n e) refl
-
--- these are the parts of a head
-abbrev AreParts : List ℕ → Parts → Type 0
-AreParts head x = (head ≡ x.0 ++ (x.1 ++ x.2)) × (length x.1 ≡ DIGEST_LENGTH)
-
-parts_ok : (head : List ℕ) (x : Parts) → parts_of head ≡ Ok x → AreParts head x
-unfolding parts_of
-parts_ok head x e =
-    let a = bind_ok (split_bytes NUMBERS_LENGTH head) (λ numbers. and_then (split_bytes DIGEST_LENGTH numbers.1) (λ digest.
-    cond (eqb (byte_in FORM_PLACE numbers.0) FORM) (Ok (numbers.0, digest.0, digest.1)) (Err OtherForm))) x e in
-    let b = bind_ok (split_bytes DIGEST_LENGTH a.0.1) (λ digest.
-    cond (eqb (byte_in FORM_PLACE a.0.0) FORM) (Ok (a.0.0, digest.0, digest.1)) (Err OtherForm)) x a.2 in
-    let g = guarded (eqb (byte_in FORM_PLACE a.0.0) FORM) (Ok (a.0.0, b.0.0, b.0.1)) OtherForm x b.2 in
-    let numbers = split_ok NUMBERS_LENGTH head a.0 a.1 in
-    let digest = split_ok DIGEST_LENGTH a.0.1 b.0 b.1 in
-    subst (AreParts head) (ok_is (a.0.0, b.0.0, b.0.1) x g.1)
-    (numbers.0 ∙ ap (λ (r : List ℕ). a.0.0 ++ r) digest.0, digest.1)
-
-parts_by : (numbers digest layouts : List ℕ) → length numbers ≡ NUMBERS_LENGTH → length digest ≡ DIGEST_LENGTH
-    → byte_in FORM_PLACE numbers ≡ FORM → parts_of (numbers ++ (digest ++ layouts)) ≡ Ok (numbers, digest, layouts)
-unfolding parts_of
-parts_by numbers digest layouts n d form =
-    rw (
-      split_again NUMBERS_LENGTH numbers (digest ++ layouts) n,
-      split_again DIGEST_LENGTH digest layouts d,
-      eq-eqb (byte_in FORM_PLACE numbers) FORM form,
-    ) refl
-
-parts_again : (m : Message) (said : Said) (digest layouts : List ℕ) → length digest ≡ DIGEST_LENGTH
-    → parts_of (number_bytes m said ++ (digest ++ layouts)) ≡ Ok (number_bytes m said, digest, layouts)
-parts_again m said digest layouts long = parts_by (number_bytes m said) digest layouts refl long refl
-
--- ---- the piece
-
-piece_fits : (numbers bytes : List ℕ) → IsPiece (piece_in numbers bytes)
-piece_fits numbers bytes = (byte_below _, short_below _)
-
-ended : {X : Type 0} (x : X) (rest : Strings) (y : X) → ending x rest ≡ Ok y → (rest ≡ []) × (x ≡ y)
-ended x [] y e = (refl, ok_is x y e)
-ended x (s ∷ rest) y e = absurd cc
-
--- whether the numbers say that there is a piece
-abbrev flag : Option Piece → ℕ
-flag None = 0
-flag (Some piece) = 1
-
--- a piece that was read
-abbrev ReadPiece : Strings → Option Piece → Type 0
-ReadPiece rest piece = (rest ≡ piece_strings piece) × IfSome piece IsPiece
-
-piece_if_ok : (is_piece : Bool) (numbers : List ℕ) (rest : Strings) (piece : Option Piece) → piece_if is_piece numbers rest ≡ Ok piece
-    → ReadPiece rest piece × (is_some piece ≡ is_piece)
-unfolding piece_if
-piece_if_ok true numbers rest piece e =
-    let a = bind_ok (first_string rest) (λ bytes. ending (Some (piece_in numbers bytes.0)) bytes.1) piece e in
-    let end = ended (Some (piece_in numbers a.0.0)) a.0.1 piece a.2 in
-    let whole : rest ≡ a.0.0 ∷ [] = string_ok rest a.0 a.1 ∙ ap (λ (r : Strings). a.0.0 ∷ r) end.0 in
-    subst (λ (p : Option Piece). ReadPiece rest p × (is_some p ≡ true)) end.1 ((whole, piece_fits numbers a.0.0), refl)
-piece_if_ok false numbers rest piece e =
-    let end = ended None rest piece e in
-    subst (λ (p : Option Piece). ReadPiece rest p × (is_some p ≡ false)) end.1 ((end.0, tt), refl)
-
-flag_ok : (code : ℕ) (b : Bool) → flag_from code ≡ Ok b → code ≡ cond b 1 0
-unfolding flag_from
-flag_ok code b e =
-    elim (chosen (eqb code 0) (Ok false) _ b e) [
-      | inl h ↦ eqb-true code 0 h.0 ∙ ap (λ b. cond b 1 0) (ok_is false b h.1)
-      | inr e2 ↦ elim (chosen (eqb code 1) (Ok true) _ b e2) [
-        | inl h ↦ eqb-true code 1 h.0 ∙ ap (λ b. cond b 1 0) (ok_is true b h.1)
-        | inr e3 ↦ absurd cc
-      ]
-    ]
-
-last_ok : (numbers : List ℕ) (rest : Strings) (piece : Option Piece) → last_piece numbers rest ≡ Ok piece
-    → ReadPiece rest piece × (byte_in PIECE_PLACE numbers ≡ flag piece)
-unfolding last_piece
-last_ok numbers rest piece e =
-    let f = bind_ok (flag_from (byte_in PIECE_PLACE numbers)) (λ is_piece. piece_if is_piece numbers rest) piece e in
-    let p = piece_if_ok f.0 numbers rest piece f.2 in
-    (p.0, flag_ok (byte_in PIECE_PLACE numbers) f.0 f.1 ∙ ap (λ b. cond b 1 0) (sym p.1) ∙ of_some piece)
-  where
-    of_some : (piece : Option Piece) → cond (is_some piece) 1 0 ≡ flag piece
-    of_some None = refl
-    of_some (Some piece) = refl
-
--- the body has the piece that was read, where the numbers say what they would say of the body
-same_piece : (piece of_body : Option Piece) (numbers : List ℕ) (said : Said) → HasPiece piece of_body → PieceSaid said of_body
-    → byte_in PIECE_PLACE numbers ≡ flag piece → byte_in PIECE_PLACE numbers ≡ said.is_piece → of_body ≡ piece
-same_piece piece of_body numbers said (inl same) is read says = same
-same_piece None of_body numbers said (inr none) is read says = none
-same_piece (Some p) None numbers said (inr none) is read says = absurd (omega (arith, is, read, says))
-same_piece (Some p) (Some q) numbers said (inr none) is read says = absurd cc
-
--- ---- messages
+use Rattle.node_messages.proofs.PartLemmas.{string_ok, name_ok, name_again, AreParts, parts_ok, parts_again, flag, ReadPiece}
+use Rattle.node_messages.proofs.PartLemmas.{last_ok, same_piece}
+use Rattle.node_messages.proofs.ReadBodyLemmas.{HasPiece, body_ok}
 
 not_false : (b : Bool) → not b ≡ false → b ≡ true
 not_false true e = refl
@@ -183,25 +42,27 @@ not_false false e = absurd cc
 
 -- the numbers are those of the message
 abbrev of_message : NodeMessage → List ℕ
-of_message m = number_bytes m.message (said_of m.message.body)
+of_message m = number_bytes m.named.letter.message (said_of m.named.letter.message.body)
 
 checked_ok : (numbers : List ℕ) (m x : NodeMessage) → checked_places numbers m ≡ Ok x
-    → (m.message.member < length m.layout.members) × (of_message m ≡ numbers) × (m ≡ x)
+    → (m.named.letter.message.member < length m.named.letter.layout.members) × (of_message m ≡ numbers) × (m ≡ x)
 unfolding checked_places
 checked_ok numbers m x e =
-    let has = ltb m.message.member (length m.layout.members) in
+    let has = ltb m.named.letter.message.member (length m.named.letter.layout.members) in
     let g = guarded_above (not has) NoMember (cond (bytes_eq (of_message m) numbers) (Ok m) (Err UnusedPlace)) x e in
     let h = guarded (bytes_eq (of_message m) numbers) (Ok m) UnusedPlace x g.1 in (
-      ltb-true m.message.member (length m.layout.members) (not_false has g.0),
+      ltb-true m.named.letter.message.member (length m.named.letter.layout.members) (not_false has g.0),
       (bytes_eq-Decides (of_message m) numbers).0 h.0,
       ok_is m x h.1,
     )
 
-checked_again : (m : NodeMessage) → m.message.member < length m.layout.members → checked_places (of_message m) m ≡ Ok m
+checked_again : (m : NodeMessage) → m.named.letter.message.member < length m.named.letter.layout.members
+    → checked_places (of_message m) m ≡ Ok m
 unfolding checked_places
 checked_again m lt =
-    chosen_twice (ltb m.message.member (length m.layout.members)) (bytes_eq (of_message m) (of_message m)) m
-    (lt-ltb m.message.member (length m.layout.members) lt) ((bytes_eq-Decides (of_message m) (of_message m)).1 refl)
+    chosen_twice (ltb m.named.letter.message.member (length m.named.letter.layout.members)) (bytes_eq (of_message m) (of_message m)) m
+    (lt-ltb m.named.letter.message.member (length m.named.letter.layout.members) lt)
+    ((bytes_eq-Decides (of_message m) (of_message m)).1 refl)
   where
     chosen_twice : (a b : Bool) (m : NodeMessage) → a ≡ true → b ≡ true
         → cond (not a) (Err NoMember) (cond b (Ok m) (Err UnusedPlace)) ≡ Ok m
@@ -216,7 +77,7 @@ made_is : (numbers digest name : List ℕ) (piece : Option Piece) (found : Body)
     → ReadPiece last piece × (byte_in PIECE_PLACE numbers ≡ flag piece) → IsBody found × HasPiece piece (body_piece found)
     → IsLawful layouts.layout × (is_some layouts.next ≡ names_next found) × IfSome layouts.next IsLawful
     → byte_in PIECE_PLACE numbers ≡ (said_of found).is_piece
-    → (made_of numbers digest name found layouts).message.member < length layouts.layout.members
+    → (made_of numbers digest name found layouts).named.letter.message.member < length layouts.layout.members
     → of_message (made_of numbers digest name found layouts) ≡ numbers
     → IsMessage (made_of numbers digest name found layouts)
     × (head ∷ rest ≡ strings_of (made_of numbers digest name found layouts))
@@ -243,10 +104,11 @@ made_is numbers digest name piece found layouts head rest last parts named read 
     )
 
 -- the numbers of a message say its body
-own_says : (m : NodeMessage) (numbers : List ℕ) → IsBody m.message.body → of_message m ≡ numbers → Says numbers (said_of m.message.body)
+own_says : (m : NodeMessage) (numbers : List ℕ) → IsBody m.named.letter.message.body → of_message m ≡ numbers
+    → Says numbers (said_of m.named.letter.message.body)
 own_says m numbers fits own =
-    subst (λ (n : List ℕ). Says n (said_of m.message.body)) own
-    (numbers_say m.message (said_of m.message.body) (body_said m.message.body fits))
+    subst (λ (n : List ℕ). Says n (said_of m.named.letter.message.body)) own
+    (numbers_say m.named.letter.message (said_of m.named.letter.message.body) (body_said m.named.letter.message.body fits))
 
 pub message_ok : ReadMessageWasWritten
 unfolding message_from message_of_parts
@@ -295,21 +157,26 @@ message_by strings rest head numbers digest layout_part name piece found layouts
 abbrev with_numbers : NodeMessage → ℕ → ℕ → ℕ → ℕ → NodeMessage
 with_numbers m call phase position member = record {
   digest = m.digest;
-  name = m.name;
-  layout = m.layout;
-  next = m.next;
-  message = record { call = call; phase = phase; position = position; member = member; body = m.message.body };
+  named = record {
+    name = m.named.name;
+    letter = record {
+      layout = m.named.letter.layout;
+      next = m.named.letter.next;
+      message = record { call = call; phase = phase; position = position; member = member; body = m.named.letter.message.body };
+    };
+  };
 }
 
 few_members : (layout : Layout) (member : ℕ) → IsLawful layout → member < length layout.members → member < 2 ^ 8
 few_members layout member lawful lt = let limit : MOST_MEMBERS ≡ 255 = refl in omega (arith, lawful.few)
 
 made_again : (m : NodeMessage) → IsMessage m
-    → made_of (of_message m) m.digest m.name m.message.body (record { layout = m.layout; next = m.next }) ≡ m
+    → made_of (of_message m) m.digest m.named.name m.named.letter.message.body
+    (record { layout = m.named.letter.layout; next = m.named.letter.next }) ≡ m
 made_again m is =
-    let x = m.message in
+    let x = m.named.letter.message in
     let said = said_of x.body in
-    let small = few_members m.layout x.member is.layout is.member in
+    let small = few_members m.named.letter.layout x.member is.layout is.member in
     ap₂ (λ call phase. with_numbers m call phase (short_in POSITION_PLACE (of_message m)) (byte_in MEMBER_PLACE (of_message m)))
     (call_again x said is.call) (phase_again x said is.phase)
     ∙ ap₂ (λ position member. with_numbers m x.call x.phase position member)
@@ -321,18 +188,19 @@ first_again s rest = refl
 
 pub message_again : WrittenMessageIsRead
 message_again m is =
-    let x = m.message in
+    let x = m.named.letter.message in
     let said = said_of x.body in
     let numbers = number_bytes x said in
     let piece = body_piece x.body in
-    let layout_part = layout_bytes m.layout ++ next_bytes m.next in
-    let layouts : Layouts = record { layout = m.layout; next = m.next } in
+    let layout_part = layout_bytes m.named.letter.layout ++ next_bytes m.named.letter.next in
+    let layouts : Layouts = record { layout = m.named.letter.layout; next = m.named.letter.next } in
     let says = numbers_say x said (body_said x.body is.body) in
-    message_by (strings_of m) (m.name ∷ piece_strings piece) (head_of m) numbers m.digest layout_part (m.name, piece_strings piece) piece
-    x.body layouts (first_again (head_of m) (m.name ∷ piece_strings piece)) (parts_again x said m.digest layout_part is.digest)
-    (name_again m.name (piece_strings piece) is.name) (last_again numbers said piece says (piece_is_said x.body))
+    message_by (strings_of m) (m.named.name ∷ piece_strings piece) (head_of m) numbers m.digest layout_part
+    (m.named.name, piece_strings piece) piece
+    x.body layouts (first_again (head_of m) (m.named.name ∷ piece_strings piece)) (parts_again x said m.digest layout_part is.digest)
+    (name_again m.named.name (piece_strings piece) is.name) (last_again numbers said piece says (piece_is_said x.body))
     (body_again numbers x.body is.body says)
-    (ap (λ b. layouts_from b layout_part) (sym is.named) ∙ layouts_again m.layout m.next is.layout is.next)
+    (ap (λ b. layouts_from b layout_part) (sym is.named) ∙ layouts_again m.named.letter.layout m.named.letter.next is.layout is.next)
     ∙ ap (checked_places numbers) (made_again m is)
     ∙ checked_again m is.member
 

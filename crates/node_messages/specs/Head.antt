@@ -105,4 +105,5 @@ next_bytes (Some layout) = layout_bytes layout
 -- the head of a message: its numbers, the digest, the layout of its position, and the next layout if there is one
 abbrev pub head_of : NodeMessage → List ℕ
 head_of m =
-    number_bytes m.message (said_of m.message.body) ++ (m.digest ++ (layout_bytes m.layout ++ next_bytes m.next))
+    number_bytes m.named.letter.message (said_of m.named.letter.message.body)
+    ++ (m.digest ++ (layout_bytes m.named.letter.layout ++ next_bytes m.named.letter.next))

@@ -26,5 +26,5 @@ StringsNameOneMessage =
 
 -- a message has a frame if its piece is not longer than a string of a frame
 abbrev pub ShortPiecesHaveFrames : Type 0
-ShortPiecesHaveFrames = (m : NodeMessage) → IsMessage m → message_bytes m.message ≤ LONGEST_STRING
+ShortPiecesHaveFrames = (m : NodeMessage) → IsMessage m → message_bytes m.named.letter.message ≤ LONGEST_STRING
     → strings_or_fault m ≡ Ok (strings_of m)

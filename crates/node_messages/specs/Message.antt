@@ -84,24 +84,24 @@ IsBody (body.Reply k r) = IsKind k × (r.step < 2 ^ 64) × IsAnswer r.answer × 
 -- within their bits
 pub record HasTypedFields (m : NodeMessage) : Type 0 where
   pub digest : length m.digest ≡ DIGEST_LENGTH
-  pub layout : IsLawful m.layout
-  pub call : m.message.call < 2 ^ 64
-  pub phase : m.message.phase < 2 ^ 32
-  pub position : m.message.position < 2 ^ 32
-  pub body : IsWithinBits m.message.body
-  pub next : IfSome m.next IsLawful
+  pub layout : IsLawful m.named.letter.layout
+  pub call : m.named.letter.message.call < 2 ^ 64
+  pub phase : m.named.letter.message.phase < 2 ^ 32
+  pub position : m.named.letter.message.position < 2 ^ 32
+  pub body : IsWithinBits m.named.letter.message.body
+  pub next : IfSome m.named.letter.next IsLawful
 
 -- What a message between nodes is: the digest has its length, the name is not too long, the layouts are lawful, the
 -- member is one of the layout, there is a next layout exactly if the message says that the pointer is pending or final,
 -- an answer belongs to a request of its kind, and numbers are within their bits.
 pub record IsMessage (m : NodeMessage) : Type 0 where
   pub digest : length m.digest ≡ DIGEST_LENGTH
-  pub name : length m.name ≤ LONGEST_NAME
-  pub layout : IsLawful m.layout
-  pub call : m.message.call < 2 ^ 64
-  pub phase : m.message.phase < 2 ^ 32
-  pub position : m.message.position < 2 ^ 32
-  pub member : m.message.member < length m.layout.members
-  pub body : IsBody m.message.body
-  pub named : is_some m.next ≡ names_next m.message.body
-  pub next : IfSome m.next IsLawful
+  pub name : length m.named.name ≤ LONGEST_NAME
+  pub layout : IsLawful m.named.letter.layout
+  pub call : m.named.letter.message.call < 2 ^ 64
+  pub phase : m.named.letter.message.phase < 2 ^ 32
+  pub position : m.named.letter.message.position < 2 ^ 32
+  pub member : m.named.letter.message.member < length m.named.letter.layout.members
+  pub body : IsBody m.named.letter.message.body
+  pub named : is_some m.named.letter.next ≡ names_next m.named.letter.message.body
+  pub next : IfSome m.named.letter.next IsLawful

@@ -198,23 +198,28 @@ layouts_from names bytes =
 abbrev pub made_of : (numbers digest name : List ℕ) → Body → Layouts → NodeMessage
 made_of numbers digest name found layouts = record {
   digest = digest;
-  name = name;
-  layout = layouts.layout;
-  next = layouts.next;
-  message = record {
-    call = long_in CALL_PLACE numbers;
-    phase = short_in PHASE_PLACE numbers;
-    position = short_in POSITION_PLACE numbers;
-    member = byte_in MEMBER_PLACE numbers;
-    body = found;
+  named = record {
+    name = name;
+    letter = record {
+      layout = layouts.layout;
+      next = layouts.next;
+      message = record {
+        call = long_in CALL_PLACE numbers;
+        phase = short_in PHASE_PLACE numbers;
+        position = short_in POSITION_PLACE numbers;
+        member = byte_in MEMBER_PLACE numbers;
+        body = found;
+      };
+    };
   };
 }
 
 -- this message, unless its layout has no such member, or a place that it does not use has another byte than zero
 unfoldable pub checked_places : (numbers : List ℕ) → NodeMessage → Result NodeMessage Fault
 checked_places numbers m =
-    if not (nat_lt m.message.member (length m.layout.members)) then Err NoMember
-    else (if bytes_eq (number_bytes m.message (said_of m.message.body)) numbers then Ok m else Err UnusedPlace)
+    if not (nat_lt m.named.letter.message.member (length m.named.letter.layout.members)) then Err NoMember
+    else (if bytes_eq (number_bytes m.named.letter.message (said_of m.named.letter.message.body)) numbers then Ok m
+    else Err UnusedPlace)
 
 -- the message whose head has these parts, with this name and the strings after the name
 unfoldable pub message_of_parts : (numbers digest layouts name : List ℕ) → Strings → Result NodeMessage Fault

@@ -27,4 +27,4 @@ piece_strings (Some piece) = piece.bytes ∷ []
 
 -- the strings of a message: its head, the name, and the bytes of its piece if it has one
 abbrev pub strings_of : NodeMessage → Strings
-strings_of m = head_of m ∷ m.name ∷ piece_strings (body_piece m.message.body)
+strings_of m = head_of m ∷ m.named.name ∷ piece_strings (body_piece m.named.letter.message.body)

@@ -22,10 +22,10 @@ same a b = if a then b else not b
 -- belong to a request of its kind, or it has a next layout although it names none or has none although it names one
 abbrev pub checked : NodeMessage → Result (Unit {0}) Fault
 checked m =
-    if nat_lt LONGEST_NAME (length m.name) then Err NameTooLong
-    else (if not (nat_lt m.message.member (length m.layout.members)) then Err NoMember
-    else (if not (is_fitting m.message.body) then Err BadAnswer
-    else (if not (same (is_some m.next) (names_next m.message.body)) then Err BadNext
+    if nat_lt LONGEST_NAME (length m.named.name) then Err NameTooLong
+    else (if not (nat_lt m.named.letter.message.member (length m.named.letter.layout.members)) then Err NoMember
+    else (if not (is_fitting m.named.letter.message.body) then Err BadAnswer
+    else (if not (same (is_some m.named.letter.next) (names_next m.named.letter.message.body)) then Err BadNext
     else Ok tt)))
 
 -- whether strings are those of a frame: there are not too many, and none is too long

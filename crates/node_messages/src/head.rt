@@ -11,6 +11,7 @@ use crate::said::{Said, said_of};
 use bytes::Bytes;
 use cluster_file::DIGEST_LENGTH;
 use layout::Layout;
+use letter::SharedLayout;
 use mail::Message;
 use std::alloc::{AllocError, Global};
 use tag::CallId;
@@ -63,20 +64,20 @@ fn push_layout(head: &mut Vec<u8>, layout: &Layout) -> Result<(), AllocError>
 }
 
 // Appends the layout of the next position, if there is one.
-fn push_next(head: &mut Vec<u8>, next: &Option<Layout>) -> Result<(), AllocError>
+fn push_next(head: &mut Vec<u8>, next: &Option<SharedLayout>) -> Result<(), AllocError>
     ensures pushed { OnOk result (head.new.items ≡ head.old.items ++ next_bytes next.now) }
     ensures lawful { OnOk result (IfSome next.now IsLawful) }
 {
     match next {
-        Some(layout) => push_layout(head, layout),
+        Some(layout) => push_layout(head, layout.layout()),
         None => Ok(()),
     }
 }
 
 // The number of bytes of a head with layouts of so many members.
-fn length_with(layout: &Layout, next: &Option<Layout>) -> usize {
+fn length_with(layout: &Layout, next: &Option<SharedLayout>) -> usize {
     let next = match next {
-        Some(next) => 2 + usize::from(next.n()),
+        Some(next) => 2 + usize::from(next.layout().n()),
         None => 0,
     };
     NUMBERS_LENGTH + DIGEST_LENGTH + 2 + usize::from(layout.n()) + next
@@ -87,12 +88,14 @@ fn bytes_of(alloc: Global, message: &NodeMessage) -> Result<Vec<u8>, AllocError>
     ensures made { IfOk result (λ head. head.items ≡ head_of message.now) }
     ensures fits { OnOk result (HasTypedFields message.now) }
 {
-    let mut head = Vec::with_capacity(alloc, length_with(&message.layout, &message.next))?;
-    let numbers = number_bytes(&message.message, said_of(&message.message.body));
+    let letter = &message.named.letter;
+    let layout = letter.layout.layout();
+    let mut head = Vec::with_capacity(alloc, length_with(layout, &letter.next))?;
+    let numbers = number_bytes(&letter.message, said_of(&letter.message.body));
     head.extend_from_slice(&numbers)?;
     head.extend_from_slice(&message.digest)?;
-    push_layout(&mut head, &message.layout)?;
-    push_next(&mut head, &message.next)?;
+    push_layout(&mut head, layout)?;
+    push_next(&mut head, &letter.next)?;
     Ok(head)
 }
 

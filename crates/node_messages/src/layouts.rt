@@ -1,6 +1,6 @@
 //! The layouts at the end of a head.
-ghost use Rattle.std.specs.Prelude.{◌≡◌};
-ghost use Rattle.node_messages.specs.Gives.{AgreesAtBytes};
+ghost use Rattle.std.specs.Prelude.{◌≡◌, IfOk};
+ghost use Rattle.node_messages.specs.Gives.{Agrees, AgreesAtBytes};
 ghost use Rattle.node_messages.specs.Reading.{
   first_byte,
   first_layout,
@@ -10,15 +10,17 @@ ghost use Rattle.node_messages.specs.Reading.{
   whole_head,
 };
 
-use crate::error::Fault;
+use crate::error::{Fault, MessageError};
 use layout::Layout;
+use letter::SharedLayout;
 use node_strings::checked_layout;
+use std::alloc::{AllocError, Global};
 
 /// The layout of a message's position, and that of the next position if there is one.
 #[derive(Drop)]
 pub struct Layouts {
-    pub layout: Layout,
-    pub next: Option<Layout>,
+    pub layout: SharedLayout,
+    pub next: Option<SharedLayout>,
 }
 
 // The first byte.
@@ -68,21 +70,42 @@ fn next_of(is_named: bool, bytes: &[u8]) -> Result<(Option<Layout>, &[u8]), Faul
 }
 
 // These layouts, unless bytes are left behind them.
-fn whole_head(layout: Layout, next: Option<Layout>, rest: &[u8]) -> Result<Layouts, Fault>
-    ensures { result ≡ whole_head layout next rest.now }
+fn whole_head(
+    alloc: Global,
+    layout: Layout,
+    next: Option<Layout>,
+    rest: &[u8],
+) -> Result<Layouts, MessageError>
+    ensures { Agrees result (whole_head layout next rest.now) }
 {
     match rest {
-        [] => Ok(Layouts { layout, next }),
-        [_, ..] => Err(Fault::LongHead),
+        [] => Ok(shared(alloc, layout, next)?),
+        [_, ..] => Err(MessageError::Fault(Fault::LongHead)),
     }
+}
+
+// These layouts, to be shared.
+fn shared(alloc: Global, layout: Layout, next: Option<Layout>) -> Result<Layouts, AllocError>
+    ensures { IfOk result (λ layouts. layouts ≡ record { layout = layout; next = next }) }
+{
+    let next = match next {
+        Some(next) => Some(SharedLayout::new(alloc, next)?),
+        None => None,
+    };
+    let layout = SharedLayout::new(alloc, layout)?;
+    Ok(Layouts { layout, next })
 }
 
 /// Reads the layouts of a head, where a next layout is named or not.
 #[tactic(auto, unfolding(crate::specs::Reading::layouts_from))]
-pub(crate) fn layouts_of(is_named: bool, bytes: &[u8]) -> Result<Layouts, Fault>
-    ensures { result ≡ layouts_from is_named bytes.now }
+pub(crate) fn layouts_of(
+    alloc: Global,
+    is_named: bool,
+    bytes: &[u8],
+) -> Result<Layouts, MessageError>
+    ensures { Agrees result (layouts_from is_named bytes.now) }
 {
     let (layout, rest) = layout_of(bytes)?;
     let (next, rest) = next_of(is_named, rest)?;
-    whole_head(layout, next, rest)
+    whole_head(alloc, layout, next, rest)
 }

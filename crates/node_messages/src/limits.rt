@@ -48,8 +48,8 @@ fn has_low_body(body: &Body) -> bool
 
 /// Returns whether a message has no tag whose number is above `MOST_TAG_NUMBER`.
 pub fn has_low_tags(message: &NodeMessage) -> bool
-    ensures value { result ≡ has_low_tags message.now.message.body }
+    ensures value { result ≡ has_low_tags message.now.named.letter.message.body }
     ensures limit { MOST_TAG_NUMBER ≡ 2 ^ 62 }
 {
-    has_low_body(&message.message.body)
+    has_low_body(&message.named.letter.message.body)
 }

@@ -22,6 +22,7 @@ use crate::said::said_of;
 use bytes::Bytes;
 use cluster_file::DIGEST_LENGTH;
 use frames::Frame;
+use letter::{Letter, NamedLetter};
 use mail::{Body, Message};
 use std::alloc::Global;
 
@@ -29,13 +30,13 @@ use std::alloc::Global;
 ///
 /// A `Fault` is the first one in this order: of the form of the head, of the name and the number of strings, of what
 /// the head says of the body, of the layouts, of the member, and of the places that the message does not use.
-pub fn read_message(alloc: Global, frame: Frame) -> Result<NodeMessage, MessageError>
+pub fn read_message(alloc: Global, frame: &Frame) -> Result<NodeMessage, MessageError>
     // What is read is a message, and the frame is that of the message.
-    ensures found { IfOk result (λ m. IsMessage m × (frame ≡ strings_of m)) }
+    ensures found { IfOk result (λ m. IsMessage m × (frame.now ≡ strings_of m)) }
     // The frame of a message is read, unless memory is refused.
-    ensures only { (m : Sent) → IsMessage m → frame ≡ strings_of m → Agrees result (Ok m) }
+    ensures only { (m : Sent) → IsMessage m → frame.now ≡ strings_of m → Agrees result (Ok m) }
     // Which fault it is.
-    ensures exact { Agrees result (message_from frame) }
+    ensures exact { Agrees result (message_from frame.now) }
 {
     read_strings(alloc, frame.strings())
 }
@@ -66,7 +67,7 @@ fn read_parts(
 {
     let piece = last_piece(numbers, rest)?;
     let body = body_of(alloc, numbers, piece)?;
-    let layouts = layouts_of(names_next(&body), layouts)?;
+    let layouts = layouts_of(alloc, names_next(&body), layouts)?;
     checked_places(numbers, made_of(numbers, digest, name, body, layouts))
 }
 
@@ -75,10 +76,11 @@ fn read_parts(
 fn checked_places(numbers: &Numbers, message: NodeMessage) -> Result<NodeMessage, MessageError>
     ensures { Agrees result (checked_places numbers.now message) }
 {
-    if message.message.member >= message.layout.n() {
+    let letter = &message.named.letter;
+    if letter.message.member >= letter.layout.layout().n() {
         return Err(MessageError::Fault(Fault::NoMember));
     }
-    if !are_of(numbers, &message.message) {
+    if !are_of(numbers, &letter.message) {
         return Err(MessageError::Fault(Fault::UnusedPlace));
     }
     Ok(message)
@@ -103,15 +105,19 @@ fn made_of(
 {
     NodeMessage {
         digest,
-        name,
-        layout: layouts.layout,
-        next: layouts.next,
-        message: Message {
-            call: long_in(CALL_PLACE, numbers),
-            phase: short_in(PHASE_PLACE, numbers),
-            position: short_in(POSITION_PLACE, numbers),
-            member: byte_in(MEMBER_PLACE, numbers),
-            body,
+        named: NamedLetter {
+            name,
+            letter: Letter {
+                layout: layouts.layout,
+                next: layouts.next,
+                message: Message {
+                    call: long_in(CALL_PLACE, numbers),
+                    phase: short_in(PHASE_PLACE, numbers),
+                    position: short_in(POSITION_PLACE, numbers),
+                    member: byte_in(MEMBER_PLACE, numbers),
+                    body,
+                },
+            },
         },
     }
 }

@@ -50,16 +50,17 @@ fn framed(strings: Vec<Bytes>) -> Result<Frame, Fault>
 fn check(message: &NodeMessage) -> Result<(), Fault>
     ensures { result ≡ checked message.now }
 {
-    if message.name.len() > LONGEST_NAME {
+    let letter = &message.named.letter;
+    if message.named.name.len() > LONGEST_NAME {
         return Err(Fault::NameTooLong);
     }
-    if message.message.member >= message.layout.n() {
+    if letter.message.member >= letter.layout.layout().n() {
         return Err(Fault::NoMember);
     }
-    if !is_fitting(&message.message.body) {
+    if !is_fitting(&letter.message.body) {
         return Err(Fault::BadAnswer);
     }
-    if message.next.is_some() != names_next(&message.message.body) {
+    if letter.next.is_some() != names_next(&letter.message.body) {
         return Err(Fault::BadNext);
     }
     Ok(())
@@ -72,8 +73,8 @@ fn strings_of(alloc: Global, message: &NodeMessage) -> Result<Vec<Bytes>, AllocE
 {
     let mut strings = Vec::with_capacity(alloc, MOST_MESSAGE_STRINGS)?;
     strings.push(head_of(alloc, message)?)?;
-    push_shared(&mut strings, &message.name)?;
-    push_piece(&mut strings, &message.message.body)?;
+    push_shared(&mut strings, &message.named.name)?;
+    push_piece(&mut strings, &message.named.letter.message.body)?;
     Ok(strings)
 }
 

@@ -10,7 +10,6 @@ use Rattle.bank.specs.declared.row.Label.{Label}
 use Rattle.bank.specs.declared.row.Row.{Row}
 use Rattle.bank.specs.declared.status.Pointer.TheVariants.{Unset}
 use Rattle.bank.specs.declared.status.Status.{Status}
-use Rattle.bank.specs.declared.status.Status.TheVariants as status
 use Rattle.bank.specs.Bank.{Bank, opening_row, opened_bank, with_pointer}
 use Rattle.bank.specs.Collect.{emptied_row, kept_row, collected, IsCollected}
 use Rattle.bank.specs.Knowledge.{final_step, row_finalized, finalized_at, count_above, exceeds, finals_above, is_dropped}

@@ -8,7 +8,7 @@ use Rattle.bank.specs.Bank.{Bank, opened_bank}
 use Rattle.object_letters.specs.Reached.{after_requests}
 use Rattle.object_letters.specs.Requests.{requests_to}
 use Rattle.object_letters.proofs.LeadingLemmas.{requests_lead}
-use Rattle.local_object.specs.declared.letter.Letter.{Letter}
+use Rattle.letter.specs.declared.letter.Letter.{Letter}
 use Rattle.local_object.specs.Local.{LocalObject, Place, bank_here, bank_in, bank_or_opened, layout_here, layout_in, heard_place}
 use Rattle.local_object.proofs.FoundLemmas.{IsFirst, FailsBelow, first_of, element}
 use Rattle.local_object.specs.Restarts.{IsKeptHere}

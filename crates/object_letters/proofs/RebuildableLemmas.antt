@@ -17,7 +17,7 @@ use Rattle.mail.specs.declared.message.Body.TheVariants as body
 use Rattle.record.specs.declared.call.CallKind.{CallKind}
 use Rattle.record.specs.declared.stage.Stage.{Stage}
 use Rattle.open_calls.specs.OpenCalls.{NodeCall, due_phase, open_call, with_open, taking_open}
-use Rattle.local_object.specs.declared.letter.Letter.{Letter}
+use Rattle.letter.specs.declared.letter.Letter.{Letter}
 use Rattle.local_object.specs.ChangedBanks.{changes_bank, kept_bank}
 use Rattle.local_object.specs.Local.{LocalObject, Place, added_place, bank_in, bank_or_opened, last_position}
 use Rattle.local_object.specs.Local.{layout_here, layout_in, with_heard, learnt_if, new_local, heard_place, with_bank_here}

@@ -13,7 +13,7 @@ use Rattle.bank.specs.declared.request.Request.TheVariants as request
 use Rattle.bank.specs.declared.status.Status.TheVariants.{Unset, Pending, Final}
 use Rattle.object_letters.specs.Reached.{after_requests}
 use Rattle.record.specs.Legal.{is_move}
-use Rattle.local_object.specs.declared.letter.Letter.{Letter}
+use Rattle.letter.specs.declared.letter.Letter.{Letter}
 use Rattle.local_object.specs.ChangedBanks.{kept_bank}
 use Rattle.local_object.specs.Doing.{is_member, is_served, names_node}
 use Rattle.local_object.specs.Events.{LocalEvent, all_done, learnt_from, next_in_request, served_here}

@@ -7,7 +7,7 @@ use Rattle.bank.specs.Bank.{Bank}
 use Rattle.bank.specs.declared.request.Request.{Request}
 use Rattle.mail.specs.declared.message.Body.TheVariants as body
 use Rattle.object_letters.specs.Requests.{requests_to}
-use Rattle.local_object.specs.declared.letter.Letter.{Letter}
+use Rattle.letter.specs.declared.letter.Letter.{Letter}
 use Rattle.local_object.specs.Local.{LocalObject, Place, heard_place, layout_in}
 use Rattle.local_object.specs.Events.{all_done, next_in_request}
 use Rattle.local_object.specs.Doing.{serve_events}

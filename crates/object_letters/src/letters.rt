@@ -9,8 +9,8 @@ ghost use Rattle.object_letters.specs.Letters.{letter_to, letters_as, place_lett
 
 use crate::requests_of;
 use bank::{Bank, Request, Status};
-use layout::Layout;
-use local_object::{Letter, LocalObject, Place};
+use letter::{Letter, SharedLayout};
+use local_object::{LocalObject, Place};
 use mail::{Body, Message};
 use std::alloc::Global;
 use tag::Refusal;
@@ -84,7 +84,7 @@ fn letter_for(
 {
     let next = next_for(places, place.position(), &request)?;
     Ok(Letter {
-        layout: place.layout().clone()?,
+        layout: place.shared_layout().clone()?,
         next,
         message: Message {
             call: 0,
@@ -97,7 +97,11 @@ fn letter_for(
 }
 
 // The layout of the next position, if the request says that there is one and the node has heard of it.
-fn next_for(places: &[Place], position: u32, request: &Request) -> Result<Option<Layout>, Refusal>
+fn next_for(
+    places: &[Place],
+    position: u32,
+    request: &Request,
+) -> Result<Option<SharedLayout>, Refusal>
     ensures layout { IfOk result (λ layout. layout
         ≡ next_in_request request.now (layout_in (heard_place places.now (suc position)))) }
 
@@ -112,12 +116,12 @@ fn next_for(places: &[Place], position: u32, request: &Request) -> Result<Option
 }
 
 // The layout of a position, if the node has heard of it.
-fn layout_at(places: &[Place], position: u64) -> Result<Option<Layout>, Refusal>
+fn layout_at(places: &[Place], position: u64) -> Result<Option<SharedLayout>, Refusal>
     ensures layout { IfOk result (λ layout. layout ≡ layout_in (heard_place places.now position)) }
     ensures refused { IfErr result (λ e. e ≡ NoMemory) }
 {
     match index_of(places, position) {
-        Some(index) => Ok(Some(places[index].layout().clone()?)),
+        Some(index) => Ok(Some(places[index].shared_layout().clone()?)),
         None => Ok(None),
     }
 }

@@ -8,7 +8,7 @@ use Rattle.call.specs.declared.next.Next.{Next}
 use Rattle.call.specs.declared.next.Next.TheVariants as next
 use Rattle.std.specs.List.{list_any}
 use Rattle.open_calls.specs.OpenCalls.{NodeCall, due_phase, open_call, taking_open, NodeCallsDiffer}
-use Rattle.local_object.specs.declared.letter.Letter.{Letter}
+use Rattle.letter.specs.declared.letter.Letter.{Letter}
 use Rattle.local_object.specs.declared.progress.Ended.{Ended}
 use Rattle.local_object.specs.Agreement.{knows_all_of}
 use Rattle.local_object.specs.Doing.{is_move_call, has_move_open, is_taken}

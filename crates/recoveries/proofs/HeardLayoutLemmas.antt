@@ -8,7 +8,7 @@ use Rattle.std.specs.Cmp.Lexicographic.{pointwise}
 use Rattle.std.proofs.lemmas.Bool.Decides.{Decides-eqb}
 use Rattle.std.proofs.lemmas.Slice.Eq.{slice_eq-Decides}
 use Rattle.layout.specs.Layout.{Layout}
-use Rattle.local_object.specs.declared.letter.Letter.{Letter}
+use Rattle.letter.specs.declared.letter.Letter.{Letter}
 use Rattle.local_object.specs.Local.{LocalObject, layout_here, with_heard}
 use Rattle.local_object.specs.Agreement.{agrees, if_there, is_heard, is_not_another, knows_all_of, same_layout}
 use Rattle.local_object.proofs.HeardPlaceLemmas.{layout_learnt, layout_new, layout_stays}

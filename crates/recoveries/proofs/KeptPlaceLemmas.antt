@@ -4,7 +4,7 @@ use Rattle.std.proofs.Common.{slice_get, refl, sym, subst, ap, ◌∙◌}
 use Rattle.std.proofs.lemmas.Option.{same_Some}
 use Rattle.layout.specs.Layout.{Layout}
 use Rattle.bank.specs.Bank.{Bank}
-use Rattle.local_object.specs.declared.letter.Letter.{Letter}
+use Rattle.letter.specs.declared.letter.Letter.{Letter}
 use Rattle.local_object.specs.Local.{LocalObject, bank_here, bank_or_opened, layout_here, with_heard, learnt_if, with_bank_here}
 use Rattle.local_object.specs.Events.{learnt_from}
 use Rattle.local_object.specs.Agreement.{agrees, knows_all_of}

@@ -21,7 +21,7 @@ use Rattle.piece.specs.declared.piece.Piece.{Piece}
 use Rattle.record.specs.declared.call.CallKind.{CallKind}
 use Rattle.record.specs.declared.stage.Stage.{Stage}
 use Rattle.record.specs.Sending.{request_to, requests}
-use Rattle.local_object.specs.declared.letter.Letter.{Letter}
+use Rattle.letter.specs.declared.letter.Letter.{Letter}
 use Rattle.local_object.specs.Events.{LocalEvent, advanced_at, advanced_here, begun_here, done_here, if_pointed, learnt_from, letter_of}
 use Rattle.local_object.specs.Events.{next_in_answer, next_in_request, on_open_call, pieces_here, served_here, silent}
 use Rattle.local_object.specs.Local.{LocalObject, Place, bank_here, heard_place, last_position, layout_here, layout_in, with_heard}

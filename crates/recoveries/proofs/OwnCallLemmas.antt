@@ -11,7 +11,7 @@ use Rattle.deeds.proofs.IdLemmas.{given_later, later_then, next_later}
 use Rattle.open_calls.proofs.ListLemmas.{all_append, all_weaker}
 use Rattle.encoder.specs.Fragment.{fragment}
 use Rattle.layout.specs.Layout.{Layout}
-use Rattle.local_object.specs.declared.letter.Letter.{Letter}
+use Rattle.letter.specs.declared.letter.Letter.{Letter}
 use Rattle.local_object.specs.Events.{LocalEvent, Outcome, advanced_at, advanced_here, begun_here, done_here, learnt_from, on_open_call}
 use Rattle.local_object.specs.Events.{served_here, silent}
 use Rattle.local_object.specs.Local.{LocalObject, last_position, layout_here, learnt_if, with_heard}

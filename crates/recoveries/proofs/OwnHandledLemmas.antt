@@ -11,7 +11,7 @@ use Rattle.deeds.specs.Named.{NamedLetter, is_same_name, with_names}
 use Rattle.open_calls.proofs.ListLemmas.{all_append}
 use Rattle.deeds.proofs.NameLemmas.{names_decided}
 use Rattle.encoder.specs.Fragment.{fragment}
-use Rattle.local_object.specs.declared.letter.Letter.{Letter}
+use Rattle.letter.specs.declared.letter.Letter.{Letter}
 use Rattle.local_object.specs.Events.{LocalEvent, done_here}
 use Rattle.local_object.specs.Local.{LocalObject}
 use Rattle.object_letters.specs.Rebuildable.{HasLawfulLayouts, IsFit}

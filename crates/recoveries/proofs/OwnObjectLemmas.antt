@@ -9,7 +9,7 @@ use Rattle.mail.specs.declared.message.Body.TheVariants as body
 use Rattle.record.specs.declared.call.CallKind.{CallKind}
 use Rattle.record.specs.declared.stage.Stage.{Stage}
 use Rattle.open_calls.specs.OpenCalls.{NodeCall, due_phase, open_call, with_open, taking_open}
-use Rattle.local_object.specs.declared.letter.Letter.{Letter}
+use Rattle.letter.specs.declared.letter.Letter.{Letter}
 use Rattle.local_object.specs.Events.{LocalEvent, Outcome, advanced_at, advanced_here, all_done, begun_here, done_here}
 use Rattle.local_object.specs.Events.{learnt_from, on_open_call, served_here, silent}
 use Rattle.local_object.specs.Local.{LocalObject, last_position, layout_here, learnt_if, with_heard}

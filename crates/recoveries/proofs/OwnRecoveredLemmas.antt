@@ -7,7 +7,7 @@ use Rattle.call.specs.declared.next.Next.TheVariants as next
 use Rattle.deeds.specs.Kept.{KeptNode}
 use Rattle.open_calls.proofs.ListLemmas.{all_append}
 use Rattle.encoder.specs.Fragment.{fragment}
-use Rattle.local_object.specs.declared.letter.Letter.{Letter}
+use Rattle.letter.specs.declared.letter.Letter.{Letter}
 use Rattle.local_object.specs.declared.progress.Ended.{Ended}
 use Rattle.local_object.specs.Doing.{is_served, is_taken, serve_events}
 use Rattle.local_object.specs.Events.{LocalEvent, all_done}

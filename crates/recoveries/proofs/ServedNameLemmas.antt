@@ -1,6 +1,6 @@
 -- What comes of the records of a log that is written anew, name by name.
 use Rattle.std.proofs.Common.{◌≡◌, ℕ, zero, suc, ◌+◌, Bool, true, false, cond, List, [], ◌∷◌, ◌++◌, map, refl, subst, ap, ◌∙◌, arith}
-use Rattle.local_object.specs.declared.letter.Letter.{Letter}
+use Rattle.letter.specs.declared.letter.Letter.{Letter}
 use Rattle.local_object.specs.Local.{LocalObject}
 use Rattle.deeds.specs.Kept.{KeptNode}
 use Rattle.deeds.specs.Named.{is_same_name, with_named}

@@ -10,7 +10,7 @@ use Rattle.call.specs.declared.next.Next.{Next}
 use Rattle.call.specs.declared.next.Next.TheVariants as next
 use Rattle.call.specs.Call.{OpenCall as Machine}
 use Rattle.open_calls.specs.OpenCalls.{NodeCall, open_call, taking_open}
-use Rattle.local_object.specs.declared.letter.Letter.{Letter}
+use Rattle.letter.specs.declared.letter.Letter.{Letter}
 use Rattle.local_object.specs.declared.progress.Ended.{Ended}
 use Rattle.local_object.specs.Coding.{is_sendable}
 use Rattle.local_object.specs.Doing.{is_move_call, has_move_open, is_taken}
@@ -26,8 +26,7 @@ use Rattle.recoveries.proofs.KeptPlaceLemmas.{layouts_kept}
 use Rattle.recoveries.proofs.KeptCallLemmas.{IsObjectCopy, found_copy, found_id, found_moves, moves_call}
 use Rattle.recoveries.proofs.TwinLemmas.{both_advance, both_answer, both_settle, both_take, found_new, settled_is, taken_is}
 
-pub all_done_both : (local : LocalObject) (first second : List LocalEvent) →
-    (all_done fragment local (first ++ second)).local
+pub all_done_both : (local : LocalObject) (first second : List LocalEvent) → (all_done fragment local (first ++ second)).local
     ≡ (all_done fragment (all_done fragment local first).local second).local
 all_done_both local [] second = refl
 all_done_both local (event ∷ first) second = all_done_both (done_here fragment local event).local first second
@@ -35,8 +34,7 @@ all_done_both local (event ∷ first) second = all_done_both (done_here fragment
 -- The value that a call settles
 
 -- the value that is fetched is one
-one_fetched : (places : List Place) (a b : Machine) (v w : List ℕ) → a ≡ b → IsFetchedValue places a v → IsFetchedValue places b w →
-    v ≡ w
+one_fetched : (places : List Place) (a b : Machine) (v w : List ℕ) → a ≡ b → IsFetchedValue places a v → IsFetchedValue places b w → v ≡ w
 one_fetched places a b v w same first second =
     second.only v
     (subst (λ (l : Layout). IsDecoded (record { k = l.k; pieces = first_pieces l.k b.phase.replies; value = v }))
@@ -76,8 +74,7 @@ same_settling a b id same heard es fs (inl first) (inr second) =
 same_settling a b id same heard es fs (inr first) (inl second) =
     absurd (second.1 first.0 (settled_as a b id same heard first.0 first.1))
 same_settling a b id same heard es fs (inr first) (inr second) =
-    first.2
-    ∙ ap (λ v. LocalEvent.Settle id v ∷ [])
+    first.2 ∙ ap (λ v. LocalEvent.Settle id v ∷ [])
     (one_settled b id first.0 second.0 (settled_as a b id same heard first.0 first.1) second.1)
     ∙ sym second.2
 

@@ -6,7 +6,7 @@ use Rattle.bank.specs.declared.kind.Kind.{Kind}
 use Rattle.record.specs.Fragments.{Code}
 use Rattle.open_calls.specs.OpenCalls.{NodeCall, due_phase, open_call, with_open, taking_open, NodeCallsDiffer}
 use Rattle.open_calls.proofs.OpenCallLemmas.{found_with}
-use Rattle.local_object.specs.declared.letter.Letter.{Letter}
+use Rattle.letter.specs.declared.letter.Letter.{Letter}
 use Rattle.local_object.specs.Local.{LocalObject, layout_here}
 use Rattle.local_object.specs.Events.{LocalEvent, advanced_at, advanced_here, done_here, learnt_from, on_open_call, silent}
 use Rattle.local_object.proofs.HeardLayoutLemmas.{calls_heard}

@@ -2,7 +2,7 @@
 -- When what a log gives back is enough, and which records a log needs for that.
 use Rattle.std.specs.Prelude.{◌≡◌, ℕ, true, List}
 use Rattle.layout.specs.Layout.{IsLawful}
-use Rattle.local_object.specs.declared.letter.Letter.{Letter}
+use Rattle.letter.specs.declared.letter.Letter.{Letter}
 use Rattle.local_object.specs.Agreement.{agrees, knows_all_of}
 use Rattle.local_object.specs.Doing.{is_moving}
 use Rattle.local_object.specs.Restarts.{IsKeptHere}

@@ -3,7 +3,7 @@
 -- again as it has to.
 use Rattle.std.specs.Prelude.{◌≡◌, ℕ, true, false, List, [], ◌∷◌, ◌++◌, None}
 use Rattle.layout.specs.Layout.{Layout}
-use Rattle.local_object.specs.declared.letter.Letter.{Letter}
+use Rattle.letter.specs.declared.letter.Letter.{Letter}
 use Rattle.local_object.specs.Changing.{IsUnchangedBy}
 use Rattle.local_object.specs.Doing.{give_up_events, has_move_open, move_refusal, read_refusal, serve_events}
 use Rattle.local_object.specs.Doing.{write_refusal}

@@ -3,7 +3,7 @@
 use Rattle.std.specs.Prelude.{◌≡◌, ◌<◌, ◌^◌, ℕ, suc, List, [], ◌∷◌}
 use Rattle.layout.specs.Layout.{Layout}
 use Rattle.deeds.specs.CallId.{with_next_epoch}
-use Rattle.local_object.specs.declared.letter.Letter.{Letter}
+use Rattle.letter.specs.declared.letter.Letter.{Letter}
 use Rattle.local_object.specs.declared.progress.Ended.{Ended}
 use Rattle.local_object.specs.Doing.{IsDone, is_taken, serve_events}
 use Rattle.local_object.specs.Events.{LocalEvent}

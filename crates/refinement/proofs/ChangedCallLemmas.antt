@@ -8,7 +8,7 @@ use Rattle.network.specs.Worlds.{World}
 use Rattle.open_calls.specs.OpenCalls.{NodeCall, open_call, with_open}
 use Rattle.network.specs.Premises.{WasSent}
 use Rattle.open_calls.proofs.OpenCallLemmas.{all_with, found}
-use Rattle.local_object.specs.declared.letter.Letter.{Letter}
+use Rattle.letter.specs.declared.letter.Letter.{Letter}
 use Rattle.local_object.specs.Local.{LocalObject}
 use Rattle.refinement.specs.Parts.{IsPartOf, WasSentAs}
 use Rattle.refinement.specs.WellFormed.{HasAsked, HasEntry, IsWellFormed}

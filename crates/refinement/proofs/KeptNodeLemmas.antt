@@ -13,7 +13,7 @@ use Rattle.record.specs.Fragments.{Code}
 use Rattle.record.specs.Legal.{first_stage}
 use Rattle.record.specs.PhaseOrder.{begun_at}
 use Rattle.open_calls.specs.OpenCalls.{NodeCall, due_phase, open_call, with_open, taking_open}
-use Rattle.local_object.specs.declared.letter.Letter.{Letter}
+use Rattle.letter.specs.declared.letter.Letter.{Letter}
 use Rattle.local_object.specs.Local.{LocalObject, last_position, layout_here, with_heard}
 use Rattle.local_object.specs.Events.{LocalEvent, Outcome, advanced_at, advanced_here, begun_here, done_here, learnt_from, on_open_call}
 use Rattle.local_object.specs.Events.{served_here, silent}

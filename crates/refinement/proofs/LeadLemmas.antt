@@ -10,7 +10,7 @@ use Rattle.record.specs.Journals.{entry_value}
 use Rattle.deeds.specs.CallId.{CallIds}
 use Rattle.open_calls.specs.OpenCalls.{NodeCall}
 use Rattle.network.specs.Events.{answered_entry}
-use Rattle.local_object.specs.declared.letter.Letter.{Letter}
+use Rattle.letter.specs.declared.letter.Letter.{Letter}
 use Rattle.local_object.specs.declared.progress.Ended.{Ended}
 use Rattle.local_object.specs.Local.{LocalObject}
 use Rattle.refinement.specs.Systems.{IsReachedSystem, System, WasPosted, with_object_at}

@@ -5,7 +5,7 @@ use Rattle.layout.specs.Layout.{Layout}
 use Rattle.network.specs.Worlds.{World, known_layouts}
 use Rattle.network.specs.Premises.{IsOneFile}
 use Rattle.network.proofs.OneFileLemmas.{layouts_known}
-use Rattle.local_object.specs.declared.letter.Letter.{Letter}
+use Rattle.letter.specs.declared.letter.Letter.{Letter}
 use Rattle.local_object.specs.Local.{LocalObject, layout_here, with_heard, learnt_if}
 use Rattle.local_object.specs.Events.{learnt_from}
 use Rattle.refinement.specs.Parts.{IsPartOf, WasSentAs}

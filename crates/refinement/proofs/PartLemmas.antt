@@ -10,7 +10,7 @@ use Rattle.network.specs.Worlds.{World}
 use Rattle.open_calls.specs.OpenCalls.{NodeCall, NodeCallsDiffer}
 use Rattle.network.specs.Events.{Event, world_after}
 use Rattle.network.specs.Premises.{MayHappenInTurn, WasSent}
-use Rattle.local_object.specs.declared.letter.Letter.{Letter}
+use Rattle.letter.specs.declared.letter.Letter.{Letter}
 use Rattle.local_object.specs.Local.{LocalObject}
 use Rattle.local_object.specs.Events.{Outcome, silent}
 use Rattle.refinement.specs.Parts.{IsPartOf, WasSentAs}

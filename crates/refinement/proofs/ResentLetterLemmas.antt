@@ -5,7 +5,7 @@ use Rattle.mail.specs.declared.message.Message.{Message}
 use Rattle.soundness.proofs.ListLemmas.{all_get}
 use Rattle.network.specs.Worlds.{known_layouts}
 use Rattle.open_calls.proofs.OpenCallLemmas.{found}
-use Rattle.local_object.specs.declared.letter.Letter.{Letter}
+use Rattle.letter.specs.declared.letter.Letter.{Letter}
 use Rattle.local_object.specs.Events.{letter_of, pieces_here}
 use Rattle.refinement.specs.Laws.{ResentLettersWereSent}
 use Rattle.refinement.specs.Parts.{WasSentAs}

@@ -12,7 +12,7 @@ use Rattle.soundness.proofs.ListLemmas.{all_get, all_weaker}
 use Rattle.record.specs.Fragments.{Code}
 use Rattle.network.specs.Worlds.{World, member_bank, known_layouts}
 use Rattle.network.specs.Events.{Event, handled_world, served_world}
-use Rattle.local_object.specs.declared.letter.Letter.{Letter}
+use Rattle.letter.specs.declared.letter.Letter.{Letter}
 use Rattle.local_object.specs.ChangedBanks.{kept_bank}
 use Rattle.local_object.specs.Local.{LocalObject, bank_here, bank_in, heard_place, with_bank_here}
 use Rattle.local_object.specs.Events.{LocalEvent, handled_here, learnt_from, letter_of, served_here}

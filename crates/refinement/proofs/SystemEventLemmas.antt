@@ -7,7 +7,7 @@ use Rattle.record.specs.Fragments.{Code}
 use Rattle.soundness.proofs.ListLemmas.{all_get, all_weaker}
 use Rattle.network.specs.Worlds.{ClusterFile, World}
 use Rattle.network.specs.Events.{world_after}
-use Rattle.local_object.specs.declared.letter.Letter.{Letter}
+use Rattle.letter.specs.declared.letter.Letter.{Letter}
 use Rattle.local_object.specs.Local.{LocalObject}
 use Rattle.local_object.specs.Events.{LocalEvent, done_here}
 use Rattle.local_object.specs.Resent.{IsResent}

@@ -10,7 +10,7 @@ use Rattle.record.specs.Fragments.{Code}
 use Rattle.network.specs.Worlds.{World, known_layouts}
 use Rattle.open_calls.specs.OpenCalls.{NodeCall, open_call, with_open, taking_open}
 use Rattle.network.specs.Events.{Event, on_open, world_after}
-use Rattle.local_object.specs.declared.letter.Letter.{Letter}
+use Rattle.letter.specs.declared.letter.Letter.{Letter}
 use Rattle.local_object.specs.Local.{LocalObject}
 use Rattle.local_object.specs.Events.{LocalEvent, Outcome, learnt_from, on_open_call, silent}
 use Rattle.refinement.specs.Laws.{IsEventOfWorld}

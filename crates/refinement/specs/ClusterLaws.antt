@@ -4,7 +4,7 @@ use Rattle.std.specs.Prelude.{◌≡◌, ℕ, List}
 use Rattle.record.specs.declared.call.Entry.{Entry}
 use Rattle.record.specs.Fragments.{Code, IsCode}
 use Rattle.atomicity.specs.Atomic.{IsAtomic}
-use Rattle.local_object.specs.declared.letter.Letter.{Letter}
+use Rattle.letter.specs.declared.letter.Letter.{Letter}
 use Rattle.refinement.specs.Systems.{IsReachedSystem, System, WasPosted}
 use Rattle.refinement.specs.SystemValues.{KeepsValuesIn}
 use Rattle.deeds.specs.Named.{IsOneOf}

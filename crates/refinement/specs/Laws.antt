@@ -8,7 +8,7 @@ use Rattle.network.specs.Worlds.{World}
 use Rattle.open_calls.specs.OpenCalls.{NodeCall, open_call}
 use Rattle.network.specs.Events.{world_after}
 use Rattle.network.specs.Laws.{IsReached}
-use Rattle.local_object.specs.declared.letter.Letter.{Letter}
+use Rattle.letter.specs.declared.letter.Letter.{Letter}
 use Rattle.local_object.specs.Local.{LocalObject}
 use Rattle.local_object.specs.Events.{LocalEvent, all_done, done_here, silent}
 use Rattle.local_object.specs.May.{MayAllHappen, MayHappenHere}

@@ -5,7 +5,7 @@ use Rattle.std.specs.List.{filter}
 use Rattle.layout.specs.Layout.{Layout}
 use Rattle.network.specs.Worlds.{World, known_layouts, member_bank}
 use Rattle.network.specs.Premises.{WasSent}
-use Rattle.local_object.specs.declared.letter.Letter.{Letter}
+use Rattle.letter.specs.declared.letter.Letter.{Letter}
 use Rattle.local_object.specs.Local.{LocalObject, layout_here, bank_here}
 
 -- what the node keeps of the object is its part of the world: it has the delta of its cluster file; it has heard of

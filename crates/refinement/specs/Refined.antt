@@ -11,7 +11,7 @@ use Rattle.network.specs.Worlds.{World, after_restart}
 use Rattle.open_calls.specs.OpenCalls.{NodeCall, open_call}
 use Rattle.network.specs.Events.{Event, world_after, answered_entry}
 use Rattle.network.specs.Premises.{IsUnused, MayHappenInTurn}
-use Rattle.local_object.specs.declared.letter.Letter.{Letter}
+use Rattle.letter.specs.declared.letter.Letter.{Letter}
 use Rattle.local_object.specs.Local.{LocalObject}
 use Rattle.local_object.specs.Events.{LocalEvent, Outcome}
 use Rattle.refinement.specs.Parts.{IsPartOf, WasSentAs}

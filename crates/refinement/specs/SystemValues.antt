@@ -12,7 +12,7 @@ use Rattle.record.specs.declared.call.Operation.TheVariants as operation
 use Rattle.record.specs.Fragments.{Code, IsFragment, body_piece, body_tag}
 use Rattle.record.specs.Journals.{entry_value, operation_of}
 use Rattle.open_calls.specs.OpenCalls.{NodeCall}
-use Rattle.local_object.specs.declared.letter.Letter.{Letter}
+use Rattle.letter.specs.declared.letter.Letter.{Letter}
 use Rattle.local_object.specs.Local.{bank_here, layout_here}
 use Rattle.refinement.specs.Systems.{System, WasPosted}
 

@@ -8,7 +8,7 @@ use Rattle.record.specs.declared.call.Entry.{Entry}
 use Rattle.record.specs.Fragments.{Code}
 use Rattle.network.specs.Worlds.{ClusterFile, World}
 use Rattle.network.specs.Premises.{IsOneFile}
-use Rattle.local_object.specs.declared.letter.Letter.{Letter}
+use Rattle.letter.specs.declared.letter.Letter.{Letter}
 use Rattle.local_object.specs.Local.{LocalObject, new_local}
 use Rattle.local_object.specs.Events.{LocalEvent, Outcome, done_here}
 use Rattle.local_object.specs.May.{MayHappenHere}

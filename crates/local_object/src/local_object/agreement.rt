@@ -3,8 +3,9 @@
 ghost use Rattle.std.specs.Prelude.{◌≡◌, option_copied};
 ghost use Rattle.local_object.specs.Agreement.{agrees, is_heard, is_not_another, knows_all_of};
 
-use crate::{Letter, LocalObject};
+use crate::LocalObject;
 use layout::Layout;
+use letter::Letter;
 
 impl LocalObject {
     /// Whether no layout in the letter differs from the one that the node has heard of for its position. While all
@@ -13,9 +14,10 @@ impl LocalObject {
         ensures { result ≡ agrees self.now letter.now }
     {
         let position = u64::from(letter.message.position);
-        let agrees = is_not_another(self.places.layout_of(position), &letter.layout);
+        let agrees = is_not_another(self.places.layout_of(position), letter.layout.layout());
         match &letter.next {
-            Some(next) => agrees && is_not_another(self.places.layout_of(position + 1), next),
+            Some(next) => agrees
+                && is_not_another(self.places.layout_of(position + 1), next.layout()),
             None => agrees,
         }
     }
@@ -27,9 +29,9 @@ impl LocalObject {
         ensures { result ≡ knows_all_of self.now letter.now }
     {
         let position = u64::from(letter.message.position);
-        let knows = is_heard(self.places.layout_of(position), &letter.layout);
+        let knows = is_heard(self.places.layout_of(position), letter.layout.layout());
         match &letter.next {
-            Some(next) => knows && is_heard(self.places.layout_of(position + 1), next),
+            Some(next) => knows && is_heard(self.places.layout_of(position + 1), next.layout()),
             None => knows,
         }
     }

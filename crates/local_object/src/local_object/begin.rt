@@ -12,12 +12,13 @@ ghost use Rattle.local_object.specs.Local.{last_position, layout_here};
 ghost use Rattle.local_object.specs.Events.{LocalEvent, begun_here};
 ghost use Rattle.local_object.specs.Doing.{IsDone, is_moving, move_refusal, read_refusal, unless_open, write_refusal};
 
+use crate::LocalObject;
 use crate::letters::letters_of;
-use crate::{Letter, LocalObject};
 use bank::{Kind, Status};
 use bytes::Bytes;
 use call::{Call, requests};
 use layout::Layout;
+use letter::{Letter, SharedLayout};
 use mail::Ask;
 use record::{CallKind, Stage};
 use tag::{CallId, LONGEST_VALUE, Refusal};
@@ -83,11 +84,17 @@ impl LocalObject {
         if last >= u32::MAX - 1 {
             return Err(Refusal::Full);
         }
+        let layout = SharedLayout::new(self.alloc, layout)?;
         self.begin_from(id, last, &layout)
     }
 
     // Begins a move from the last position to a new one with this layout.
-    fn begin_from(&mut self, id: CallId, last: u32, layout: &Layout) -> Result<Vec<Letter>, Refusal>
+    fn begin_from(
+        &mut self,
+        id: CallId,
+        last: u32,
+        layout: &SharedLayout,
+    ) -> Result<Vec<Letter>, Refusal>
         requires last { last ≡ last_position self.old }
         requires known { IsSome (layout_here self.old last) }
         requires room { last + 2 < 2 ^ 32 }
@@ -98,7 +105,7 @@ impl LocalObject {
 
         ensures refused { IfErr result (λ e. e ≡ NoMemory) }
     {
-        prove!(layout.k() >= 1);
+        prove!(layout.layout().k() >= 1);
         self.places.learn(last + 1, layout)?;
         let stage = Stage::MoveSpread { position: last };
         self.begin(
@@ -142,7 +149,7 @@ impl LocalObject {
 
         ensures refused { IfErr result (λ e. e ≡ NoMemory) }
     {
-        let Some(layout) = self.places.layout_of(u64::from(position)) else {
+        let Some(layout) = self.places.shared_layout_of(u64::from(position)) else {
             unreachable!();
         };
         let ask = Ask {
@@ -151,9 +158,9 @@ impl LocalObject {
             position,
             kind: asked,
         };
-        let messages = requests(self.alloc, ask, layout.n(), None)?;
+        let messages = requests(self.alloc, ask, layout.layout().n(), None)?;
         let letters = letters_of(self.alloc, &self.places, layout, messages)?;
-        let call = Call::begin(self.alloc, ask, kind, stage, layout, 0)?;
+        let call = Call::begin(self.alloc, ask, kind, stage, layout.layout(), 0)?;
         self.calls.add(call)?;
         Ok(letters)
     }

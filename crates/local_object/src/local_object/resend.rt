@@ -7,10 +7,11 @@ ghost use Rattle.encoder.specs.Fragment.{fragment};
 ghost use Rattle.local_object.specs.Doing.{IsDone, give_up_events, gives_up};
 ghost use Rattle.local_object.specs.Resent.{IsResent, letters_again};
 
+use crate::LocalObject;
 use crate::calls::is_move;
 use crate::coding::is_sendable;
 use crate::missing::missing;
-use crate::{Letter, LocalObject};
+use letter::Letter;
 use tag::{CallId, Refusal};
 
 impl LocalObject {
@@ -30,7 +31,7 @@ impl LocalObject {
         };
         let call = self.calls.at(index);
         let phase = call.phase();
-        let Some(layout) = self.places.layout_of(u64::from(phase.position())) else {
+        let Some(layout) = self.places.shared_layout_of(u64::from(phase.position())) else {
             return Ok(Vec::new(self.alloc));
         };
         if !is_sendable(phase.kind(), call) {

@@ -8,8 +8,9 @@ ghost use Rattle.local_object.specs.Going.{HasDone, taken_here};
 ghost use Rattle.local_object.specs.Taking.{HasDoneBy, IsTaken, is_repeat_in, repeats};
 
 use super::has_next;
-use crate::{Letter, LocalObject, Progress};
+use crate::{LocalObject, Progress};
 use call::Call;
+use letter::Letter;
 use mail::{Body, Message};
 use tag::Refusal;
 

@@ -8,8 +8,9 @@ ghost use Rattle.local_object.specs.New.{is_new};
 
 use crate::calls::is_move;
 use crate::changes::changes;
-use crate::{Letter, LocalObject, Place};
+use crate::{LocalObject, Place};
 use layout::Layout;
+use letter::Letter;
 use tag::CallId;
 
 impl LocalObject {

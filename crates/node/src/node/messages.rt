@@ -1,17 +1,19 @@
 //! What a node does with messages of other nodes and with its letters to itself.
-ghost use Rattle.std.specs.Prelude.{◌≡◌, OnOk};
+ghost use Rattle.std.specs.Prelude.{◌≡◌, IfSome, OnOk};
 ghost use Rattle.node_keeper.specs.Acts.{Acts};
 ghost use Rattle.node_messages.specs.Reading.{message_from};
 ghost use Rattle.node_effects.specs.Seen.{named_of};
 ghost use Rattle.node_keeper.specs.Keeping.{if_heeded, kept_of};
+ghost use Rattle.node_keeper.specs.Sendings.{IsFrameOf};
 ghost use Rattle.node.specs.Frames.{is_admitted, is_from_cluster, letter_from, letter_if_read};
 ghost use Rattle.node.specs.Peers.{IsChangedByMessage, IsChangedIfRead};
 ghost use Rattle.node.specs.Serving.{ServesMore};
 
 use super::Node;
 use frames::Frame;
-use node_effects::{NamedLetter, NodeError, Report, Work};
-use node_keeper::{Delivered, letter_of};
+use letter::NamedLetter;
+use node_effects::{NodeError, Report, Work};
+use node_keeper::Delivered;
 use node_messages::{MessageError, NodeMessage, has_low_tags, read_message};
 
 impl Node {
@@ -29,8 +31,8 @@ impl Node {
         ensures peers { OnOk result
             (IsChangedIfRead self.old.keeper sender (message_from frame) self.old.peers self.new.peers) }
     {
-        match read_message(self.alloc, frame) {
-            Ok(message) => self.admit(sender, message, work),
+        match read_message(self.alloc, &frame) {
+            Ok(message) => self.admit(sender, message, frame, work),
             Err(MessageError::NoMemory) => Err(NodeError::NoMemory),
             Err(MessageError::Fault(_)) => {
                 self.desk.drop_frame();
@@ -40,7 +42,14 @@ impl Node {
     }
 
     // A message has come, which is dropped unless it is admitted. It is told of a node with another cluster file.
-    fn admit(&mut self, sender: u8, message: NodeMessage, work: &mut Work) -> Result<(), NodeError>
+    fn admit(
+        &mut self,
+        sender: u8,
+        message: NodeMessage,
+        frame: Frame,
+        work: &mut Work,
+    ) -> Result<(), NodeError>
+        requires { IsFrameOf message.digest message.named frame }
         ensures acts { OnOk result (Acts sender (letter_from self.old.keeper sender message)
             self.old.keeper work.old self.new.keeper work.new) }
         ensures serves { OnOk result (ServesMore self.old work.old self.new work.new) }
@@ -59,7 +68,7 @@ impl Node {
             self.desk.drop_frame();
             return Ok(());
         }
-        self.deliver(sender, letter_of(message), work)
+        self.deliver(sender, message.named, Some(frame), work)
     }
 
     // Whether a message comes from a node of this cluster, and has no tag above the limit. A tag near the greatest one
@@ -77,19 +86,22 @@ impl Node {
         self.keeper.file.has_node(sender) && message.digest == self.keeper.digest
     }
 
-    /// Handles a letter from the node with this number, which may be this node itself.
+    /// Handles a letter from the node with this number, which may be this node itself. `came` is its frame, if it came
+    /// in one.
     pub(super) fn deliver(
         &mut self,
         sender: u8,
         it: NamedLetter,
+        came: Option<Frame>,
         work: &mut Work,
     ) -> Result<(), NodeError>
+        requires { IfSome came (IsFrameOf self.old.keeper.digest it) }
         ensures acts { OnOk result (Acts sender (if_heeded (kept_of self.old.keeper) (named_of it))
             self.old.keeper work.old self.new.keeper work.new) }
         ensures serves { OnOk result (ServesMore self.old work.old self.new work.new) }
         ensures peers { self.new.peers ≡ self.old.peers }
     {
-        match self.keeper.deliver(sender, it, work)? {
+        match self.keeper.deliver(sender, it, came, work)? {
             Delivered::Dropped => {
                 self.desk.drop_frame();
                 Ok(())

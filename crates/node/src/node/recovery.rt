@@ -17,8 +17,8 @@ use client_commands::Wanted;
 use cluster_file::DIGEST_LENGTH;
 use frames::Frame;
 use layout::Layout;
-use node_effects::{NamedLetter, NodeError, RecoveryError};
-use node_keeper::letter_of;
+use letter::NamedLetter;
+use node_effects::{NodeError, RecoveryError};
 use node_messages::{MessageError, read_message};
 use node_strings::Record;
 use tag::CallId;
@@ -98,8 +98,8 @@ impl Node {
         ensures read { IfOk result (IsLetterOf frame) }
         ensures refused { IfErr result (RefusesLetter frame) }
     {
-        match read_message(self.alloc, frame) {
-            Ok(message) => Ok(letter_of(message)),
+        match read_message(self.alloc, &frame) {
+            Ok(message) => Ok(message.named),
             Err(MessageError::NoMemory) => Err(RecoveryError::Stopped(NodeError::NoMemory)),
             Err(MessageError::Fault(_)) => Err(RecoveryError::NoEntry),
         }

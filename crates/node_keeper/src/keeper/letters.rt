@@ -1,5 +1,5 @@
 //! Letters that have come.
-ghost use Rattle.std.specs.Prelude.{◌≡◌, ◌∷◌, [], ℕ, true, false, IfErr, IfOk, OnOk, Option};
+ghost use Rattle.std.specs.Prelude.{◌≡◌, ◌∷◌, [], ℕ, true, false, IfErr, IfOk, IfSome, OnOk, Option};
 ghost use Rattle.std.specs.List.{AllByRecursion};
 ghost use Rattle.layout.specs.Layout.{IsLawful};
 ghost use Rattle.local_object.specs.Changing.{IsUnchangedBy, is_changed_by};
@@ -18,22 +18,20 @@ ghost use Rattle.node_effects.specs.Work.{IsGrown, one_entry};
 ghost use Rattle.node_keeper.specs.Acts.{Acts, logged_growth};
 ghost use Rattle.node_keeper.specs.Keeping.{heeds, if_heeded, kept_of};
 ghost use Rattle.node_keeper.specs.Logging.{log_entry_of};
-ghost use Rattle.node_keeper.specs.Sendings.{letter_of_message};
+ghost use Rattle.node_keeper.specs.Sendings.{IsFrameOf};
 
 use super::Keeper;
 use crate::delivered::Delivered;
-use crate::entries::log_record;
-use crate::post::{framed, is_request, letter_of, message_of};
+use crate::post::{is_request, log_message, message_of};
 use bytes::Bytes;
+use frames::Frame;
+use letter::NamedLetter;
 use local_object::Ended;
-use mail::Body;
-use node_effects::{NamedLetter, NodeError, Notice, Work};
-use node_messages::NodeMessage;
-use node_strings::Record;
-use std::alloc::Global;
+use node_effects::{NodeError, Notice, Work};
 
 impl Keeper {
     /// Serves the request or takes the reply in a letter from the node with this number, which may be this node itself.
+    /// `came` is the frame of the letter, as a message of this cluster, if it came in one: that is what is logged.
     /// Drops the letter if it names no member, or if its layouts contradict those of which the node has heard. The node
     /// that moves objects also drops a letter with a layout of which it has not heard. Logs a request that may change a
     /// bank before it is served, and a reply to an open move before the move takes it.
@@ -43,8 +41,10 @@ impl Keeper {
         &mut self,
         sender: u8,
         it: NamedLetter,
+        came: Option<Frame>,
         work: &mut Work,
     ) -> Result<Delivered, NodeError>
+        requires { IfSome came (IsFrameOf self.old.digest it) }
         ensures acts { OnOk result
             (Acts sender (if_heeded (kept_of self.old) (named_of it)) self.old work.old self.new work.new) }
         ensures delivers { IfOk result (DeliversLetter sender it self.old work.old self.new work.new) }
@@ -54,9 +54,9 @@ impl Keeper {
             return Ok(Delivered::Dropped);
         }
         if is_request(&it.letter) {
-            self.serve(sender, it, work)
+            self.serve(sender, it, came, work)
         } else {
-            self.take(it, work)
+            self.take(it, came, work)
         }
     }
 
@@ -67,7 +67,7 @@ impl Keeper {
         ensures lawful { IfOk result (λ is. is ≡ true → IsLawful it.now.letter.layout) }
         ensures refused { IfErr result (λ e. e ≡ NoMemory) }
     {
-        if it.letter.message.member >= it.letter.layout.n() {
+        if it.letter.message.member >= it.letter.layout.layout().n() {
             return Ok(false);
         }
         if !self.objects.agrees_with(&it.name, &it.letter)? {
@@ -84,8 +84,10 @@ impl Keeper {
         &mut self,
         sender: u8,
         it: NamedLetter,
+        came: Option<Frame>,
         work: &mut Work,
     ) -> Result<Delivered, NodeError>
+        requires came { IfSome came (IsFrameOf self.old.digest it) }
         requires heeded { IsHeeded (kept_of self.old) it.name it.letter }
         requires asks { is_request it.letter.message.body ≡ true }
         ensures acts { OnOk result
@@ -95,7 +97,7 @@ impl Keeper {
         ensures handled { IfOk result (λ served. served ≡ Delivered.Handled) }
         ensures refused { IfErr result (IsUnwritten (CanServe sender it self.old)) }
     {
-        let it = self.log_serve(it, work)?;
+        let it = self.log_serve(it, came, work)?;
         let NamedLetter { name, letter } = it;
         match self.objects.serve(&name, letter)? {
             Some(reply) => {
@@ -108,7 +110,13 @@ impl Keeper {
     }
 
     // Takes a reply, and goes on with its call. A reply to an open move goes to the log first.
-    fn take(&mut self, it: NamedLetter, work: &mut Work) -> Result<Delivered, NodeError>
+    fn take(
+        &mut self,
+        it: NamedLetter,
+        came: Option<Frame>,
+        work: &mut Work,
+    ) -> Result<Delivered, NodeError>
+        requires came { IfSome came (IsFrameOf self.old.digest it) }
         requires heeded { IsHeeded (kept_of self.old) it.name it.letter }
         requires answers { is_request it.letter.message.body ≡ false }
         ensures acts { OnOk result
@@ -119,7 +127,7 @@ impl Keeper {
 
         ensures refused { IfErr result (IsUnwritten (CanTake it self.old)) }
     {
-        let it = self.log_take(it, work)?;
+        let it = self.log_take(it, came, work)?;
         let NamedLetter { name, letter } = it;
         let progress = self.objects.take(&name, letter)?;
         self.post(&name, progress.letters, work)?;
@@ -127,8 +135,14 @@ impl Keeper {
     }
 
     // A request goes to the log, if it may change a bank. Returns the same letter.
-    fn log_serve(&self, it: NamedLetter, work: &mut Work) -> Result<NamedLetter, NodeError>
-        requires { is_request it.letter.message.body ≡ true }
+    fn log_serve(
+        &self,
+        it: NamedLetter,
+        came: Option<Frame>,
+        work: &mut Work,
+    ) -> Result<NamedLetter, NodeError>
+        requires came { IfSome came (IsFrameOf self.now.digest it) }
+        requires asks { is_request it.letter.message.body ≡ true }
         ensures same { IfOk result (λ same. same ≡ it) }
         ensures logged { OnOk result
             (IsGrown work.old work.new (logged_growth self.now.digest (served_records self.now it))) }
@@ -141,12 +155,18 @@ impl Keeper {
         if !self.objects.is_changed_by(&it.name, &it.letter)? {
             return Ok(it);
         }
-        self.log_arrival(it, work)
+        self.log_arrival(it, came, work)
     }
 
     // A reply goes to the log, if its call is an open move. Returns the same letter.
-    fn log_take(&self, it: NamedLetter, work: &mut Work) -> Result<NamedLetter, NodeError>
-        requires { is_request it.letter.message.body ≡ false }
+    fn log_take(
+        &self,
+        it: NamedLetter,
+        came: Option<Frame>,
+        work: &mut Work,
+    ) -> Result<NamedLetter, NodeError>
+        requires came { IfSome came (IsFrameOf self.now.digest it) }
+        requires answers { is_request it.letter.message.body ≡ false }
         ensures same { IfOk result (λ same. same ≡ it) }
         ensures logged { OnOk result
             (IsGrown work.old work.new (logged_growth self.now.digest (taken_records self.now it))) }
@@ -156,33 +176,25 @@ impl Keeper {
         if !self.objects.is_open_move(&it.name, it.letter.message.call) {
             return Ok(it);
         }
-        self.log_arrival(it, work)
+        self.log_arrival(it, came, work)
     }
 
     // A letter goes to the log, as a request that is served, or as a reply that is taken. Returns the same letter.
-    fn log_arrival(&self, it: NamedLetter, work: &mut Work) -> Result<NamedLetter, NodeError>
+    fn log_arrival(
+        &self,
+        it: NamedLetter,
+        came: Option<Frame>,
+        work: &mut Work,
+    ) -> Result<NamedLetter, NodeError>
+        requires { IfSome came (IsFrameOf self.now.digest it) }
         ensures same { IfOk result (λ same. same ≡ it) }
         ensures logged { OnOk result
             (IsGrown work.old work.new (one_entry (log_entry_of self.now.digest (arrival_record it)))) }
         ensures writes { WritesOrFails (IsLoggable self.now.digest (arrival_record it)) result }
     {
         let message = message_of(self.digest, it);
-        log_message(self.alloc, &message, work)?;
-        Ok(letter_of(message))
-    }
-}
-
-// A message goes to the log, as a request that is served, or as a reply that is taken.
-fn log_message(alloc: Global, message: &NodeMessage, work: &mut Work) -> Result<(), NodeError>
-    ensures logged { OnOk result (IsGrown work.old work.new
-        (one_entry (log_entry_of message.now.digest (arrival_record (letter_of_message message.now))))) }
-    ensures writes { WritesOrFails
-        (IsLoggable message.now.digest (arrival_record (letter_of_message message.now))) result }
-{
-    let frame = framed(alloc, message)?;
-    match &message.message.body {
-        Body::Request(_) => log_record(work, Record::Serve(frame)),
-        Body::Reply { kind: _, reply: _ } => log_record(work, Record::Take(frame)),
+        log_message(self.alloc, &message, came, work)?;
+        Ok(message.named)
     }
 }
 

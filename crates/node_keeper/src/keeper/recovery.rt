@@ -13,8 +13,9 @@ ghost use Rattle.node_keeper.specs.Keeping.{kept_of};
 use super::Keeper;
 use bytes::Bytes;
 use layout::Layout;
+use letter::NamedLetter;
 use local_object::Ended;
-use node_effects::{NamedLetter, NodeError};
+use node_effects::NodeError;
 use tag::CallId;
 
 impl Keeper {

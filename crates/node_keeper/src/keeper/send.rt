@@ -9,8 +9,8 @@ ghost use Rattle.node_keeper.specs.Sendings.{asked, sending, sent_growth, to_one
 use super::Keeper;
 use crate::post::{framed_letter, member_or};
 use bytes::Bytes;
-use local_object::Letter;
-use node_effects::{NamedLetter, NodeError, Work};
+use letter::{Letter, NamedLetter};
+use node_effects::{NodeError, Work};
 
 impl Keeper {
     // Requests of the object of this name go to their members.

@@ -13,7 +13,7 @@ ghost use Rattle.node_keeper.specs.Objects.{AreSame, objects_of};
 use super::Objects;
 use bytes::Bytes;
 use layout::Layout;
-use local_object::Letter;
+use letter::Letter;
 use tag::{CallId, LONGEST_VALUE, Refusal};
 
 impl Objects {

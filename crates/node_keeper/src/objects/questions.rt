@@ -11,7 +11,7 @@ ghost use Rattle.node_keeper.specs.Objects.{bytes_in_banks, first_layout_of, hea
 use super::Objects;
 use bytes::Bytes;
 use layout::Layout;
-use local_object::Letter;
+use letter::Letter;
 use tag::{CallId, Refusal};
 
 impl Objects {

@@ -7,7 +7,8 @@ ghost use Rattle.node_keeper.specs.Objects.{IsSpared, objects_of};
 
 use super::Objects;
 use bytes::Bytes;
-use local_object::{Letter, Progress};
+use letter::Letter;
+use local_object::Progress;
 use tag::{CallId, Refusal};
 
 impl Objects {

@@ -10,7 +10,7 @@ ghost use Rattle.node_keeper.specs.Objects.{IsSpared, objects_of};
 
 use super::Objects;
 use bytes::Bytes;
-use local_object::Letter;
+use letter::Letter;
 use tag::{CallId, Refusal};
 
 impl Objects {

@@ -1,9 +1,11 @@
-use Rattle.std.proofs.Common.{◌≡◌, suc, ◌+◌, ◌^◌, map, refl, sym, subst, ap, ◌∙◌, arith}
+use Rattle.std.proofs.Common.{◌≡◌, suc, ◌+◌, ◌^◌, map, slice_set, refl, sym, subst, ap, ◌∙◌, arith}
 use Rattle.std.proofs.lemmas.Bool.{lt-ltb}
 use Rattle.encoder.specs.Fragment.{fragment}
+use Rattle.layout.specs.Layout.{Layout}
 use Rattle.mail.specs.Phase.{Phase}
 use Rattle.record.specs.Sending.{fragment_piece, requests}
 use Rattle.call.specs.Call.{OpenCall as Machine}
+use Rattle.call.specs.Steps.{entered, phase_next}
 use Rattle.local_object.specs.Coding.{call_value}
 use Rattle.local_object.specs.Going.{IsAdvancedIf}
 use Rattle.local_object.specs.Letters.{letter_in}
@@ -67,10 +69,13 @@ returns-clause-advanced c = λ call at.
     (record {
       layout = layout;
       known = known;
-      calls = c.in_ok-begin_next.ensures.begun read c.at-call.ensures;
+      calls = c.in_ok-begin_next.ensures.begun read c.at-call.ensures
+          ∙ ap (λ (l : Layout). slice_set calls c.args.index (entered read (phase_next read kind position l 0))) c.layout-2.ensures;
       sent = c.in_ok-letters.ensures.letters
           ∙ ap (map (letter_in places layout))
           (c.in_ok-messages.ensures.requests
+          ∙ ap (λ (l : Layout). requests c.id.result (c.number-number.result + 1) kind position l.members 0
+          (fragment_piece fragment l (call_value read))) c.layout.ensures
           ∙ ap (λ id. requests id (c.number-number.result + 1) kind position layout.members 0
           (fragment_piece fragment layout (call_value read))) c.id.ensures
           ∙ ap (λ n. requests read.id n kind position layout.members 0 (fragment_piece fragment layout (call_value read))) next);

@@ -1,7 +1,7 @@
 use Rattle.std.proofs.Common.{◌≡◌, filter, not, rules, ap, ◌∙◌}
 use Rattle.std.proofs.lemmas.Fn.{filter_same}
 use Rattle.mail.specs.Phase.{Phase, has_taken}
-use Rattle.local_object.specs.declared.letter.Letter.{Letter}
+use Rattle.letter.specs.declared.letter.Letter.{Letter}
 use Rattle.local_object.specs.Sent.{unanswered}
 use Rattle.local_object.proofs.missing.keep_unanswered.Goals as goal
 

@@ -1,5 +1,6 @@
 use Rattle.std.proofs.Common.{List, map, ap, sym, ◌∙◌}
 use Rattle.encoder.specs.Fragment.{fragment}
+use Rattle.layout.specs.Layout.{Layout}
 use Rattle.mail.specs.declared.message.Message.{Message}
 use Rattle.mail.specs.declared.phase.Ask.{Ask}
 use Rattle.record.specs.Sending.{fragment_piece, requests}
@@ -13,22 +14,26 @@ pub returns-then-begins_anew-clause-letters : goal.returns-then-begins_anew-clau
 returns-then-begins_anew-clause-letters c =
     let call = c.args.call.now in
     let layout = c.args.layout.now in
+    let of = λ (l : Layout) (a : Ask). requests a.call a.number a.kind a.position l.members 0
+    (fragment_piece fragment l (call_value call)) in
     let sent = λ (a : Ask). requests a.call a.number a.kind a.position layout.members 0
     (fragment_piece fragment layout (call_value call)) in
     c.in_ok-letters.ensures.letters
     ∙ ap (λ (ms : List Message). map (letter_in c.args.places.now layout) ms)
-    (c.in_ok-messages.ensures.requests ∙ ap sent c.ask.ensures)
+    (c.in_ok-messages.ensures.requests ∙ ap (λ (l : Layout). of l c.ask.result) c.layout.ensures ∙ ap sent c.ask.ensures)
     ∙ sym (all_again call (sent_letters c.args.places.now call layout) (sym c.begins_anew.ensures ∙ c.if-begins_anew.true))
 
 pub returns-clause-letters : goal.returns-clause-letters
 returns-clause-letters c =
     let call = c.args.call.now in
     let layout = c.args.layout.now in
+    let of = λ (l : Layout) (a : Ask). requests a.call a.number a.kind a.position l.members 0
+    (fragment_piece fragment l (call_value call)) in
     let sent = λ (a : Ask). requests a.call a.number a.kind a.position layout.members 0
     (fragment_piece fragment layout (call_value call)) in
     c.keep_unanswered.ensures
     ∙ ap (unanswered call.phase.replies)
     (c.in_ok-letters.ensures.letters
     ∙ ap (λ (ms : List Message). map (letter_in c.args.places.now layout) ms)
-    (c.in_ok-messages.ensures.requests ∙ ap sent c.ask.ensures))
+    (c.in_ok-messages.ensures.requests ∙ ap (λ (l : Layout). of l c.ask.result) c.layout.ensures ∙ ap sent c.ask.ensures))
     ∙ sym (some_again call (sent_letters c.args.places.now call layout) (sym c.begins_anew.ensures ∙ c.if-begins_anew.false))

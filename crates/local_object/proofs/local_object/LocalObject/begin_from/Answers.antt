@@ -1,4 +1,5 @@
 use Rattle.std.proofs.Common.{◌+◌, IsSome, sym, subst}
+use Rattle.layout.specs.Layout.{IsLawful, Layout}
 use Rattle.local_object.specs.Codes.{carried}
 use Rattle.local_object.specs.Local.{LocalObject, layout_here, layout_in, heard_place}
 use Rattle.local_object.proofs.BeginLemmas.{known_added, move_done, ok_both}
@@ -17,4 +18,4 @@ returns-clause-done c =
     let local : LocalObject = record { node = o.node; delta = o.delta; places = o.places; calls = carried o.node o.calls } in
     ok_both c.begin.result c.begin.ensures.local c.begin.ensures.letters
     (λ letters is sent. move_done {o = local} c.self.view_is c.args.id c.args.layout.now c.requires.last c.in_ok-learn.ensures.places
-    c.k.ensures.lawful c.requires.still c.begin.new.self letters.items is sent)
+    (subst (λ (l : Layout). IsLawful l) c.layout.ensures c.k.ensures.lawful) c.requires.still c.begin.new.self letters.items is sent)

@@ -30,6 +30,6 @@ returns-in-None c =
     (sym c.has_next.ensures ∙ c.if-not-has_next.false)
     (c.has_member-in-None.ensures
     ∙ ap (λ (l : Layout). has_member l letter.message.member o.node)
-    (unknown_or (layout_in (heard_place o.places position)) letter.layout
+    (c.layout.ensures ∙ unknown_or (layout_in (heard_place o.places position)) letter.layout
     (c.in-None.ensures ∙ ap (λ n. layout_in (heard_place o.places n)) c.from.ensures)))
     ∙ ap (λ (l : LocalObject). is_served l letter) c.self.view_is

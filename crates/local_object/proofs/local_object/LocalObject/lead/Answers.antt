@@ -2,7 +2,7 @@ use Rattle.std.proofs.Common.{◌≡◌, ◌⊎◌, List, ◌∷◌, [], refl, a
 use Rattle.std.specs.Option.{option_to_list}
 use Rattle.call.specs.declared.next.Next.TheVariants as next
 use Rattle.call.specs.Call.{OpenCall as Machine}
-use Rattle.local_object.specs.declared.letter.Letter.{Letter}
+use Rattle.letter.specs.declared.letter.Letter.{Letter}
 use Rattle.local_object.specs.declared.progress.Ended.{Ended}
 use Rattle.local_object.specs.Codes.{at_node}
 use Rattle.local_object.specs.Ended.{told_of}

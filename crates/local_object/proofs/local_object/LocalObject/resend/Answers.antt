@@ -25,13 +25,13 @@ pub at-call-requires : goal.at-call-requires
 at-call-requires c =
     let at = c.in-Some.ensures.index in slice_get_within c.self.inside.calls c.in-Some.index at.call at.there
 
-pub returns-in_default-layout_of-clause-letters : goal.returns-in_default-layout_of-clause-letters
-returns-in_default-layout_of-clause-letters c =
+pub returns-in_default-shared_layout_of-clause-letters : goal.returns-in_default-shared_layout_of-clause-letters
+returns-in_default-shared_layout_of-clause-letters c =
     let o = c.self.inside in
-    subst (λ (l : LocalObject). c.new-in_default-layout_of.result.items ≡ letters_again fragment l c.args.id) c.self.view_is
-    (c.new-in_default-layout_of.ensures.items
+    subst (λ (l : LocalObject). c.new-in_default-shared_layout_of.result.items ≡ letters_again fragment l c.args.id) c.self.view_is
+    (c.new-in_default-shared_layout_of.ensures.items
     ∙ sym (unknown_again o.node o.delta o.places c.in-Some.ensures.distinct c.in-Some.ensures.index c.at-call.result.now c.at-call.ensures
-    (sym (c.in_default-layout_of.ensures
+    (sym (c.in_default-shared_layout_of.ensures
     ∙ ap (λ n. layout_in (heard_place o.places n))
     (c.from.ensures ∙ c.position.ensures ∙ ap (λ (p : Phase). p.position) c.phase-phase.ensures.value)))))
 
@@ -43,8 +43,8 @@ returns-then-not-is_sendable-clause-letters c =
     subst (λ (l : LocalObject). c.new-then-not-is_sendable.result.items ≡ letters_again fragment l c.args.id) c.self.view_is
     (c.new-then-not-is_sendable.ensures.items
     ∙ sym (unsendable_again o.node o.delta o.places c.in-Some.ensures.distinct c.in-Some.ensures.index call c.at-call.ensures
-    c.in-Some-layout_of.layout.now
-    (sym (c.in-Some-layout_of.ensures
+    c.in-Some-shared_layout_of.layout.now
+    (sym (c.in-Some-shared_layout_of.ensures
     ∙ ap (λ n. layout_in (heard_place o.places n))
     (c.from.ensures ∙ c.position.ensures ∙ ap (λ (p : Phase). p.position) c.phase-phase.ensures.value)))
     (ap (λ (k : Kind). is_sendable k call) (sym kind) ∙ sym c.is_sendable.ensures ∙ c.if-not-is_sendable.true)))
@@ -55,8 +55,8 @@ returns-clause-letters c =
     let call = c.at-call.result.now in
     let kind = c.kind.ensures ∙ ap (λ (p : Phase). p.kind) c.phase-phase.ensures.value in
     let again = sent_again o.node o.delta o.places c.in-Some.ensures.distinct c.in-Some.ensures.index call c.at-call.ensures
-    c.in-Some-layout_of.layout.now
-    (sym (c.in-Some-layout_of.ensures
+    c.in-Some-shared_layout_of.layout.now
+    (sym (c.in-Some-shared_layout_of.ensures
     ∙ ap (λ n. layout_in (heard_place o.places n))
     (c.from.ensures ∙ c.position.ensures ∙ ap (λ (p : Phase). p.position) c.phase-phase.ensures.value)))
     (ap (λ (k : Kind). is_sendable k call) (sym kind) ∙ sym c.is_sendable.ensures ∙ c.if-not-is_sendable.false) in

@@ -1,5 +1,4 @@
 use Rattle.std.proofs.Common.{◌≡◌, Some, ap, sym, ◌∙◌}
-use Rattle.node_strings.specs.declared.heard.Heard.{Heard}
 use Rattle.node.specs.Moves.{heard_fault, told_fault}
 use Rattle.node.proofs.MoveLemmas.{fault_of_heard}
 use Rattle.node.proofs.node.Node.move_fault.Goals as goal

@@ -6,13 +6,13 @@ use Rattle.node.specs.declared.node.Node.{Node}
 use Rattle.node.proofs.ServingLemmas.{drops_more}
 use Rattle.node.proofs.node.Node.receive.Goals as goal
 
-pub returns-in-Err-Fault-clause-acts : goal.returns-in-Err-Fault-clause-acts
-returns-in-Err-Fault-clause-acts c =
+pub returns-clause-acts : goal.returns-clause-acts
+returns-clause-acts c =
     let old = c.args.self.now.keeper in
     idle c.args.sender (letter_if_read old c.args.sender (message_from c.args.frame)) old c.args.work.now
 
-pub returns-in-Err-Fault-clause-serves : goal.returns-in-Err-Fault-clause-serves
-returns-in-Err-Fault-clause-serves c =
+pub returns-clause-serves : goal.returns-clause-serves
+returns-clause-serves c =
     let old = c.args.self.now in
     let new : Node = record old { desk = c.drop_frame.new.self } in
     drops_more old new c.args.work.now (c.drop_frame.ensures.clients, c.drop_frame.ensures.calls, c.drop_frame.ensures.counts) refl

@@ -1,4 +1,4 @@
-use Rattle.std.proofs.Common.{◌≡◌, ◌<◌, ℕ, List, [], Some, length, get_or, slice_get, arith}
+use Rattle.std.proofs.Common.{◌≡◌, ◌<◌, [], Some, length, get_or, slice_get, arith}
 use Rattle.std.proofs.lemmas.Option.{slice_get-get_or}
 use Rattle.std.specs.List.{AllByRecursion}
 use Rattle.node_keeper.specs.Objects.{heard_names}

@@ -1,4 +1,4 @@
-use Rattle.std.proofs.Common.{◌<◌, refl, arith}
+use Rattle.std.proofs.Common.{refl, arith}
 use Rattle.node_keeper.proofs.HeardNameLemmas.{all_led}
 use Rattle.node_keeper.proofs.keeper.Keeper.may_rewrite.Goals as goal
 

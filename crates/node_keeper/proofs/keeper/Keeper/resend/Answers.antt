@@ -1,7 +1,7 @@
 use Rattle.std.proofs.Common.{List, subst}
 use Rattle.std.specs.List.{AllByRecursion}
 use Rattle.std.proofs.lemmas.Result.{on_ok_weaker}
-use Rattle.local_object.specs.declared.letter.Letter.{Letter}
+use Rattle.letter.specs.declared.letter.Letter.{Letter}
 use Rattle.node_effects.specs.Errors.{WritesOrFails}
 use Rattle.node_effects.specs.Work.{IsGrown}
 use Rattle.node_keeper.specs.Fitting.{IsSendable}

@@ -3,7 +3,7 @@ use Rattle.local_object.specs.Doing.{serve_events}
 use Rattle.node_keeper.specs.Doing.{IsDoneAt}
 use Rattle.node_keeper.specs.Objects.{objects_of}
 use Rattle.node_effects.specs.Work.{IsGrown, no_growth}
-use Rattle.node_effects.specs.declared.letter.NamedLetter.{NamedLetter}
+use Rattle.letter.specs.declared.letter.NamedLetter.{NamedLetter}
 use Rattle.node_effects.proofs.GrowthLemmas.{grown_none, grown_then}
 use Rattle.node_keeper.specs.Fitting.{IsSendable}
 use Rattle.node_keeper.specs.Sendings.{sending, sent_growth, to_one}

@@ -3,7 +3,7 @@ use Rattle.node_keeper.specs.Doing.{IsTakenAt}
 use Rattle.node_effects.specs.Errors.{IsUnwritten}
 use Rattle.node_effects.specs.Work.{IsGrown}
 use Rattle.std.specs.List.{AllByRecursion}
-use Rattle.node_effects.specs.declared.letter.NamedLetter.{NamedLetter}
+use Rattle.letter.specs.declared.letter.NamedLetter.{NamedLetter}
 use Rattle.node_effects.proofs.GrowthLemmas.{grown_then}
 use Rattle.node_keeper.specs.Delivering.{CanTake, tell_growth}
 use Rattle.node_keeper.specs.Fitting.{IsSendable}

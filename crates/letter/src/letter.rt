@@ -1,13 +1,22 @@
-use layout::Layout;
+use crate::shared_layout::SharedLayout;
+use bytes::Bytes;
 use mail::Message;
 
 /// A message between nodes about one object, with the layouts that its receiver may not have heard of.
 #[derive(Debug, Drop)]
 pub struct Letter {
     /// The layout of the message's position.
-    pub layout: Layout,
+    pub layout: SharedLayout,
     /// The layout of the next position, exactly if the message says that the pointer is pending or final.
-    pub next: Option<Layout>,
+    pub next: Option<SharedLayout>,
     /// The request, or the reply.
     pub message: Message,
+}
+
+/// A letter and the name of the object that it is about.
+#[derive(Debug, Drop)]
+pub struct NamedLetter {
+    /// The name of the object: any bytes.
+    pub name: Bytes,
+    pub letter: Letter,
 }

@@ -1,0 +1,8 @@
+//! Letters: the messages that the nodes of a cluster send each other about their objects.
+#![tactic(auto)]
+
+pub use letter::{Letter, NamedLetter};
+pub use shared_layout::SharedLayout;
+
+mod letter;
+mod shared_layout;
