@@ -2,6 +2,7 @@
 use bytes::Bytes;
 use frames::{Frame, read_frame};
 use layout::Layout;
+use letter::SharedLayout;
 use std::alloc::Global;
 use std::fmt::Debug;
 use std::process::Abort;
@@ -25,6 +26,16 @@ pub(crate) fn frame_in<R: Abort>(rt: &R, alloc: Global, sent: &[u8]) -> Frame {
 /// The layout of these members.
 pub(crate) fn layout<R: Abort>(rt: &R, k: u8, members: &[u8]) -> Layout {
     Layout::new(k, members).expect(rt, "a layout")
+}
+
+/// The layout of these members, to be shared.
+pub(crate) fn shared_layout<R: Abort>(
+    rt: &R,
+    alloc: Global,
+    k: u8,
+    members: &[u8],
+) -> SharedLayout {
+    SharedLayout::new(alloc, layout(rt, k, members)).expect(rt, "memory")
 }
 
 fn are_equal(one: &[Bytes], other: &[Bytes]) -> bool {

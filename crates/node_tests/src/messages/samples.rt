@@ -103,5 +103,5 @@ pub(crate) fn frame<R: Abort>(rt: &R, alloc: Global, sample: &Sample) -> Frame {
 
 /// Returns the message of a sample.
 pub(crate) fn message<R: Abort>(rt: &R, alloc: Global, sample: &Sample) -> NodeMessage {
-    read_message(alloc, frame(rt, alloc, sample)).expect(rt, "a message")
+    read_message(alloc, &frame(rt, alloc, sample)).expect(rt, "a message")
 }

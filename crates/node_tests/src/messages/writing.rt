@@ -1,9 +1,9 @@
 //! Messages that have no frame, and why.
-use crate::checks::layout;
+use crate::checks::shared_layout;
 use bank::{Answer, Kind, Reply, Request, Status};
 use bytes::Bytes;
 use frames::LONGEST_STRING;
-use layout::Layout;
+use letter::{Letter, NamedLetter, SharedLayout};
 use mail::{Body, Message};
 use node_messages::{Fault, MessageError, NodeMessage, frame_of};
 use piece::Piece;
@@ -14,23 +14,28 @@ use tag::Tag;
 /// A message about the object of this name to this member of four.
 fn message<R: Abort>(
     rt: &R,
+    alloc: Global,
     name: &'static [u8],
     member: u8,
-    next: Option<Layout>,
+    next: Option<SharedLayout>,
     body: Body,
 ) -> NodeMessage {
+    let message = Message {
+        call: 7,
+        phase: 2,
+        position: 1,
+        member,
+        body,
+    };
+    let letter = Letter {
+        layout: shared_layout(rt, alloc, 2, &[3, 4, 5, 6]),
+        next,
+        message,
+    };
+    let name = Bytes::from_static(name);
     NodeMessage {
         digest: *b"0123456789abcdef",
-        name: Bytes::from_static(name),
-        layout: layout(rt, 2, &[3, 4, 5, 6]),
-        next,
-        message: Message {
-            call: 7,
-            phase: 2,
-            position: 1,
-            member,
-            body,
-        },
+        named: NamedLetter { name, letter },
     }
 }
 
@@ -45,7 +50,7 @@ fn assert_fault<R: Abort>(rt: &R, alloc: Global, message: NodeMessage, wanted: O
 }
 
 fn assert_named<R: Abort>(rt: &R, alloc: Global, name: &'static [u8], wanted: Option<Fault>) {
-    let message = message(rt, name, 3, None, Body::Request(Request::Next));
+    let message = message(rt, alloc, name, 3, None, Body::Request(Request::Next));
     assert_fault(rt, alloc, message, wanted);
 }
 
@@ -57,7 +62,8 @@ fn a_long_name(rt: HostRuntime) {
 
 #[test]
 fn no_member(rt: HostRuntime) {
-    let message = message(&rt, b"photo", 4, None, Body::Request(Request::Next));
+    let alloc = rt.alloc();
+    let message = message(&rt, alloc, b"photo", 4, None, Body::Request(Request::Next));
     assert_fault(&rt, rt.alloc(), message, Some(Fault::NoMember));
 }
 
@@ -68,23 +74,23 @@ fn an_answer_to_another_kind(rt: HostRuntime) {
         kind: Kind::Spread(Status::Final),
         reply: Reply { step: 99, answer },
     };
-    let message = message(&rt, b"photo", 3, None, body);
+    let message = message(&rt, rt.alloc(), b"photo", 3, None, body);
     assert_fault(&rt, rt.alloc(), message, Some(Fault::BadAnswer));
 }
 
 fn assert_next<R: Abort>(
     rt: &R,
     alloc: Global,
-    next: Option<Layout>,
+    next: Option<SharedLayout>,
     request: Request,
     wanted: Option<Fault>,
 ) {
-    let message = message(rt, b"photo", 3, next, Body::Request(request));
+    let message = message(rt, alloc, b"photo", 3, next, Body::Request(request));
     assert_fault(rt, alloc, message, wanted);
 }
 
-fn next<R: Abort>(rt: &R) -> Option<Layout> {
-    Some(layout(rt, 1, &[9, 0]))
+fn next<R: Abort>(rt: &R, alloc: Global) -> Option<SharedLayout> {
+    Some(shared_layout(rt, alloc, 1, &[9, 0]))
 }
 
 const PENDING: Request = Request::Spread(Status::Pending);
@@ -94,11 +100,11 @@ fn a_next_layout_too_few_or_too_many(rt: HostRuntime) {
     assert_next(
         &rt,
         rt.alloc(),
-        next(&rt),
+        next(&rt, rt.alloc()),
         Request::Next,
         Some(Fault::BadNext),
     );
-    assert_next(&rt, rt.alloc(), next(&rt), PENDING, None);
+    assert_next(&rt, rt.alloc(), next(&rt, rt.alloc()), PENDING, None);
     assert_next(&rt, rt.alloc(), None, PENDING, Some(Fault::BadNext));
 }
 

@@ -1,9 +1,9 @@
 //! The letters that lead to an object, and the object that they lead to.
-use crate::checks::layout;
+use crate::checks::{layout, shared_layout};
 use bank::{Request, Status};
 use bytes::Bytes;
-use layout::Layout;
-use local_object::{Letter, LocalObject};
+use letter::{Letter, SharedLayout};
+use local_object::LocalObject;
 use mail::{Body, Message};
 use object_letters::{can_be_led_to, letters_of};
 use piece::Piece;
@@ -21,7 +21,7 @@ fn new_object(rt: &impl Abort, alloc: Global) -> LocalObject {
 }
 
 // A request to member 1 of position 0, which has this layout.
-fn letter(layout: Layout, next: Option<Layout>, request: Request) -> Letter {
+fn letter(layout: SharedLayout, next: Option<SharedLayout>, request: Request) -> Letter {
     Letter {
         layout,
         next,
@@ -36,8 +36,14 @@ fn letter(layout: Layout, next: Option<Layout>, request: Request) -> Letter {
 }
 
 // Node 4 replies to the letter.
-fn serve(rt: &impl Abort, object: &mut LocalObject, next: Option<Layout>, request: Request) {
-    let first = layout(rt, 2, &[6, 4, 2]);
+fn serve(
+    rt: &impl Abort,
+    alloc: Global,
+    object: &mut LocalObject,
+    next: Option<SharedLayout>,
+    request: Request,
+) {
+    let first = shared_layout(rt, alloc, 2, &[6, 4, 2]);
     let reply = object
         .serve(letter(first, next, request))
         .expect(rt, "memory");
@@ -54,17 +60,23 @@ fn pre_write(tag: Tag) -> Request {
 }
 
 // The layout of the members 1, 2 and 3 becomes the pending one.
-fn spread(rt: &impl Abort, object: &mut LocalObject) {
-    let next = layout(rt, 2, &[1, 2, 3]);
-    serve(rt, object, Some(next), Request::Spread(Status::Pending));
+fn spread(rt: &impl Abort, alloc: Global, object: &mut LocalObject) {
+    let next = shared_layout(rt, alloc, 2, &[1, 2, 3]);
+    serve(
+        rt,
+        alloc,
+        object,
+        Some(next),
+        Request::Spread(Status::Pending),
+    );
 }
 
-fn write_and_spread(rt: &impl Abort, object: &mut LocalObject) {
+fn write_and_spread(rt: &impl Abort, alloc: Global, object: &mut LocalObject) {
     for tag in [FIRST, SECOND] {
-        serve(rt, object, None, pre_write(tag));
-        serve(rt, object, None, Request::Finalize(tag));
+        serve(rt, alloc, object, None, pre_write(tag));
+        serve(rt, alloc, object, None, Request::Finalize(tag));
     }
-    spread(rt, object);
+    spread(rt, alloc, object);
 }
 
 fn with_next(letters: &[Letter]) -> usize {
@@ -97,7 +109,7 @@ fn leads_back(rt: HostRuntime) {
 fn assert_led(rt: &impl Abort, alloc: Global) {
     let mut object = new_object(rt, alloc);
     assert_counts(rt, alloc, &object, 0, 0);
-    write_and_spread(rt, &mut object);
+    write_and_spread(rt, alloc, &mut object);
     assert_counts(rt, alloc, &object, 5, 1);
     assert_leads_back(rt, alloc, &object);
 }
@@ -113,13 +125,13 @@ fn assert_leads_back(rt: &impl Abort, alloc: Global, object: &LocalObject) {
 // to one with a second position.
 #[test]
 fn leads_to_what_stands_still(rt: HostRuntime) {
-    read_spread_and_move(&rt, &mut new_object(&rt, rt.alloc()));
+    read_spread_and_move(&rt, rt.alloc(), &mut new_object(&rt, rt.alloc()));
 }
 
-fn read_spread_and_move(rt: &impl Abort, object: &mut LocalObject) {
+fn read_spread_and_move(rt: &impl Abort, alloc: Global, object: &mut LocalObject) {
     assert!(rt; object.begin_read(1).is_ok());
     assert!(rt; can_be_led_to(object, true));
-    spread(rt, object);
+    spread(rt, alloc, object);
     assert!(rt; can_be_led_to(object, false) && !can_be_led_to(object, true));
     assert!(rt; object.begin_move(2, layout(rt, 2, &[3, 2, 1])).is_ok());
     assert!(rt; !can_be_led_to(object, false));

@@ -1,7 +1,7 @@
 //! Whole calls, and questions.
 use super::lone_node::{Act, Step, lone_node, play};
 use bytes::Bytes;
-use local_object::Letter;
+use letter::Letter;
 use node_keeper::Objects;
 use std::alloc::Global;
 use std::process::Abort;

@@ -2,7 +2,8 @@
 use crate::checks::{assert_prints, layout};
 use bytes::Bytes;
 use layout::Layout;
-use local_object::{Ended, Letter, LocalObject};
+use letter::Letter;
+use local_object::{Ended, LocalObject};
 use mail::Body;
 use std::alloc::Global;
 use std::collections::VecDeque;
@@ -157,6 +158,6 @@ impl Nodes {
 
 // The node to which a request is sent.
 fn member(rt: &impl Abort, letter: &Letter) -> u8 {
-    assert!(rt; letter.message.member < letter.layout.n());
-    letter.layout.member(letter.message.member)
+    assert!(rt; letter.message.member < letter.layout.layout().n());
+    letter.layout.layout().member(letter.message.member)
 }
