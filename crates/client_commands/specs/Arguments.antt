@@ -34,7 +34,7 @@ name_and_value (name ∷ []) = Err (WrongCount of.Set)
 name_and_value (name ∷ value ∷ []) = Ok (name, value)
 name_and_value (name ∷ value ∷ option ∷ more) = Err (option_fault option)
 
--- a user that a node has: only the one that every Redis has
+-- whether this is the user `default`, which is the only user that a node knows
 abbrev pub is_default : List ℕ → Bool
 is_default user = bytes_eq user (codes "default")
 

@@ -23,7 +23,7 @@ use Rattle.client_commands.specs.declared.fault.CommandFault.TheVariants.{WrongC
 abbrev pub Found : Type 0
 Found = Result Command CommandFault
 
--- GET, STRLEN, or EXISTS with one argument: a name, of whose value this is wanted
+-- the command that reads the only argument as a name, and tells its value, its length or its existence; or a fault
 unfoldable pub read_from : CommandName → Wanted → Strings → Found
 read_from word wanted arguments =
     and_then (only_argument word arguments) (λ name.

@@ -94,7 +94,7 @@ option_fault word =
     else (if is_conditional_option word then NoCondition
     else SyntaxError)
 
--- the word that reads a name and tells this of its value
+-- the word of the command that reads a name for this: `get` for the value, `strlen` for its length, or `exists`
 abbrev pub reading_word : Wanted → List ℕ
 reading_word wanted.Value = codes "get"
 reading_word wanted.Length = codes "strlen"

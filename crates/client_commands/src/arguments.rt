@@ -55,7 +55,7 @@ pub(crate) fn name_and_value(mut arguments: Vec<Bytes>) -> Result<(Bytes, Bytes)
     Ok((name, value))
 }
 
-// Whether a node has this user: only the one that every Redis has.
+// Whether this is the user `default`, which is the only user that a node knows.
 fn is_default(user: &[u8]) -> bool
     ensures { result ≡ is_default user.now }
 {

@@ -43,7 +43,7 @@ pub(crate) fn name_of(word: &[u8]) -> Option<CommandName>
     }
 }
 
-// The same for the names that are not in `name_of`.
+// The command that a word names, if it is one of those that `name_of` does not try itself.
 fn later_name_of(word: &[u8]) -> Option<CommandName>
     ensures { result ≡ find (λ name. is_word word.now (command_text name)) later_names }
 {

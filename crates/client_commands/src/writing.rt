@@ -27,7 +27,7 @@ pub fn push_answer(
     push_strings(alloc, strings, answer)
 }
 
-// The same, without the clause on bytes.
+// Does what `push_answer` does, and promises all its clauses but `bytes`. That clause follows from the others.
 fn push_strings(alloc: Global, strings: &mut Vec<Bytes>, answer: Answer) -> Result<(), AllocError>
     ensures pushed { OnOk result (strings.new.items ≡ strings.old.items ++ sent_strings answer) }
     ensures kept { OnErr result (strings.new.items ≡ strings.old.items) }

@@ -47,7 +47,7 @@ order_fault due found =
     if nat_lt (order_of found) (order_of due) then Some SettingTwice
     else (if nat_lt (order_of due) (order_of found) then Some (SettingMissing due) else None)
 
--- the same for the setting that a word names, if it names one
+-- what is wrong with the setting that a word names where this one is due: the word names none, or it is out of order
 abbrev pub named_fault : Setting → Option Setting → Option Fault
 named_fault due None = Some UnknownSetting
 named_fault due (Some found) = order_fault due found

@@ -1,4 +1,4 @@
-//! Sums of rows, by hand and beside the same byte by byte.
+//! Tests of sums of rows, against sums computed by hand and against sums computed byte by byte.
 
 ghost use Rattle.std.specs.Prelude.{◌≡◌, ◌≤◌, ◌+◌, ◌%◌, length};
 

@@ -1,4 +1,4 @@
-//! What loops over lanes make, beside the same byte by byte.
+//! Tests of loops over lanes, against results computed byte by byte.
 
 ghost use Rattle.std.specs.Prelude.{◌≤◌, ◌<◌};
 

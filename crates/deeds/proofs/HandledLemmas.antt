@@ -5,18 +5,18 @@ use Rattle.std.specs.List.{AllByRecursion}
 use Rattle.encoder.specs.Fragment.{fragment}
 use Rattle.record.specs.Fragments.{Code}
 use Rattle.letter.specs.declared.letter.Letter.{Letter}
-use Rattle.local_object.specs.Doing.{IsDone}
+use Rattle.local_object.specs.Doing.{IsOutcome}
 use Rattle.local_object.specs.Local.{LocalObject}
 use Rattle.local_object.specs.Events.{LocalEvent}
 use Rattle.deeds.specs.Named.{NamedLetter, with_names, with_named}
 use Rattle.deeds.specs.Kept.{KeptNode}
 use Rattle.deeds.specs.Deeds.{Deed, Notice, after_deeds, all_noticed}
-use Rattle.deeds.specs.May.{AreFed, IsAllowed, IsEventAllowed, IsEventFed, MayAllBeDone}
+use Rattle.deeds.specs.May.{AreDeedLettersKnown, IsAllowed, IsEventAllowed, IsEventLetterKnown, MayAllBeDone}
 use Rattle.deeds.specs.Ids.{HaveNextIds}
 use Rattle.deeds.specs.Handled.{IsHandled}
 use Rattle.deeds.specs.Laws.{EventsAreHandled, MoreMayCome, NothingIsHandled, ResentIsHandled, TwoAreOne}
 use Rattle.deeds.proofs.DeedListLemmas.{deeds_append, notices_append, objects_append, sent_append}
-use Rattle.deeds.proofs.FedLemmas.{fed_append, fed_more}
+use Rattle.deeds.proofs.KnownLetterLemmas.{fed_append, fed_more}
 use Rattle.deeds.proofs.IdLemmas.{ids_append, ids_node}
 use Rattle.open_calls.proofs.ListLemmas.{all_append}
 use Rattle.deeds.proofs.OneNameLemmas.{allowed_at, at_name, fed_at, may_at, notices_at, objects_at, sent_at}
@@ -43,9 +43,9 @@ both_handled code old got middle first seen new second more a b =
     let done = after_deeds code old.objects a.deeds in
     let same : middle.objects ≡ done.objects = same_objects middle.objects done.objects a.objects in
     let may : MayAllBeDone code done.objects b.deeds = subst (λ objects. MayAllBeDone code objects b.deeds) same b.may in
-    let fed : AreFed code done.objects (got ++ done.sent) b.deeds =
-    subst (λ sent. AreFed code done.objects (got ++ sent) b.deeds) a.letters
-    (subst (λ objects. AreFed code objects (got ++ first) b.deeds) same b.fed) in
+    let fed : AreDeedLettersKnown code done.objects (got ++ done.sent) b.deeds =
+    subst (λ sent. AreDeedLettersKnown code done.objects (got ++ sent) b.deeds) a.letters
+    (subst (λ objects. AreDeedLettersKnown code objects (got ++ first) b.deeds) same b.fed) in
     let allowed : AllByRecursion (IsAllowed old.ids.node old.file.mover) b.deeds =
     subst (λ mover. AllByRecursion (IsAllowed old.ids.node mover) b.deeds) (ap (λ file. file.mover) a.file)
     (subst (λ number. AllByRecursion (IsAllowed number middle.file.mover) b.deeds) (ids_node old.ids middle.ids a.deeds a.ids)
@@ -124,8 +124,8 @@ handled_as code old got new same sent also notices too is file ids objects lette
 
 -- what a method of the object of a name does
 pub done_handled : (node : KeptNode) (got : List NamedLetter) (name : List ℕ) (events : List LocalEvent)
-    (local : LocalObject) (sent : List Letter) (new : KeptNode) → IsDone (node.objects name) events local sent →
-    AllByRecursion (IsEventFed got name) events →
+    (local : LocalObject) (sent : List Letter) (new : KeptNode) → IsOutcome (node.objects name) events local sent →
+    AllByRecursion (IsEventLetterKnown got name) events →
     AllByRecursion (IsEventAllowed node.ids.node node.file.mover) events →
     HaveNextIds node.ids (at_name name events) new.ids → new.file ≡ node.file →
     ((other : List ℕ) → new.objects other ≡ with_named node.objects name local other) →

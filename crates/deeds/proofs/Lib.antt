@@ -1,6 +1,6 @@
 pub mod NameLemmas
 pub mod DeedListLemmas
-pub mod FedLemmas
+pub mod KnownLetterLemmas
 pub mod IdLemmas
 pub mod UsedIdLemmas
 pub mod OneNameLemmas

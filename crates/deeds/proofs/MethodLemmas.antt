@@ -5,7 +5,7 @@ use Rattle.std.specs.List.{AllByRecursion}
 use Rattle.encoder.specs.Fragment.{fragment}
 use Rattle.record.specs.Fragments.{Code}
 use Rattle.letter.specs.declared.letter.Letter.{Letter}
-use Rattle.local_object.specs.Doing.{IsDone}
+use Rattle.local_object.specs.Doing.{IsOutcome}
 use Rattle.local_object.specs.Ended.{all_told, told}
 use Rattle.local_object.specs.Local.{LocalObject}
 use Rattle.local_object.specs.Events.{LocalEvent, done_here}
@@ -14,7 +14,7 @@ use Rattle.deeds.specs.Kept.{KeptNode}
 use Rattle.deeds.specs.Deeds.{Notice, all_noticed, noticed}
 use Rattle.deeds.specs.Handled.{IsHandled}
 use Rattle.deeds.specs.Ids.{IsLater, IsNextId, begun_id}
-use Rattle.deeds.specs.May.{IsEventAllowed, IsEventFed}
+use Rattle.deeds.specs.May.{IsEventAllowed, IsEventLetterKnown}
 use Rattle.deeds.proofs.HandledLemmas.{done_handled, handled_as}
 use Rattle.deeds.proofs.IdLemmas.{no_ids, one_id}
 use Rattle.open_calls.proofs.ListLemmas.{all_weaker}
@@ -53,8 +53,8 @@ answers_noticed code name local (event ∷ events) none =
 
 -- a method that begins no call, as serving, taking and giving up
 pub quiet_handled : (node : KeptNode) (got : List NamedLetter) (name : List ℕ) (events : List LocalEvent)
-    (local : LocalObject) (sent : List Letter) (new : KeptNode) → IsDone (node.objects name) events local sent →
-    AllByRecursion (IsEventFed got name) events → AllByRecursion BeginsNone events → IsLater node.ids new.ids →
+    (local : LocalObject) (sent : List Letter) (new : KeptNode) → IsOutcome (node.objects name) events local sent →
+    AllByRecursion (IsEventLetterKnown got name) events → AllByRecursion BeginsNone events → IsLater node.ids new.ids →
     new.file ≡ node.file → ((other : List ℕ) → new.objects other ≡ with_named node.objects name local other) →
     IsHandled fragment node got new (with_names name sent) (map (Notice.Tells name) (all_told fragment (node.objects name) events))
 quiet_handled node got name events local sent new done fed none later file objects =
@@ -69,14 +69,14 @@ quiet_handled node got name events local sent new done fed none later file objec
 -- A call that begins
 
 begun_fed : (got : List NamedLetter) (name : List ℕ) (event : LocalEvent) (id : ℕ) → begun_id event ≡ Some id →
-    IsEventFed got name event
+    IsEventLetterKnown got name event
 begun_fed got name (LocalEvent.Serve letter) id begins = absurd (cc)
 begun_fed got name (LocalEvent.Take letter) id begins = absurd (cc)
 begun_fed got name _ id begins = tt
 
 -- a method that begins a call
 pub begun_handled : (node : KeptNode) (got : List NamedLetter) (name : List ℕ) (event : LocalEvent) (id : ℕ)
-    (local : LocalObject) (sent : List Letter) (new : KeptNode) → IsDone (node.objects name) (event ∷ []) local sent →
+    (local : LocalObject) (sent : List Letter) (new : KeptNode) → IsOutcome (node.objects name) (event ∷ []) local sent →
     begun_id event ≡ Some id → IsEventAllowed node.ids.node node.file.mover event → IsNextId node.ids id new.ids →
     new.file ≡ node.file → ((other : List ℕ) → new.objects other ≡ with_named node.objects name local other) →
     IsHandled fragment node got new (with_names name sent) (noticed name (node.objects name) event)

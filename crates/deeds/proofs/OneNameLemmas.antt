@@ -9,9 +9,9 @@ use Rattle.local_object.specs.May.{MayAllHappen}
 use Rattle.open_calls.proofs.ListLemmas.{all_weaker}
 use Rattle.deeds.specs.Named.{NamedLetter, with_names, with_named}
 use Rattle.deeds.specs.Deeds.{Deed, after_deed, after_deeds, all_noticed, noticed}
-use Rattle.deeds.specs.May.{AreFed, IsAllowed, IsEventAllowed, IsEventFed, MayAllBeDone}
+use Rattle.deeds.specs.May.{AreDeedLettersKnown, IsAllowed, IsEventAllowed, IsEventLetterKnown, MayAllBeDone}
 use Rattle.deeds.proofs.NameLemmas.{one_of_first, own_named, same_named, twice_named}
-use Rattle.deeds.proofs.FedLemmas.{event_fed_more}
+use Rattle.deeds.proofs.KnownLetterLemmas.{event_fed_more}
 
 -- the events, as deeds
 abbrev pub at_name : (name : List ℕ) → List LocalEvent → List Deed
@@ -63,13 +63,13 @@ module _ (fragment : Code) (name : List ℕ) where
   )
 
   pub fed_at : (objects : List ℕ → LocalObject) (got : List NamedLetter) (events : List LocalEvent) →
-      AllByRecursion (IsEventFed got name) events → AreFed fragment objects got (at_name name events)
+      AllByRecursion (IsEventLetterKnown got name) events → AreDeedLettersKnown fragment objects got (at_name name events)
   fed_at objects got [] fed = tt
   fed_at objects got (event ∷ events) fed =
       let first = after_deed fragment objects (Deed.Does name event) in (
         fed.0,
         fed_at first.objects (got ++ first.sent) events
-            (all_weaker (IsEventFed got name) (IsEventFed (got ++ first.sent) name)
+            (all_weaker (IsEventLetterKnown got name) (IsEventLetterKnown (got ++ first.sent) name)
             (event_fed_more got (got ++ first.sent) (one_of_first got first.sent) name) events fed.1),
       )
 

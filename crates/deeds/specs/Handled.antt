@@ -6,7 +6,7 @@ use Rattle.record.specs.Fragments.{Code}
 use Rattle.deeds.specs.Named.{NamedLetter}
 use Rattle.deeds.specs.Kept.{KeptNode}
 use Rattle.deeds.specs.Deeds.{Deed, Notice, after_deeds}
-use Rattle.deeds.specs.May.{AreFed, IsAllowed, MayAllBeDone}
+use Rattle.deeds.specs.May.{AreDeedLettersKnown, IsAllowed, MayAllBeDone}
 use Rattle.deeds.specs.Ids.{HaveNextIds}
 
 -- the node did some deeds with these letters, which had come, and with letters that it sent to itself; afterwards it
@@ -15,7 +15,7 @@ pub record IsHandled (fragment : Code) (old : KeptNode) (got : List NamedLetter)
     (sent : List NamedLetter) (notices : List Notice) : Type 0 where
   pub deeds : List Deed
   pub may : MayAllBeDone fragment old.objects deeds
-  pub fed : AreFed fragment old.objects got deeds
+  pub fed : AreDeedLettersKnown fragment old.objects got deeds
   pub allowed : AllByRecursion (IsAllowed old.ids.node old.file.mover) deeds
   pub ids : HaveNextIds old.ids deeds new.ids
   pub file : new.file ≡ old.file

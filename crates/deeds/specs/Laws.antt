@@ -11,7 +11,7 @@ use Rattle.local_object.specs.Resent.{IsResent}
 use Rattle.deeds.specs.Named.{NamedLetter, IsOneOf, with_names, with_named}
 use Rattle.deeds.specs.Kept.{KeptNode}
 use Rattle.deeds.specs.Deeds.{Deed, Notice, all_noticed}
-use Rattle.deeds.specs.May.{IsEventAllowed, IsEventFed}
+use Rattle.deeds.specs.May.{IsEventAllowed, IsEventLetterKnown}
 use Rattle.deeds.specs.Ids.{HaveNextIds, IsLater}
 use Rattle.deeds.specs.Handled.{IsHandled}
 
@@ -39,7 +39,7 @@ MoreMayCome = (fragment : Code) (old : KeptNode) (got more : List NamedLetter) (
 abbrev pub EventsAreHandled : Type 0
 EventsAreHandled = (fragment : Code) (node : KeptNode) (got : List NamedLetter) (name : List ℕ)
     (events : List LocalEvent) (ids : CallIds) → MayAllHappen fragment (node.objects name) events →
-    AllByRecursion (IsEventFed got name) events →
+    AllByRecursion (IsEventLetterKnown got name) events →
     AllByRecursion (IsEventAllowed node.ids.node node.file.mover) events →
     HaveNextIds node.ids (map (Deed.Does name) events) ids →
     IsHandled fragment node got

@@ -23,22 +23,22 @@ MayAllBeDone fragment objects (deed ∷ deeds) =
     MayBeDone fragment objects deed × MayAllBeDone fragment (after_deed fragment objects deed).objects deeds
 
 -- the letter that an event at the object of a name serves or takes, if there is one, is one of these
-abbrev pub IsEventFed : List NamedLetter → (name : List ℕ) → LocalEvent → Type 0
-IsEventFed got name (LocalEvent.Serve letter) = IsOneOf got (record { name = name; letter = letter })
-IsEventFed got name (LocalEvent.Take letter) = IsOneOf got (record { name = name; letter = letter })
-IsEventFed got name event = Unit {0}
+abbrev pub IsEventLetterKnown : List NamedLetter → (name : List ℕ) → LocalEvent → Type 0
+IsEventLetterKnown got name (LocalEvent.Serve letter) = IsOneOf got (record { name = name; letter = letter })
+IsEventLetterKnown got name (LocalEvent.Take letter) = IsOneOf got (record { name = name; letter = letter })
+IsEventLetterKnown got name event = Unit {0}
 
 -- the letter that a deed serves or takes, if there is one, is one of these
-abbrev pub IsFed : List NamedLetter → Deed → Type 0
-IsFed got (Deed.Does name event) = IsEventFed got name event
-IsFed got (Deed.Resends name letters) = Unit {0}
+abbrev pub IsDeedLetterKnown : List NamedLetter → Deed → Type 0
+IsDeedLetterKnown got (Deed.Does name event) = IsEventLetterKnown got name event
+IsDeedLetterKnown got (Deed.Resends name letters) = Unit {0}
 
 -- each letter that a deed serves or takes is one of these, or one that an earlier deed sent
-abbrev pub AreFed : Code → (objects : List ℕ → LocalObject) → (got : List NamedLetter) → List Deed → Type 0
-AreFed fragment objects got [] = Unit {0}
-AreFed fragment objects got (deed ∷ deeds) =
+abbrev pub AreDeedLettersKnown : Code → (objects : List ℕ → LocalObject) → (got : List NamedLetter) → List Deed → Type 0
+AreDeedLettersKnown fragment objects got [] = Unit {0}
+AreDeedLettersKnown fragment objects got (deed ∷ deeds) =
     let first = after_deed fragment objects deed in
-    IsFed got deed × AreFed fragment first.objects (got ++ first.sent) deeds
+    IsDeedLetterKnown got deed × AreDeedLettersKnown fragment first.objects (got ++ first.sent) deeds
 
 -- the event begins no move, or the node with this number is the one that moves objects
 abbrev pub IsEventAllowed : (number mover : ℕ) → LocalEvent → Type 0

@@ -65,7 +65,7 @@ write_asked = write_begun ++ (begins_phase 7 ∷ exchanged 7 2 request.Query (Gr
 abbrev pub write_sent : List SystemEvent
 write_sent = begins_phase 7 ∷ exchanged 7 3 (to_keep 0) Done
 
--- and finalizes the write's tag
+-- node 0 keeps its piece, and finalizes the write's tag
 abbrev pub write_kept : List SystemEvent
 write_kept = write_sent ++ (begins_phase 7 ∷ exchanged 7 4 (request.Finalize write_tag) Done)
 
@@ -102,7 +102,7 @@ read_ended =
 
 -- The runs
 
--- until the restart
+-- the whole write of node 1, from its first event to its answer
 abbrev pub write : List SystemEvent
 write = write_asked ++ (write_kept ++ write_ended)
 

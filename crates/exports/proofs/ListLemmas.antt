@@ -1,4 +1,4 @@
--- What stands in a list with one element more, or another one.
+-- The elements of a list after one is appended, or after one is replaced.
 use Rattle.std.proofs.Common.{◌≡◌, ◌≢◌, ◌<◌, ◌⊎◌, ℕ, zero, suc, List, [], ◌∷◌, ◌++◌, length, set}
 use Rattle.std.proofs.Common.{Some, refl, ap, inl, inr, arith}
 use Rattle.std.specs.Prelude.{slice_get}
@@ -18,7 +18,7 @@ pub last : {X : Type 0} (xs : List X) (x : X) → slice_get (xs ++ x ∷ []) (le
 last [] x = refl
 last (y ∷ ys) x = last ys x
 
--- what stands there stood there, or is the new one
+-- after an append, the element at an index is the one that was there before, or the appended one
 pub pushed : {X : Type 0} (xs : List X) (x y : X) (i : ℕ) → slice_get (xs ++ x ∷ []) i ≡ Some y
     → (slice_get xs i ≡ Some y) ⊎ ((i ≡ length xs) × (x ≡ y))
 pushed [] x y zero e = inr (refl, same_some x y e)
@@ -35,7 +35,7 @@ within [] i x e = absurd (cc)
 within (y ∷ ys) zero x e = omega arith
 within (y ∷ ys) (suc i) x e = let rest = within ys i x e in omega (arith, rest)
 
--- what stands there is the other one, or stood there
+-- after an element is replaced, the element at an index is the new one, or the one that was there before
 pub changed : {X : Type 0} (xs : List X) (i j : ℕ) (new x : X) → slice_get (set xs i new) j ≡ Some x
     → ((j ≡ i) × (new ≡ x)) ⊎ ((j ≢ i) × (slice_get xs j ≡ Some x))
 changed [] i j new x e = absurd (cc)

@@ -101,7 +101,7 @@ fn later(a: Option<Stamp>, b: Option<Stamp>) -> Option<Stamp> {
     Some(a?.max(b?))
 }
 
-// The earlier of two steps, or the one that is there.
+// The earlier of two steps, either of which may be missing; none if both are.
 fn earlier(a: Option<Stamp>, b: Option<Stamp>) -> Option<Stamp> {
     match (a, b) {
         (Some(a), Some(b)) => Some(a.min(b)),

@@ -46,7 +46,7 @@ in_turn {A = A} {B = B} part f first next xs ys v rest e =
         (next w left ys v rest (subst (λ (r : List ℕ). f (w, r) ≡ Ok (v, rest)) behind e))
     here w more e (inr cut) = inr (err_and_then (part xs) f (UnexpectedEnd, []) cut)
 
--- a value that is there without reading
+-- a part that takes no byte and gives a fixed value reads in order
 at_once : {A : Type 0} (w : A) → ReadsInOrder (λ bytes. Ok (w, bytes))
 at_once {A = A} w xs ys v rest e =
     let p = ok_is (w, xs ++ ys) (v, rest) e in

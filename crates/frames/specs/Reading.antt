@@ -25,7 +25,7 @@ unfoldable pub byte_at : List ℕ → Parsed ℕ
 byte_at [] = Err (UnexpectedEnd, [])
 byte_at (byte ∷ rest) = Ok (byte, rest)
 
--- this byte, or this fault if another one is there
+-- the next byte, which has to be `expected`; any other byte gives this fault
 unfoldable pub expected_at : ℕ → Fault → List ℕ → Parsed ℕ
 expected_at expected fault bytes =
     and_then (byte_at bytes) (λ byte. if byte.0 == expected then Ok byte else Err (fault, byte.1))

@@ -21,7 +21,7 @@ use Rattle.open_calls.specs.OpenCalls.{NodeCall, open_call}
 use Rattle.letter.specs.declared.letter.Letter.{Letter}
 use Rattle.local_object.specs.Codes.{at_node, carried}
 use Rattle.local_object.specs.Distinct.{HaveOtherIds, HaveDistinctIds, IsCallAt}
-use Rattle.local_object.specs.Doing.{IsDone, is_moving, move_refusal}
+use Rattle.local_object.specs.Doing.{IsOutcome, is_moving, move_refusal}
 use Rattle.local_object.specs.Events.{LocalEvent, Outcome, begun_here, done_here, moving_here}
 use Rattle.local_object.specs.Local.{LocalObject, Place, added_place, last_position, layout_here, layout_in, with_heard, heard_place}
 use Rattle.local_object.specs.May.{MayHappenHere}
@@ -55,7 +55,7 @@ for_memory cause (Err e) none memory = inr (none, memory)
 
 -- one event alone
 pub one_done : (old : LocalObject) (event : LocalEvent) (new : LocalObject) (sent : List Letter) → MayHappenHere fragment old event
-    → new ≡ (done_here fragment old event).local → sent ≡ (done_here fragment old event).sent → IsDone old (event ∷ []) new sent
+    → new ≡ (done_here fragment old event).local → sent ≡ (done_here fragment old event).sent → IsOutcome old (event ∷ []) new sent
 one_done old event new sent may local letters = record {
   may = (may, tt);
   local = local;
@@ -142,9 +142,9 @@ module _ {o old : LocalObject} (view : o ≡ old) (id : ℕ) {last : ℕ} (layou
 
   pub move_done : IsLawful layout → is_moving old ≡ false → (new : LocalObject) (sent : List Letter)
       → new ≡ (move_begun (record o { places = places }) id last).local
-      → sent ≡ (move_begun (record o { places = places }) id last).sent → IsDone old (LocalEvent.BeginMove id layout ∷ []) new sent
+      → sent ≡ (move_begun (record o { places = places }) id last).sent → IsOutcome old (LocalEvent.BeginMove id layout ∷ []) new sent
   move_done lawful still new sent local letters =
-      subst (λ (l : LocalObject). IsDone l (LocalEvent.BeginMove id layout ∷ []) new sent) view
+      subst (λ (l : LocalObject). IsOutcome l (LocalEvent.BeginMove id layout ∷ []) new sent) view
       (one_done o (LocalEvent.BeginMove id layout) new sent
       (lawful, no_move o.calls (ap (λ (l : LocalObject). is_moving l) view ∙ still))
       (local ∙ ap (λ (t : Outcome). t.local) begun_is) (letters ∙ ap (λ (t : Outcome). t.sent) begun_is))
@@ -160,7 +160,7 @@ write_begun o id value first = begun_here o id (Write value) (begun_at ReadBegin
 
 pub write_done : (o : LocalObject) (id : ℕ) (value : List ℕ) (first : ℕ) → first ≡ 0 → IsSome (layout_here o 0) → IsValue value
     → (new : LocalObject) (sent : List Letter) → new ≡ (write_begun o id value first).local
-    → sent ≡ (write_begun o id value first).sent → IsDone o (LocalEvent.BeginWrite id value ∷ []) new sent
+    → sent ≡ (write_begun o id value first).sent → IsOutcome o (LocalEvent.BeginWrite id value ∷ []) new sent
 write_done o id value first first_is known is_value new sent local letters =
     one_done o (LocalEvent.BeginWrite id value) new sent (known, is_value)
     (local ∙ ap (λ l. (write_begun o id value l).local) first_is) (letters ∙ ap (λ l. (write_begun o id value l).sent) first_is)

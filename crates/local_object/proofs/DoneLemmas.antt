@@ -5,8 +5,8 @@ use Rattle.letter.specs.declared.letter.Letter.{Letter}
 use Rattle.local_object.specs.declared.progress.Ended.{Ended}
 use Rattle.local_object.specs.Ended.{all_told, told}
 use Rattle.local_object.specs.Events.{LocalEvent, all_done, done_here}
-use Rattle.local_object.specs.Going.{HasDone}
-use Rattle.local_object.specs.Taking.{HasDoneBy}
+use Rattle.local_object.specs.Going.{IsSomeOutcome}
+use Rattle.local_object.specs.Taking.{IsOutcomeWithAnswers}
 use Rattle.local_object.specs.Local.{LocalObject}
 use Rattle.local_object.specs.May.{MayAllHappen, MayHappenHere}
 use Rattle.local_object.proofs.PieceLemmas.{nil_right}
@@ -42,12 +42,12 @@ told_append local (e ∷ es) fs =
 
 -- what was done by these events
 pub done_by : {old new : LocalObject} {events : List LocalEvent} {letters : List Letter} {ended : List Ended}
-    → HasDoneBy old events new letters ended → HasDone old new letters ended
+    → IsOutcomeWithAnswers old events new letters ended → IsSomeOutcome old new letters ended
 done_by {events = events} by = record { events = events; done = by.done; told = by.told }
 
 -- nothing was done
 pub by_none : (local new : LocalObject) (letters : List Letter) (ended : List Ended) → new ≡ local → letters ≡ [] → ended ≡ []
-    → HasDoneBy local [] new letters ended
+    → IsOutcomeWithAnswers local [] new letters ended
 by_none local new letters ended same sent told = record {
   done = record { may = tt; local = same; letters = sent };
   told = told;
@@ -56,7 +56,7 @@ by_none local new letters ended same sent told = record {
 -- one event
 pub by_one : (local : LocalObject) (event : LocalEvent) (new : LocalObject) (letters : List Letter) (ended : List Ended)
     → MayHappenHere fragment local event → new ≡ (done_here fragment local event).local
-    → letters ≡ (done_here fragment local event).sent → ended ≡ told local event → HasDoneBy local (event ∷ []) new letters ended
+    → letters ≡ (done_here fragment local event).sent → ended ≡ told local event → IsOutcomeWithAnswers local (event ∷ []) new letters ended
 by_one local event new letters ended may is sent tells = record {
   done = record { may = (may, tt); local = is; letters = sent ∙ sym (nil_right (done_here fragment local event).sent) };
   told = tells ∙ sym (nil_right (told local event));
@@ -64,7 +64,8 @@ by_one local event new letters ended may is sent tells = record {
 
 -- one after another
 pub by_then : (a b c : LocalObject) (es fs : List LocalEvent) (letters later : List Letter) (ended more : List Ended)
-    → HasDoneBy a es b letters ended → HasDoneBy b fs c later more → HasDoneBy a (es ++ fs) c (letters ++ later) (ended ++ more)
+    → IsOutcomeWithAnswers a es b letters ended → IsOutcomeWithAnswers b fs c later more
+    → IsOutcomeWithAnswers a (es ++ fs) c (letters ++ later) (ended ++ more)
 by_then a b c es fs letters later ended more first second = record {
   done = record {
     may = may_append a es fs first.done.may (subst (λ (l : LocalObject). MayAllHappen fragment l fs) first.done.local second.done.may);
@@ -83,7 +84,7 @@ by_then a b c es fs letters later ended more first second = record {
 
 -- the same for another description of the object before
 pub by_from : {o old : LocalObject} {new : LocalObject} {letters : List Letter} {ended : List Ended}
-    (events : LocalObject → List LocalEvent) → o ≡ old → HasDoneBy o (events o) new letters ended
-    → HasDoneBy old (events old) new letters ended
+    (events : LocalObject → List LocalEvent) → o ≡ old → IsOutcomeWithAnswers o (events o) new letters ended
+    → IsOutcomeWithAnswers old (events old) new letters ended
 by_from {new = new} {letters = letters} {ended = ended} events view done =
-    subst (λ (l : LocalObject). HasDoneBy l (events l) new letters ended) view done
+    subst (λ (l : LocalObject). IsOutcomeWithAnswers l (events l) new letters ended) view done

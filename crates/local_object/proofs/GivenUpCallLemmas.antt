@@ -7,7 +7,7 @@ use Rattle.call.specs.Call.{OpenCall as Machine}
 use Rattle.open_calls.specs.OpenCalls.{NodeCall, open_call, without_call}
 use Rattle.local_object.specs.Codes.{carried}
 use Rattle.local_object.specs.Distinct.{HaveOtherIds, DifferInIds}
-use Rattle.local_object.specs.Doing.{IsDone, give_up_events, gives_up, is_client_call}
+use Rattle.local_object.specs.Doing.{IsOutcome, give_up_events, gives_up, is_client_call}
 use Rattle.local_object.specs.Events.{LocalEvent}
 use Rattle.local_object.specs.Local.{LocalObject}
 use Rattle.local_object.proofs.CarriedCallLemmas.{other_at, same_call}
@@ -34,15 +34,15 @@ module _ (o old : LocalObject) (view : o ≡ old) (id : ℕ) where
   gives_is r is = is ∙ ap (λ (l : LocalObject). gives_up l id) view
 
   pub give_up_none : (new : LocalObject) → false ≡ is_client_call (open_call o.calls id) → new ≡ old
-      → IsDone old (give_up_events old id) new []
+      → IsOutcome old (give_up_events old id) new []
   give_up_none new is same =
-      subst (λ b. IsDone old (cond b (LocalEvent.GiveUp id ∷ []) []) new []) (gives_is false is)
+      subst (λ b. IsOutcome old (cond b (LocalEvent.GiveUp id ∷ []) []) new []) (gives_is false is)
       (record { may = tt; local = same; letters = refl })
 
   pub give_up_done : (new : LocalObject) → true ≡ is_client_call (open_call o.calls id)
       → AllByRecursion (λ (call : NodeCall). call.id ≡ id → call.kind ≢ Move) o.calls
-      → new ≡ record o { calls = without_call id o.calls } → IsDone old (give_up_events old id) new []
+      → new ≡ record o { calls = without_call id o.calls } → IsOutcome old (give_up_events old id) new []
   give_up_done new is may same =
-      subst (λ b. IsDone old (cond b (LocalEvent.GiveUp id ∷ []) []) new []) (gives_is true is)
-      (subst (λ (l : LocalObject). IsDone l (LocalEvent.GiveUp id ∷ []) new []) view
+      subst (λ b. IsOutcome old (cond b (LocalEvent.GiveUp id ∷ []) []) new []) (gives_is true is)
+      (subst (λ (l : LocalObject). IsOutcome l (LocalEvent.GiveUp id ∷ []) new []) view
       (record { may = (may, tt); local = same; letters = refl }))

@@ -20,7 +20,7 @@ use Rattle.local_object.specs.Distinct.{HaveOtherIds, HaveDistinctIds, IsCallAt}
 use Rattle.local_object.specs.Ended.{told_if, told_of}
 use Rattle.local_object.specs.Events.{LocalEvent, Outcome, advanced_at, advanced_here, done_here, on_open_call, silent}
 use Rattle.local_object.specs.Going.{IsAdvancedIf, IsAdvanced, IsFetchedValue, next_here, next_if, settled_here, taken_here}
-use Rattle.local_object.specs.Taking.{CanSettle, HasDoneBy, call_events, can_begin, lead_events, machine_of, step_events}
+use Rattle.local_object.specs.Taking.{CanSettle, IsOutcomeWithAnswers, call_events, can_begin, lead_events, machine_of, step_events}
 use Rattle.call.specs.declared.next.Next.{Next as Step}
 use Rattle.local_object.specs.Local.{LocalObject, Place, layout_in, heard_place}
 use Rattle.local_object.specs.May.{MayHappenHere}
@@ -138,10 +138,10 @@ module _ (node : ℕ) (delta : Option ℕ) (places : List Place) where
 
       pub answered_by : (again : Bool) (new : List Machine) (letters : List Letter) (ended : List Ended)
           → next_if again call ≡ next.Answer → new ≡ remove calls index → letters ≡ [] → ended ≡ told_of (at_node node call) ∷ []
-          → HasDoneBy (object calls) (lead_events again (object calls) id) (object new) letters ended
+          → IsOutcomeWithAnswers (object calls) (lead_events again (object calls) id) (object new) letters ended
       answered_by again new letters ended step rest none tells =
           let is = answer_of call (again_answer again (next_here call) step) in
-          subst (λ events. HasDoneBy (object calls) events (object new) letters ended)
+          subst (λ events. IsOutcomeWithAnswers (object calls) events (object new) letters ended)
           (ap (λ n. LocalEvent.Answer n ∷ []) (sym named_is) ∙ sym (lead_is again next.Answer step))
           (by_one (object calls) (LocalEvent.Answer id) (object new) letters ended
           (at_node node call, open_is, ready_of node call None is, due_begun (reached call) ∙ is.due)
@@ -156,14 +156,14 @@ module _ (node : ℕ) (delta : Option ℕ) (places : List Place) where
 
         begun : (new : List Machine) (letters : List Letter) → IsAdvanced places calls call index kind position new letters
             → MayHappenHere fragment (object calls) (LocalEvent.Advance id)
-            → HasDoneBy (object calls) (LocalEvent.Advance call.id ∷ []) (object new) letters []
+            → IsOutcomeWithAnswers (object calls) (LocalEvent.Advance call.id ∷ []) (object new) letters []
         begun new letters adv may =
             let outcome : done_here fragment (object calls) (LocalEvent.Advance id)
             ≡ advanced_at fragment (object calls) (at_node node call) (kind, position) (Some adv.layout) =
             ap (λ o. on_open_call (object calls) o (λ call. advanced_here fragment (object calls) call (due_phase call))) open_is
             ∙ ap (λ n. advanced_here fragment (object calls) (at_node node call) n) next_is
             ∙ ap (λ o. advanced_at fragment (object calls) (at_node node call) (kind, position) o) adv.known in
-            subst (λ n. HasDoneBy (object calls) (LocalEvent.Advance n ∷ []) (object new) letters []) (sym named_is)
+            subst (λ n. IsOutcomeWithAnswers (object calls) (LocalEvent.Advance n ∷ []) (object new) letters []) (sym named_is)
             (by_one (object calls) (LocalEvent.Advance id) (object new) letters [] may
             (ap object adv.calls
             ∙ ap (λ (cs : List NodeCall). record (object calls) { calls = cs })
@@ -180,18 +180,18 @@ module _ (node : ℕ) (delta : Option ℕ) (places : List Place) where
       module _ (kind : Kind) (position : ℕ) (new : List Machine) (letters : List Letter) where
         begun_if : (can : Bool) → IsAdvancedIf can places calls call index kind position new letters
             → ((adv : IsAdvanced places calls call index kind position new letters)
-            → HasDoneBy (object calls) (LocalEvent.Advance call.id ∷ []) (object new) letters [])
-            → HasDoneBy (object calls) (cond can (LocalEvent.Advance call.id ∷ []) []) (object new) letters []
+            → IsOutcomeWithAnswers (object calls) (LocalEvent.Advance call.id ∷ []) (object new) letters [])
+            → IsOutcomeWithAnswers (object calls) (cond can (LocalEvent.Advance call.id ∷ []) []) (object new) letters []
         begun_if true adv advanced = advanced adv
         begun_if false same advanced = by_none (object calls) (object new) letters [] (ap object same.0) same.1 refl
 
         pub advanced_by : (again : Bool)
             → (next_if again call ≡ next.Restart kind position) ⊎ (next_if again call ≡ next.Begin kind position)
             → IsAdvancedIf (can_begin places call kind position) places calls call index kind position new letters
-            → HasDoneBy (object calls) (lead_events again (object calls) id) (object new) letters []
+            → IsOutcomeWithAnswers (object calls) (lead_events again (object calls) id) (object new) letters []
         advanced_by again (inl step) advances =
             let both = restart_of call kind position (again_restart again (next_here call) kind position step) in
-            subst (λ events. HasDoneBy (object calls) events (object new) letters [])
+            subst (λ events. IsOutcomeWithAnswers (object calls) events (object new) letters [])
             (sym (lead_is again (next.Restart kind position) step))
             (begun_if (can_begin places call kind position) advances
             (λ adv. begun kind position both.0.due new letters adv (
@@ -202,7 +202,7 @@ module _ (node : ℕ) (delta : Option ℕ) (places : List Place) where
             )))
         advanced_by again (inr step) advances =
             let is = begin_of call kind position (again_begin again (next_here call) kind position step) in
-            subst (λ events. HasDoneBy (object calls) events (object new) letters [])
+            subst (λ events. IsOutcomeWithAnswers (object calls) events (object new) letters [])
             (sym (lead_is again (next.Begin kind position) step))
             (begun_if (can_begin places call kind position) advances
             (λ adv. begun kind position is.due new letters adv (

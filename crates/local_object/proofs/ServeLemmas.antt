@@ -11,7 +11,7 @@ use Rattle.mail.specs.Message.{body_kind}
 use Rattle.mail.specs.declared.message.Body.{Body}
 use Rattle.mail.specs.declared.message.Body.TheVariants as body
 use Rattle.letter.specs.declared.letter.Letter.{Letter}
-use Rattle.local_object.specs.Doing.{IsDone, has_member, is_member, is_served, names_node, serve_events}
+use Rattle.local_object.specs.Doing.{IsOutcome, has_member, is_member, is_served, names_node, serve_events}
 use Rattle.mail.specs.Message.{is_request}
 use Rattle.local_object.specs.Events.{LocalEvent, learnt_from, next_in_body, served_here}
 use Rattle.local_object.specs.Local.{LocalObject, Place, bank_here, layout_here, layout_in, with_heard, heard_place, with_bank_here}
@@ -105,9 +105,9 @@ module _ (old : LocalObject) (letter : Letter) where
 
   pub serve_done : (mid new : LocalObject) (sent : List Letter) → true ≡ is_served old letter
       → mid ≡ learnt_from old letter → new ≡ (served_here mid letter letter.message.body).local
-      → sent ≡ (served_here mid letter letter.message.body).sent → IsDone old (serve_events old letter) new sent
+      → sent ≡ (served_here mid letter letter.message.body).sent → IsOutcome old (serve_events old letter) new sent
   serve_done mid new sent served with_heard local letters =
-      subst (λ b. IsDone old (cond b (LocalEvent.Serve letter ∷ []) []) new sent) served (record {
+      subst (λ b. IsOutcome old (cond b (LocalEvent.Serve letter ∷ []) []) new sent) served (record {
         may = (
           (request_of letter.message.body (both_first (is_request letter.message.body) rest (sym served)), addressed (sym served)),
           tt,
@@ -118,7 +118,7 @@ module _ (old : LocalObject) (letter : Letter) where
       })
 
 pub serve_none : (old : LocalObject) (letter : Letter) (new : LocalObject) → false ≡ is_served old letter → new ≡ old
-    → IsDone old (serve_events old letter) new []
+    → IsOutcome old (serve_events old letter) new []
 serve_none old letter new served same =
-    subst (λ b. IsDone old (cond b (LocalEvent.Serve letter ∷ []) []) new []) served
+    subst (λ b. IsOutcome old (cond b (LocalEvent.Serve letter ∷ []) []) new []) served
     (record { may = tt; local = same; letters = refl })

@@ -13,7 +13,7 @@ use Rattle.local_object.specs.Doing.{is_taken}
 use Rattle.mail.specs.Message.{is_request}
 use Rattle.local_object.specs.Events.{LocalEvent, all_done, learnt_from}
 use Rattle.local_object.specs.Going.{taken_here}
-use Rattle.local_object.specs.Taking.{AreSettling, HasDoneBy, IsTaken, SettlesFetched, lead_events, repeats}
+use Rattle.local_object.specs.Taking.{AreSettling, IsOutcomeWithAnswers, IsReplyOutcome, SettlesFetched, lead_events, repeats}
 use Rattle.local_object.specs.Local.{LocalObject}
 use Rattle.local_object.proofs.DoneLemmas.{by_none, by_one, by_then}
 use Rattle.local_object.proofs.OpenLemmas.{silent_sent}
@@ -27,7 +27,8 @@ reply_of (body.Request asked) e = absurd (cc)
 reply_of (body.Reply kind made) e = (kind, made, refl)
 
 pub take_by : (old : LocalObject) (letter : Letter) (mid new : LocalObject) → is_taken old letter ≡ true
-    → mid ≡ learnt_from old letter → new ≡ (taken_here mid letter.message).local → HasDoneBy old (LocalEvent.Take letter ∷ []) new [] []
+    → mid ≡ learnt_from old letter → new ≡ (taken_here mid letter.message).local
+    → IsOutcomeWithAnswers old (LocalEvent.Take letter ∷ []) new [] []
 take_by old letter mid new taken learnt is =
     let next = learnt_from old letter in
     by_one old (LocalEvent.Take letter) new [] []
@@ -49,31 +50,33 @@ taken_by local letter kind made r is next open_is =
 -- a letter that no call takes
 pub taken_none : (old : LocalObject) (letter : Letter) (new : LocalObject) (letters : List Letter) (ended : List Ended)
     → false ≡ is_taken old letter → new ≡ old → letters ≡ [] → ended ≡ []
-    → IsTaken (is_taken old letter) old letter new letters ended
+    → IsReplyOutcome (is_taken old letter) old letter new letters ended
 taken_none old letter new letters ended taken same sent tells =
-    subst (λ b. IsTaken b old letter new letters ended) taken (by_none old new letters ended same sent tells)
+    subst (λ b. IsReplyOutcome b old letter new letters ended) taken (by_none old new letters ended same sent tells)
 
 -- what was done after a reply was taken
 module _ {old mid settled new : LocalObject} {letter : Letter} {letters : List Letter} {ended : List Ended}
-    (again : Bool) (first : HasDoneBy old (LocalEvent.Take letter ∷ []) mid [] []) (second : SettlesFetched mid letter.message.call settled)
-    (third : HasDoneBy settled (lead_events again settled letter.message.call) new letters ended) where
-  both : HasDoneBy old (LocalEvent.Take letter ∷ second.events) settled [] []
+    (again : Bool) (first : IsOutcomeWithAnswers old (LocalEvent.Take letter ∷ []) mid [] [])
+    (second : SettlesFetched mid letter.message.call settled)
+    (third : IsOutcomeWithAnswers settled (lead_events again settled letter.message.call) new letters ended) where
+  both : IsOutcomeWithAnswers old (LocalEvent.Take letter ∷ second.events) settled [] []
   both = by_then old mid settled (LocalEvent.Take letter ∷ []) second.events [] [] [] [] first second.done
 
-  pub all_by : HasDoneBy old (LocalEvent.Take letter ∷ second.events ++ lead_events again settled letter.message.call) new letters ended
+  pub all_by : IsOutcomeWithAnswers old
+      (LocalEvent.Take letter ∷ second.events ++ lead_events again settled letter.message.call) new letters ended
   all_by = by_then old settled new (LocalEvent.Take letter ∷ second.events) (lead_events again settled letter.message.call) [] letters []
       ended
       both third
 
-  pub goes_on : is_taken old letter ≡ true → again ≡ repeats old letter → IsTaken (is_taken old letter) old letter new letters ended
+  pub goes_on : is_taken old letter ≡ true → again ≡ repeats old letter → IsReplyOutcome (is_taken old letter) old letter new letters ended
   goes_on taken repeated =
-      subst (λ b. IsTaken b old letter new letters ended) (sym taken) (record {
+      subst (λ b. IsReplyOutcome b old letter new letters ended) (sym taken) (record {
         settling = second.events;
         settles = subst (λ (l : LocalObject). AreSettling l letter.message.call second.events) first.done.local second.settles;
-        leads = subst (λ (b : Bool). HasDoneBy old
+        leads = subst (λ (b : Bool). IsOutcomeWithAnswers old
             (LocalEvent.Take letter ∷ second.events ++ lead_events b (all_done fragment old
             (LocalEvent.Take letter ∷ second.events)).local letter.message.call) new letters ended) repeated
-            (subst (λ (l : LocalObject). HasDoneBy old
+            (subst (λ (l : LocalObject). IsOutcomeWithAnswers old
             (LocalEvent.Take letter ∷ second.events ++ lead_events again l letter.message.call) new letters ended)
             both.done.local all_by);
       })

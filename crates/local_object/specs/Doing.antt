@@ -17,7 +17,8 @@ use Rattle.local_object.specs.Local.{LocalObject, last_position, layout_here}
 use Rattle.local_object.specs.May.{MayAllHappen}
 
 -- these events may happen, and after them the node keeps this and has sent these letters
-pub record IsDone (old : LocalObject) (events : List LocalEvent) (new : LocalObject) (sent : List Letter) : Type 0 where
+pub record IsOutcome (old : LocalObject) (events : List LocalEvent) (new : LocalObject) (sent : List Letter)
+    : Type 0 where
   pub may : MayAllHappen fragment old events
   pub local : new ≡ (all_done fragment old events).local
   pub letters : sent ≡ (all_done fragment old events).sent

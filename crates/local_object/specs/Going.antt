@@ -17,7 +17,7 @@ use Rattle.call.specs.Steps.{entered, phase_next}
 use Rattle.letter.specs.declared.letter.Letter.{Letter}
 use Rattle.local_object.specs.declared.progress.Ended.{Ended}
 use Rattle.local_object.specs.Coding.{call_value}
-use Rattle.local_object.specs.Doing.{IsDone}
+use Rattle.local_object.specs.Doing.{IsOutcome}
 use Rattle.local_object.specs.Ended.{all_told}
 use Rattle.local_object.specs.Events.{LocalEvent, Outcome, on_open_call, silent}
 use Rattle.mail.specs.declared.message.Message.{Message}
@@ -49,7 +49,7 @@ unless_again again step = step
 abbrev pub next_if : (again : Bool) → Machine → Next
 next_if again call = unless_again again (next_here call)
 
--- this holds, if the call does anything but wait
+-- the given fact holds, unless this next step of a call is to wait
 abbrev pub UnlessWaiting : Next → Type 0 → Type 0
 UnlessWaiting next.Wait fact = Unit {0}
 UnlessWaiting _ fact = fact
@@ -105,7 +105,7 @@ settled_here local id value =
     (λ call. silent (record local { calls = with_open (record call { settled = Some value }) local.calls }))
 
 -- some events may happen, after which the node keeps this, has sent these letters, and has answered these calls
-pub record HasDone (old new : LocalObject) (letters : List Letter) (ended : List Ended) : Type 0 where
+pub record IsSomeOutcome (old new : LocalObject) (letters : List Letter) (ended : List Ended) : Type 0 where
   pub events : List LocalEvent
-  pub done : IsDone old events new letters
+  pub done : IsOutcome old events new letters
   pub told : ended ≡ all_told fragment old events

@@ -11,7 +11,7 @@ use Rattle.local_object.specs.Local.{LocalObject, Place}
 abbrev pub is_new_place : (first : Layout) → Place → Bool
 is_new_place first place = place.position == 0 && (not (is_some place.bank) && same_layout place.layout first)
 
--- the same of a place, if there is one
+-- whether there is a place, and it is position 0 with this layout, and without a bank
 abbrev pub is_new_if : (first : Layout) → Option Place → Bool
 is_new_if first None = false
 is_new_if first (Some place) = is_new_place first place

@@ -38,7 +38,7 @@ letters_again_at fragment local call (Some layout) =
     if is_sendable call.phase.kind (machine_of call)
     then due_again (machine_of call) (current_letters fragment local call layout) else []
 
--- the same of a call, if it is open, at the position of its current phase
+-- the letters that a call sends again, at the position of its current phase; none if there is no call
 abbrev pub letters_again_of : Code → LocalObject → Option NodeCall → List Letter
 letters_again_of fragment local None = []
 letters_again_of fragment local (Some call) =

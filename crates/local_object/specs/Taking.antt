@@ -15,7 +15,7 @@ use Rattle.open_calls.specs.OpenCalls.{NodeCall, open_call}
 use Rattle.letter.specs.declared.letter.Letter.{Letter}
 use Rattle.local_object.specs.declared.progress.Ended.{Ended}
 use Rattle.local_object.specs.Coding.{is_sendable}
-use Rattle.local_object.specs.Doing.{IsDone}
+use Rattle.local_object.specs.Doing.{IsOutcome}
 use Rattle.local_object.specs.Ended.{all_told}
 use Rattle.local_object.specs.Events.{LocalEvent, all_done}
 use Rattle.local_object.specs.Going.{IsFetchedValue, next_here, next_if}
@@ -48,7 +48,7 @@ begin_events places call kind position =
 abbrev pub is_repeat_in : Phase → Message → Bool
 is_repeat_in phase message = (message.phase == phase.number) && has_taken phase.replies message.member
 
--- the same of the current phase of a call, if there is one
+-- whether there is a call, and a message repeats a reply that its current phase has recorded
 abbrev pub is_repeated : Option NodeCall → Message → Bool
 is_repeated None message = false
 is_repeated (Some call) message = is_repeat_in call.phase message
@@ -88,16 +88,16 @@ AreSettling local id events =
     ⊎ ((value : List ℕ) × CanSettle local id value × (events ≡ LocalEvent.Settle id value ∷ []))
 
 -- these events may happen, after which the node keeps this, has sent these letters, and has answered these calls
-pub record HasDoneBy (old : LocalObject) (events : List LocalEvent) (new : LocalObject) (letters : List Letter)
-    (ended : List Ended) : Type 0 where
-  pub done : IsDone old events new letters
+pub record IsOutcomeWithAnswers (old : LocalObject) (events : List LocalEvent) (new : LocalObject)
+    (letters : List Letter) (ended : List Ended) : Type 0 where
+  pub done : IsOutcome old events new letters
   pub told : ended ≡ all_told fragment old events
 
 -- the call with this id settled what it fetched, if it could
 pub record SettlesFetched (old : LocalObject) (id : ℕ) (new : LocalObject) : Type 0 where
   pub events : List LocalEvent
   pub settles : AreSettling old id events
-  pub done : HasDoneBy old events new [] []
+  pub done : IsOutcomeWithAnswers old events new [] []
 
 -- after a reply was taken, the call settles what it fetched, if it can, and then goes on; it begins anew only if it had
 -- recorded a reply of that member before
@@ -105,13 +105,13 @@ pub record GoesOn (old : LocalObject) (letter : Letter) (new : LocalObject) (let
     (ended : List Ended) : Type 0 where
   pub settling : List LocalEvent
   pub settles : AreSettling (all_done fragment old (LocalEvent.Take letter ∷ [])).local letter.message.call settling
-  pub leads : HasDoneBy old
+  pub leads : IsOutcomeWithAnswers old
       (LocalEvent.Take letter ∷ settling
       ++ lead_events (repeats old letter) (all_done fragment old (LocalEvent.Take letter ∷ settling)).local
       letter.message.call)
       new letters ended
 
 -- what comes of a letter that may be a reply to a call that is open here: if it is one, the call takes it and goes on
-abbrev pub IsTaken : Bool → LocalObject → Letter → LocalObject → List Letter → List Ended → Type 0
-IsTaken false old letter new letters ended = HasDoneBy old [] new letters ended
-IsTaken true old letter new letters ended = GoesOn old letter new letters ended
+abbrev pub IsReplyOutcome : Bool → LocalObject → Letter → LocalObject → List Letter → List Ended → Type 0
+IsReplyOutcome false old letter new letters ended = IsOutcomeWithAnswers old [] new letters ended
+IsReplyOutcome true old letter new letters ended = GoesOn old letter new letters ended

@@ -2,7 +2,7 @@ ghost use Rattle.std.specs.Prelude.{◌≡◌, ◌+◌, ◌<◌, ◌^◌, IfOk, 
 ghost use Rattle.tag.specs.declared.refusal.Refusal.TheVariants.{NoMemory};
 ghost use Rattle.local_object.specs.Local.{new_local, heard_place};
 ghost use Rattle.local_object.specs.Events.{learnt_from, served_here};
-ghost use Rattle.local_object.specs.Doing.{IsDone, has_member, is_served, serve_events};
+ghost use Rattle.local_object.specs.Doing.{IsOutcome, has_member, is_served, serve_events};
 
 use crate::calls::Calls;
 use crate::letters::letter_of;
@@ -93,7 +93,7 @@ impl LocalObject {
     /// `NoMemory` is the only refusal.
     pub fn serve(&mut self, letter: Letter) -> Result<Option<Letter>, Refusal>
         ensures done { IfOk result (λ reply.
-            IsDone self.old (serve_events self.old letter) self.new (option_to_list reply)) }
+            IsOutcome self.old (serve_events self.old letter) self.new (option_to_list reply)) }
 
         ensures refused { IfErr result (λ e. e ≡ NoMemory) }
     {

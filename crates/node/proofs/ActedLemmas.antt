@@ -144,7 +144,7 @@ acted_then asker other got more a b c v w x done outputs notices own acts itself
       digest = acts.digest ∙ done.digest;
     }
 
--- nothing is done, where the same waits in other words
+-- what a node has done stays true of an equal work: with the same outputs, notices and letters to itself
 pub acted_same : (asker : ℕ) (got : List Named) (a b : Keeper) (v w : Work) → HasActed asker got a b v →
     w.outputs.items ≡ v.outputs.items → w.notices.items ≡ v.notices.items → w.own.items ≡ v.own.items →
     HasActed asker got a b w

@@ -56,17 +56,17 @@ abbrev pub StartingNodesHaveOwn : Type 0
 StartingNodesHaveOwn = (node : Node) (file : FileContents) (number : ℕ) → IsLawfulFile file →
     kept_of node.keeper ≡ new_node (names_of file) number → HasOwnObjects (kept_of node.keeper)
 
--- they stay its own as it handles a frame
+-- if all objects of a node are its own, they still are after it handles a frame
 abbrev pub HandledFramesKeepOwn : Type 0
 HandledFramesKeepOwn = (old new : Node) (frame : Strings) (effects : Effects) → Handles old frame effects new →
     HasOwnObjects (kept_of old.keeper) → HasOwnObjects (kept_of new.keeper)
 
--- they stay its own as it carries out an entry of its log again
+-- if all objects of a node are its own, they still are after it carries out an entry of its log again
 abbrev pub RecoveredEntriesKeepOwn : Type 0
 RecoveredEntriesKeepOwn = (old new : Node) (entry : Strings) → CarriesOutEntry old entry new →
     HasOwnObjects (kept_of old.keeper) → HasOwnObjects (kept_of new.keeper)
 
--- they stay its own as it starts
+-- if all objects of a node are its own, they still are after it starts
 abbrev pub StartedNodesKeepOwn : Type 0
 StartedNodesKeepOwn = (old new : Node) → IsStarted (kept_of old.keeper) (kept_of new.keeper) →
     HasOwnObjects (kept_of old.keeper) → HasOwnObjects (kept_of new.keeper)

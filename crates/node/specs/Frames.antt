@@ -62,7 +62,7 @@ abbrev pub sender_of : ℕ → Arrival → ℕ
 sender_of number (came.Message sender frame) = sender
 sender_of number arrival = number
 
--- the same, if anything has come
+-- the node from which something has come, or the given one if nothing has come or it did not come from a node
 abbrev pub sender_or : ℕ → Option Arrival → ℕ
 sender_or number None = number
 sender_or number (Some arrival) = sender_of number arrival

@@ -41,7 +41,7 @@ heard_fault number heard layout =
     if nat_le (quorum_of layout) (count_by (hears number heard) layout.members) then None
     else not_heard (first_not_heard number heard layout)
 
--- the same if the host tells which nodes it hears, and no fault otherwise
+-- the fault of a layout with too few heard members, if the host tells which nodes it hears; no fault otherwise
 abbrev pub told_fault : (number : ℕ) → Option Heard → Layout → Option AnswerError
 told_fault number None layout = None
 told_fault number (Some heard) layout = heard_fault number heard layout

@@ -60,7 +60,7 @@ pub record HasNoted (other : Report) (old new : Peers) : Type 0 where
   pub others : new.others.items ≡ with_other old.others.items other
   pub told : new.told ≡ old.told
 
--- the same if this holds, and otherwise nothing changes
+-- if the condition holds, a message of a node with another cluster file was noted; otherwise nothing changed
 abbrev pub HasNotedIf : Bool → (other : Report) → (old new : Peers) → Type 0
 HasNotedIf true other old new = HasNoted other old new
 HasNotedIf false other old new = new ≡ old
@@ -91,12 +91,12 @@ IsChangedBy None keeper old new = new ≡ old
 abbrev pub next_report : Peers → Option Report
 next_report peers = slice_get peers.others.items peers.told
 
--- it is told of this node, and so not again
+-- the state after the next report, if there is one, was told: it counts as told, and is not told again
 abbrev pub with_next_told : Peers → Peers
 with_next_told peers =
     if nat_lt peers.told (length peers.others.items) then record peers { told = peers.told + 1 } else peers
 
--- each of these is there once: none is the same as one before it, or as one of those in front of all
+-- each report in `others` differs from all reports before it in the list, and from all in `front`
 abbrev pub AreOnce : (front others : List Report) → Type 0
 AreOnce front [] = ⊤
 AreOnce front (other ∷ others) = (is_known front other ≡ false) × AreOnce (front ++ other ∷ []) others

@@ -4,7 +4,7 @@ use Rattle.std.specs.Prelude.{◌≡◌, ⊤, ℕ, ◌||◌, ◌&&◌, not, Bool
 use Rattle.std.specs.Prelude.{Option, None, Some}
 use Rattle.indexmap.specs.IndexMap.{keys}
 use Rattle.local_object.specs.Doing.{give_up_events}
-use Rattle.node_keeper.specs.Doing.{IsDoneAt}
+use Rattle.node_keeper.specs.Doing.{IsOutcomeAt}
 use Rattle.node_keeper.specs.Objects.{objects_of}
 use Rattle.node_strings.specs.declared.arrival.Arrival.{Arrival}
 use Rattle.node_strings.specs.declared.arrival.Arrival.TheVariants as came
@@ -46,7 +46,7 @@ PutsOut keeper sends before after = after ≡ before ++ send_all (posted keeper.
 abbrev pub IsKeptAs : (given_up : Bool) → (old : Keeper) → (name : List ℕ) → (id : ℕ) → (new : Keeper) → Type 0
 IsKeptAs false old name id new = new ≡ old
 IsKeptAs true old name id new =
-    IsDoneAt old.objects name (give_up_events (objects_of old.objects name) id) new.objects [] × KeepsRest old new
+    IsOutcomeAt old.objects name (give_up_events (objects_of old.objects name) id) new.objects [] × KeepsRest old new
 
 -- what the node keeps when a call got older by a tick: the same, unless the call was given up
 abbrev pub IsKeptAtAge : (old : Keeper) → (id : ℕ) → Option Aged → (new : Keeper) → Type 0
@@ -79,7 +79,7 @@ pub record SendsAgain (ids : List ℕ) (old : Node) (before : List Output) (new 
 abbrev pub hearing : Heard → Node → Node
 hearing heard node = record node { peers = record node.peers { heard = heard_at heard } }
 
--- the same if a tick has come, with which the host tells which nodes it hears; nothing for anything else
+-- at a tick, the node notes which nodes its host hears, and open calls send requests again; else this says nothing
 abbrev pub IsAsking : Option Arrival → (old : Node) → (before : List Output) → (new : Node) → (after : List Output) →
     Type 0
 IsAsking (Some (came.Tick heard)) old before new after =

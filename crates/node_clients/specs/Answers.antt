@@ -22,7 +22,7 @@ answer_frame client answer = client_address client ∷ sent_strings answer
 abbrev pub answer_sent : (client : ℕ) → Answer → Growth
 answer_sent client answer = record no_growth { to_clients = answer_frame client answer ∷ []; due = client ∷ [] }
 
--- the same if the client's connection is there, and nothing otherwise
+-- what is added to a node's work for an answer to a client: nothing if the client's connection is not there
 abbrev pub answer_growth : (is_there : Bool) → (client : ℕ) → Answer → Growth
 answer_growth is_there client answer = if is_there then answer_sent client answer else no_growth
 

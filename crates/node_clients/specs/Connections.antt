@@ -39,7 +39,7 @@ TakesNext old new (Some command) =
 TakesNext old new None =
     ((old.state ≡ Idle) → old.waiting.items ≡ []) × (new.waiting.items ≡ old.waiting.items) × (new.state ≡ old.state)
 
--- the same for a connection that may not be there: it then counts as idle, without waiting commands
+-- how a connection changes when its next command is taken; a missing one counts as idle, without waiting commands
 abbrev pub TakesNextAt : Option Connection → Option Connection → Option (List (List ℕ)) → Type 0
 TakesNextAt old new (Some command) =
     (doing old ≡ Idle) × (waiting_on old ≡ command ∷ waiting_on new) × (doing new ≡ Busy)

@@ -43,7 +43,7 @@ pub record IsIdleAgain (old : Connections) (client : ℕ) (new : Connections) : 
   pub waiting : waiting_on (get nat_eq new.by_number client) ≡ waiting_on (get nat_eq old.by_number client)
   pub others : (other : ℕ) → other ≢ client → get nat_eq new.by_number other ≡ get nat_eq old.by_number other
 
--- the same for a client that may be none: if it is none, all connections are as they were
+-- if there is a client, its connection is idle again, as `IsIdleAgain` says; otherwise no connection has changed
 abbrev pub IsIdleFor : (old : Connections) → (client : Option ℕ) → (new : Connections) → Type 0
 IsIdleFor old None new = new ≡ old
 IsIdleFor old (Some client) new = IsIdleAgain old client new

@@ -26,7 +26,7 @@ no_frame strings faults.BadNumber none is = none
 no_frame strings faults.NoLineEnd none is = none
 no_frame strings faults.UnexpectedEnd none is = none
 
--- why strings become no entry is what a node says of it
+-- if strings become no entry, the node's error says why: memory was refused, or they are no frame
 pub unwritten_entry : (strings : Strings) (error : FrameError) → IsNoEntry strings error →
     IsUnwritten (IsEntry strings) (error_of_frame error)
 unwritten_entry strings (frame_errors.Fault fault) none = λ is. no_frame (sealed strings) fault none is

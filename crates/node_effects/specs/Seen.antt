@@ -18,6 +18,6 @@ seen_of (notice.Writes name id value) = Seen.Writes name id value
 seen_of (notice.Moves name id layout) = Seen.Moves name id layout
 seen_of (notice.Tells name ended) = Seen.Tells name ended
 
--- the same for several things that clients see, in order
+-- several things that clients see, in order, as `deeds` defines them
 abbrev pub all_seen : List Notice → List Seen
 all_seen notices = map seen_of notices

@@ -15,7 +15,7 @@ use Rattle.deeds.proofs.IdLemmas.{later_same}
 use Rattle.deeds.proofs.MethodLemmas.{begun_handled}
 use Rattle.recoveries.specs.Records.{LogRecord}
 use Rattle.recoveries.specs.Stops.{logged_first}
-use Rattle.node_keeper.specs.Doing.{IsDoneAt}
+use Rattle.node_keeper.specs.Doing.{IsOutcomeAt}
 use Rattle.node_keeper.specs.Objects.{objects_of}
 use Rattle.node_effects.specs.Seen.{seen_of}
 use Rattle.node_effects.specs.Work.{Growth, IsGrown, both_grown, log_all, no_growth, send_all}
@@ -41,7 +41,7 @@ use Rattle.node_keeper.proofs.SendingLemmas.{asked_addressed, going_letters}
 next_acts : (asker : ℕ) (old new : Keeper) (before noted after : Work) (name : List ℕ) (event : LocalEvent) (id : ℕ)
     (letters : List Letter) (records : List LogRecord) (notice : Notice) → new.file ≡ old.file → new.digest ≡ old.digest →
     next_given_id old.ids ≡ Some id → new.ids ≡ after_given old.ids →
-    IsDoneAt old.objects name (event ∷ []) new.objects letters → begun_id event ≡ Some id →
+    IsOutcomeAt old.objects name (event ∷ []) new.objects letters → begun_id event ≡ Some id →
     IsEventAllowed old.ids.node old.file.fixed.mover event →
     seen_of notice ∷ [] ≡ noticed name (objects_of old.objects name) event → AreFew records →
     EventIsLogged old name event records → AllByRecursion (IsReadBack old.digest) records →
@@ -85,7 +85,7 @@ module _ (asker : ℕ) (old new : Keeper) where
   -- a call begins: an id is given, and then as above
   pub begun_acts : (before given noted after : Work) (name : List ℕ) (event : LocalEvent) (id : ℕ) (letters : List Letter)
       (records : List LogRecord) (notice : Notice) → new.file ≡ old.file → new.digest ≡ old.digest →
-      GivesId old.ids id new.ids before given → IsDoneAt old.objects name (event ∷ []) new.objects letters →
+      GivesId old.ids id new.ids before given → IsOutcomeAt old.objects name (event ∷ []) new.objects letters →
       begun_id event ≡ Some id → IsEventAllowed old.ids.node old.file.fixed.mover event →
       seen_of notice ∷ [] ≡ noticed name (objects_of old.objects name) event → AreFew records →
       EventIsLogged old name event records → AllByRecursion (IsReadBack old.digest) records →

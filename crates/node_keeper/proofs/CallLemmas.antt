@@ -9,7 +9,7 @@ use Rattle.tag.specs.declared.refusal.Refusal.{Refusal}
 use Rattle.tag.specs.declared.refusal.Refusal.TheVariants.{NoMemory}
 use Rattle.letter.specs.declared.letter.Letter.{Letter}
 use Rattle.local_object.specs.Events.{done_here}
-use Rattle.node_keeper.specs.Doing.{IsDoneAt}
+use Rattle.node_keeper.specs.Doing.{IsOutcomeAt}
 use Rattle.node_keeper.specs.declared.objects.Objects.{Objects}
 use Rattle.node_keeper.specs.Objects.{AreSame, objects_of}
 use Rattle.node_effects.specs.Errors.{IsUnwritten}
@@ -38,7 +38,7 @@ gives_node old id new before after (inr g) =
 -- a call begins
 pub call_begun : (call : Beginning) (id : ℕ) (old new : Keeper) (before given seen after : Work) (letters : List Letter) →
     GivesId old.ids id new.ids before given → call.refusal (objects_of old.objects call.name) id ≡ None →
-    IsDoneAt old.objects call.name (call.event id ∷ []) new.objects letters →
+    IsOutcomeAt old.objects call.name (call.event id ∷ []) new.objects letters →
     IsGrown given seen (opened_growth old.digest (call.records id) (call.notice id)) →
     IsGrown seen after (sent_growth new.ids.node old.digest (asked new.ids.node call.name letters)) →
     AllByRecursion (IsLoggable old.digest) (call.records id) →
@@ -62,7 +62,7 @@ call_begun call id old new before given seen after letters gives cause done sees
       digest = digest;
     }
 
--- what a method says of its refusal by what this is
+-- the refusal is the given cause, or NoMemory if there is no cause
 abbrev pub IsRefusedBy : Option Refusal → Refusal → Type 0
 IsRefusedBy cause refusal = (cause ≡ Some refusal) ⊎ ((cause ≡ None) × (refusal ≡ NoMemory))
 
@@ -113,7 +113,7 @@ module _ (call : Beginning) (old : Keeper) where
 
     -- a letter does not fit
     pub post_not_begun : (new : Objects) (letters : List Letter) →
-        IsDoneAt old.objects call.name (call.event id ∷ []) new letters → (number : ℕ) → number ≡ old.ids.node →
+        IsOutcomeAt old.objects call.name (call.event id ∷ []) new letters → (number : ℕ) → number ≡ old.ids.node →
         (error : NodeError) →
         IsUnwritten (AllByRecursion (IsSendable number old.digest) (asked number call.name letters)) error →
         IsNotBegun call old error

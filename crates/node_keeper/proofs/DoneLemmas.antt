@@ -4,10 +4,10 @@ use Rattle.deeds.specs.CallId.{CallIds}
 use Rattle.letter.specs.declared.letter.Letter.{Letter}
 use Rattle.local_object.specs.declared.progress.Ended.{Ended}
 use Rattle.local_object.specs.Events.{LocalEvent}
-use Rattle.node_keeper.specs.Doing.{IsDoneAt, IsTakenAt}
+use Rattle.node_keeper.specs.Doing.{IsOutcomeAt, IsReplyOutcomeAt}
 use Rattle.node_keeper.specs.Objects.{HaveSameSettings}
 use Rattle.cluster_file.specs.Placement.{placed}
-use Rattle.recoveries.specs.Records.{IsDoneTo, IsTakenBy}
+use Rattle.recoveries.specs.Records.{IsNamedOutcome, IsNamedReplyOutcome}
 use Rattle.node_keeper.specs.Keeping.{names_of_keeper, kept_of}
 use Rattle.node_keeper.specs.declared.keeper.Keeper.{Keeper}
 
@@ -22,8 +22,8 @@ file_same old new file same = λ i. record {
 
 -- what is done to the object of a name, as the laws on logs say it
 pub done_to : (old new : Keeper) (name : List ℕ) (events : List LocalEvent) (letters : List Letter) → new.file ≡ old.file →
-    new.ids.node ≡ old.ids.node → new.ids.epoch ≡ old.ids.epoch → IsDoneAt old.objects name events new.objects letters →
-    IsDoneTo (kept_of old) name events (kept_of new)
+    new.ids.node ≡ old.ids.node → new.ids.epoch ≡ old.ids.epoch → IsOutcomeAt old.objects name events new.objects letters →
+    IsNamedOutcome (kept_of old) name events (kept_of new)
 done_to old new name events letters file node epoch done = record {
   local = done.local;
   sent = letters;
@@ -38,13 +38,13 @@ done_to old new name events letters file node epoch done = record {
 
 -- what is done to the object of a name, where no id is given
 pub done_of : (old new : Keeper) (name : List ℕ) (events : List LocalEvent) (letters : List Letter) → new.file ≡ old.file →
-    new.ids ≡ old.ids → IsDoneAt old.objects name events new.objects letters → IsDoneTo (kept_of old) name events (kept_of new)
+    new.ids ≡ old.ids → IsOutcomeAt old.objects name events new.objects letters → IsNamedOutcome (kept_of old) name events (kept_of new)
 done_of old new name events letters file ids done =
     done_to old new name events letters file (ap (λ (i : CallIds). i.node) ids) (ap (λ (i : CallIds). i.epoch) ids) done
 
 abbrev pub taken_by : (old new : Keeper) (name : List ℕ) (letter : Letter) (letters : List Letter) (ended : List Ended) →
-    new.file ≡ old.file → new.ids ≡ old.ids → IsTakenAt old.objects name letter new.objects letters ended →
-    IsTakenBy (kept_of old) name letter (kept_of new)
+    new.file ≡ old.file → new.ids ≡ old.ids → IsReplyOutcomeAt old.objects name letter new.objects letters ended →
+    IsNamedReplyOutcome (kept_of old) name letter (kept_of new)
 taken_by old new name letter letters ended file ids done = record {
   local = done.local;
   sent = letters;

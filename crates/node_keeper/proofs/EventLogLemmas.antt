@@ -7,9 +7,9 @@ use Rattle.local_object.specs.Doing.{move_refusal, read_refusal, write_refusal}
 use Rattle.local_object.specs.Local.{LocalObject}
 use Rattle.deeds.specs.Kept.{FileOfNames, KeptNode}
 use Rattle.recoveries.specs.Copies.{IsLogged}
-use Rattle.recoveries.specs.Records.{IsDoneTo, LogRecord}
+use Rattle.recoveries.specs.Records.{IsNamedOutcome, LogRecord}
 use Rattle.recoveries.proofs.LoggedLemmas.{moves_logged, reads_unlogged, writes_unlogged}
-use Rattle.node_keeper.specs.Doing.{IsDoneAt}
+use Rattle.node_keeper.specs.Doing.{IsOutcomeAt}
 use Rattle.node_keeper.specs.declared.objects.Objects.{Objects}
 use Rattle.node_keeper.specs.Objects.{objects_of}
 use Rattle.node_keeper.specs.Keeping.{names_of_keeper}
@@ -19,7 +19,7 @@ use Rattle.node_keeper.specs.declared.keeper.Keeper.{Keeper}
 -- the cluster file of this one
 abbrev pub EventIsLogged : (old : Keeper) (name : List ℕ) → LocalEvent → List LogRecord → Type 0
 EventIsLogged old name event records = (from to : KeptNode) → from.file ≡ names_of_keeper old → from.ids.node ≡ old.ids.node →
-    from.objects ≡ objects_of old.objects → IsDoneTo from name (event ∷ []) to → IsLogged from records to
+    from.objects ≡ objects_of old.objects → IsNamedOutcome from name (event ∷ []) to → IsLogged from records to
 
 pub read_logged : (old : Keeper) (name : List ℕ) (id : ℕ) → read_refusal (objects_of old.objects name) id ≡ None →
     EventIsLogged old name (LocalEvent.BeginRead id) []
@@ -35,7 +35,7 @@ write_logged old name id value free from to file number objects done =
 
 -- a move that begins has a lawful layout
 pub lawful_of : {old new : Objects} {name : List ℕ} {id : ℕ} {layout : Layout} {letters : List Letter} →
-    IsDoneAt old name (LocalEvent.BeginMove id layout ∷ []) new letters → IsLawful layout
+    IsOutcomeAt old name (LocalEvent.BeginMove id layout ∷ []) new letters → IsLawful layout
 lawful_of done = done.done.may.0.0
 
 pub move_logged : (old : Keeper) (name : List ℕ) (id : ℕ) (layout : Layout) → old.ids.node ≡ old.file.fixed.mover →

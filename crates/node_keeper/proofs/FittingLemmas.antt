@@ -24,7 +24,7 @@ use Rattle.deeds.specs.CallId.{CallIds}
 use Rattle.letter.specs.declared.letter.Letter.{Letter}
 use Rattle.local_object.specs.declared.progress.Ended.{Ended}
 use Rattle.local_object.specs.Doing.{serve_events}
-use Rattle.node_keeper.specs.Doing.{IsDoneAt, IsTakenAt}
+use Rattle.node_keeper.specs.Doing.{IsOutcomeAt, IsReplyOutcomeAt}
 use Rattle.node_keeper.specs.declared.objects.Objects.{Objects}
 use Rattle.node_keeper.specs.Objects.{objects_of}
 use Rattle.node_strings.specs.Record.{record_strings}
@@ -115,7 +115,7 @@ message_fails m message_errors.NoMemory is = tt
 
 -- a reply that has no frame
 pub serve_unsent : (asker : ℕ) (it : NamedLetter) (keeper : Keeper) (new : Objects) (reply : Letter) →
-    IsDoneAt keeper.objects it.name (serve_events (objects_of keeper.objects it.name) it.letter) new (reply ∷ []) →
+    IsOutcomeAt keeper.objects it.name (serve_events (objects_of keeper.objects it.name) it.letter) new (reply ∷ []) →
     (error : NodeError) →
     IsUnwritten (IsSendable keeper.ids.node keeper.digest (sending asker (record { name = it.name; letter = reply }))) error →
     IsUnwritten (CanServe asker it keeper) error
@@ -126,7 +126,7 @@ serve_unsent asker it keeper new reply done error is =
 
 -- a letter that an answer leads to has no frame
 pub take_unsent : (it : NamedLetter) (keeper : Keeper) (new : Objects) (letters : List Letter) (ended : List Ended) →
-    IsTakenAt keeper.objects it.name it.letter new letters ended → (error : NodeError) →
+    IsReplyOutcomeAt keeper.objects it.name it.letter new letters ended → (error : NodeError) →
     IsUnwritten (AllByRecursion (IsSendable keeper.ids.node keeper.digest) (asked keeper.ids.node it.name letters)) error →
     IsUnwritten (CanTake it keeper) error
 take_unsent it keeper new letters ended taken error is =

@@ -15,7 +15,7 @@ use Rattle.deeds.specs.Named.{NamedLetter as Named}
 use Rattle.recoveries.specs.Copies.{IsHeeded, IsLogged}
 use Rattle.recoveries.specs.Records.{LogRecord}
 use Rattle.recoveries.proofs.LoggedLemmas.{given_up_unlogged, served_logged, taken_logged, taken_unlogged, unchanged_unlogged}
-use Rattle.node_keeper.specs.Doing.{IsDoneAt}
+use Rattle.node_keeper.specs.Doing.{IsOutcomeAt}
 use Rattle.node_keeper.specs.Objects.{objects_of}
 use Rattle.node_effects.specs.Seen.{all_seen, named_of}
 use Rattle.node_effects.specs.Work.{both_grown, log_all, no_growth}
@@ -133,7 +133,7 @@ module _ (it : NamedLetter) (old new : Keeper) (before after : Work) (ended : Op
 -- a call is given up
 pub given_up_acts : (asker : ℕ) (old new : Keeper) (work : Work) (name : List ℕ) (id : ℕ) → new.file ≡ old.file →
     new.digest ≡ old.digest → new.ids ≡ old.ids →
-    IsDoneAt old.objects name (give_up_events (objects_of old.objects name) id) new.objects [] →
+    IsOutcomeAt old.objects name (give_up_events (objects_of old.objects name) id) new.objects [] →
     Acts asker [] old work new work
 given_up_acts asker old new work name id file digest ids done =
     let local = objects_of old.objects name in

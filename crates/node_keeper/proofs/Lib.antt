@@ -16,5 +16,5 @@ pub mod RequestLemmas
 pub mod ResultLemmas
 pub mod SeenLemmas
 pub mod SendingLemmas
-pub mod SparedLemmas
+pub mod UnchangedObjectLemmas
 pub mod WantLemmas

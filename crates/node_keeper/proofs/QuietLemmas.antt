@@ -10,16 +10,16 @@ use Rattle.deeds.specs.CallId.{CallIds}
 use Rattle.open_calls.specs.OpenCalls.{NodeCall, open_call}
 use Rattle.letter.specs.declared.letter.Letter.{Letter}
 use Rattle.local_object.specs.declared.progress.Ended.{Ended}
-use Rattle.local_object.specs.Doing.{IsDone, give_up_events, gives_up, is_served, serve_events}
+use Rattle.local_object.specs.Doing.{IsOutcome, give_up_events, gives_up, is_served, serve_events}
 use Rattle.local_object.specs.Ended.{all_told}
 use Rattle.local_object.specs.Events.{LocalEvent, all_done}
 use Rattle.local_object.specs.Going.{next_if}
 use Rattle.local_object.specs.Local.{LocalObject, Place}
-use Rattle.local_object.specs.Taking.{AreSettling, HasDoneBy, IsTaken, call_events, can_begin}
+use Rattle.local_object.specs.Taking.{AreSettling, IsOutcomeWithAnswers, IsReplyOutcome, call_events, can_begin}
 use Rattle.local_object.specs.Taking.{lead_events, machine_of, repeats, step_events}
 use Rattle.deeds.specs.Deeds.{Notice as Seen}
 use Rattle.deeds.specs.Ids.{IsLater}
-use Rattle.deeds.specs.May.{IsEventFed}
+use Rattle.deeds.specs.May.{IsEventLetterKnown}
 use Rattle.deeds.specs.Named.{NamedLetter as Named, with_names}
 use Rattle.deeds.proofs.IdLemmas.{later_same}
 use Rattle.open_calls.proofs.ListLemmas.{all_append, all_weaker}
@@ -58,8 +58,8 @@ pub record GoesOut (asker : ℕ) (keeper : Keeper) (before after : Work) (record
 pub quiet_acts : (asker : ℕ) (got : List Named) (old new : Keeper) (before after : Work) (name : List ℕ)
     (events : List LocalEvent) (local : LocalObject) (letters : List Letter) (records : List LogRecord) →
     new.file ≡ old.file → new.digest ≡ old.digest → new.ids ≡ old.ids →
-    IsDone (objects_of old.objects name) events local letters → IsChangedAt old.objects name local new.objects →
-    AllByRecursion (IsEventFed got name) events → AllByRecursion BeginsNone events → AreFew records →
+    IsOutcome (objects_of old.objects name) events local letters → IsChangedAt old.objects name local new.objects →
+    AllByRecursion (IsEventLetterKnown got name) events → AllByRecursion BeginsNone events → AreFew records →
     IsLogged (kept_of old) records (kept_of new) → GoesOut asker old before after records (with_names name letters)
     (map (Seen.Tells name) (all_told fragment (objects_of old.objects name) events)) → Acts asker got old before new after
 quiet_acts asker got old new before after name events local letters records file digest ids done changed fed none few logged out =
@@ -96,8 +96,8 @@ module _ (name : List ℕ) (letter : Letter) (local : LocalObject) where
   abbrev got : List Named
   got = record { name = name; letter = letter } ∷ []
 
-  pub serve_fed : AllByRecursion (IsEventFed got name) (serve_events local letter)
-  serve_fed = if_all (IsEventFed got name) (LocalEvent.Serve letter) (is_served local letter) (0, refl)
+  pub serve_fed : AllByRecursion (IsEventLetterKnown got name) (serve_events local letter)
+  serve_fed = if_all (IsEventLetterKnown got name) (LocalEvent.Serve letter) (is_served local letter) (0, refl)
 
   pub serve_none : AllByRecursion BeginsNone (serve_events local letter)
   serve_none = if_all BeginsNone (LocalEvent.Serve letter) (is_served local letter) refl
@@ -109,7 +109,7 @@ module _ (name : List ℕ) (letter : Letter) (local : LocalObject) where
 
 -- the event begins no call, takes no letter but one of these, and serves no request
 abbrev IsQuiet : List Named → (name : List ℕ) → LocalEvent → Type 0
-IsQuiet got name event = IsEventFed got name event × BeginsNone event × ServesNone event
+IsQuiet got name event = IsEventLetterKnown got name event × BeginsNone event × ServesNone event
 
 module _ (got : List Named) (name : List ℕ) where
   step_quiet : (places : List Place) (call : Machine) (step : Next) →
@@ -134,30 +134,30 @@ module _ (got : List Named) (name : List ℕ) where
       subst (λ es. AllByRecursion (IsQuiet got name) es) (sym one.2) ((tt, refl, tt), tt)
 
 -- what was done, as its events, with what each of them needs
-pub record IsDoneQuietly (got : List Named) (name : List ℕ) (old local : LocalObject) (letters : List Letter)
+pub record IsQuietOutcome (got : List Named) (name : List ℕ) (old local : LocalObject) (letters : List Letter)
     (ended : List Ended) : Type 0 where
   pub events : List LocalEvent
-  pub done : IsDone old events local letters
+  pub done : IsOutcome old events local letters
   pub told : ended ≡ all_told fragment old events
-  pub fed : AllByRecursion (IsEventFed got name) events
+  pub fed : AllByRecursion (IsEventLetterKnown got name) events
   pub none : AllByRecursion BeginsNone events
   pub asks : AllByRecursion ServesNone events
 
 by_quietly : (got : List Named) (name : List ℕ) (old local : LocalObject) (letters : List Letter) (ended : List Ended)
-    (events : List LocalEvent) → HasDoneBy old events local letters ended → AllByRecursion (IsQuiet got name) events →
-    IsDoneQuietly got name old local letters ended
+    (events : List LocalEvent) → IsOutcomeWithAnswers old events local letters ended → AllByRecursion (IsQuiet got name) events →
+    IsQuietOutcome got name old local letters ended
 by_quietly got name old local letters ended events by quiet = record {
   events = events;
   done = by.done;
   told = by.told;
-  fed = all_weaker (IsQuiet got name) (IsEventFed got name) (λ event is. is.0) events quiet;
+  fed = all_weaker (IsQuiet got name) (IsEventLetterKnown got name) (λ event is. is.0) events quiet;
   none = all_weaker (IsQuiet got name) BeginsNone (λ event is. is.1) events quiet;
   asks = all_weaker (IsQuiet got name) ServesNone (λ event is. is.2) events quiet;
 }
 
 pub taken_quietly : (name : List ℕ) (letter : Letter) (taken : Bool) (old local : LocalObject) (letters : List Letter)
-    (ended : List Ended) → IsTaken taken old letter local letters ended →
-    IsDoneQuietly (record { name = name; letter = letter } ∷ []) name old local letters ended
+    (ended : List Ended) → IsReplyOutcome taken old letter local letters ended →
+    IsQuietOutcome (record { name = name; letter = letter } ∷ []) name old local letters ended
 taken_quietly name letter false old local letters ended by =
     by_quietly (record { name = name; letter = letter } ∷ []) name old local letters ended [] by tt
 taken_quietly name letter true old local letters ended goes =
@@ -177,8 +177,8 @@ taken_quietly name letter true old local letters ended goes =
 -- Giving up
 
 module _ (got : List Named) (name : List ℕ) (id : ℕ) (local : LocalObject) where
-  pub give_up_fed : AllByRecursion (IsEventFed got name) (give_up_events local id)
-  give_up_fed = if_all (IsEventFed got name) (LocalEvent.GiveUp id) (gives_up local id) tt
+  pub give_up_fed : AllByRecursion (IsEventLetterKnown got name) (give_up_events local id)
+  give_up_fed = if_all (IsEventLetterKnown got name) (LocalEvent.GiveUp id) (gives_up local id) tt
 
   pub give_up_none : AllByRecursion BeginsNone (give_up_events local id)
   give_up_none = if_all BeginsNone (LocalEvent.GiveUp id) (gives_up local id) refl

@@ -20,7 +20,7 @@ use Rattle.record.specs.PhaseOrder.{begun_at}
 use Rattle.record.specs.Sending.{requests}
 use Rattle.letter.specs.declared.letter.Letter.{Letter}
 use Rattle.mail.specs.Message.{is_request}
-use Rattle.local_object.specs.Doing.{IsDone, is_served, serve_events}
+use Rattle.local_object.specs.Doing.{IsOutcome, is_served, serve_events}
 use Rattle.local_object.specs.Events.{LocalEvent, advanced_at, advanced_here, all_done, begun_here, done_here, learnt_from, letter_of}
 use Rattle.local_object.specs.Events.{on_open_call, pieces_here, served_here, silent}
 use Rattle.local_object.specs.Local.{LocalObject, last_position, layout_here, with_heard}
@@ -102,7 +102,7 @@ all_ask local (event ∷ events) none =
     all_append Asks first.sent (all_done fragment first.local events).sent (event_asks local event none.0)
     (all_ask first.local events none.1)
 
-pub done_asks : (old new : LocalObject) (events : List LocalEvent) (letters : List Letter) → IsDone old events new letters →
+pub done_asks : (old new : LocalObject) (events : List LocalEvent) (letters : List Letter) → IsOutcome old events new letters →
     AllByRecursion ServesNone events → AllByRecursion Asks letters
 done_asks old new events letters done none =
     subst (λ (ls : List Letter). AllByRecursion Asks ls) (sym done.letters) (all_ask old events none)
@@ -144,7 +144,7 @@ served_replies local letter (body.Request asked) = (refl, tt)
 served_replies local letter (body.Reply kind made) = tt
 
 pub all_reply : (local new : LocalObject) (letter : Letter) (replies : List Letter) →
-    IsDone local (serve_events local letter) new replies → AllByRecursion Replies replies
+    IsOutcome local (serve_events local letter) new replies → AllByRecursion Replies replies
 all_reply local new letter replies done =
     subst (λ (ls : List Letter). AllByRecursion Replies ls) (sym done.letters) (go (is_served local letter))
   where

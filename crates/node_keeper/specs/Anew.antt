@@ -8,14 +8,14 @@ use Rattle.recoveries.specs.RewrittenRecords.{object_records, rewritten_records}
 use Rattle.node_keeper.specs.Keeping.{kept_of}
 use Rattle.node_keeper.specs.declared.keeper.Keeper.{Keeper}
 
--- those of the letters that lead to the object of a name
+-- the records of the letters that lead a new object to the object of this name
 abbrev pub name_records : (name : List ℕ) → Keeper → List LogRecord
 name_records name keeper = map (LogRecord.Serves name) (letters_as keeper.ids.node (objects_of keeper.objects name))
 
--- those of all objects in the node's map
+-- the records of the letters that lead new objects to all objects in the node's map
 abbrev pub object_records_of : Keeper → List LogRecord
 object_records_of keeper = object_records (kept_of keeper) (heard_names keeper.objects)
 
--- all of them: the node's epochs, and then its objects
+-- the records of a log that is written anew: one for each epoch of the node, and then those of its objects
 abbrev pub anew_records : Keeper → List LogRecord
 anew_records keeper = rewritten_records (kept_of keeper) (heard_names keeper.objects)

@@ -8,7 +8,7 @@ use Rattle.letter.specs.declared.letter.Letter.{Letter}
 use Rattle.local_object.specs.Doing.{move_refusal, read_refusal, write_refusal}
 use Rattle.local_object.specs.Events.{LocalEvent, done_here}
 use Rattle.local_object.specs.Local.{LocalObject}
-use Rattle.node_keeper.specs.Doing.{IsDoneAt}
+use Rattle.node_keeper.specs.Doing.{IsOutcomeAt}
 use Rattle.node_keeper.specs.Objects.{AreSame, objects_of}
 use Rattle.recoveries.specs.Records.{LogRecord}
 use Rattle.node_effects.specs.Work.{Growth, IsGrown, both_grown}
@@ -81,7 +81,7 @@ pub record IsCallBegun (call : Beginning) (id : ℕ) (old : Keeper) (before : Wo
   pub gives : GivesId old.ids id new.ids before given
   pub cause : call.refusal (objects_of old.objects call.name) id ≡ None
   pub letters : List Letter
-  pub done : IsDoneAt old.objects call.name (call.event id ∷ []) new.objects letters
+  pub done : IsOutcomeAt old.objects call.name (call.event id ∷ []) new.objects letters
   pub grown : IsGrown given after (begun_growth call id old letters)
   pub fits : CanBeWritten old.ids.node old.digest (call.records id) (asked old.ids.node call.name letters)
   pub file : new.file ≡ old.file

@@ -10,7 +10,7 @@ use Rattle.local_object.specs.Changing.{is_changed_by}
 use Rattle.mail.specs.Message.{is_request}
 use Rattle.local_object.specs.Doing.{has_move_open, serve_events}
 use Rattle.local_object.specs.Events.{all_done}
-use Rattle.node_keeper.specs.Doing.{IsDoneAt, IsTakenAt}
+use Rattle.node_keeper.specs.Doing.{IsOutcomeAt, IsReplyOutcomeAt}
 use Rattle.node_keeper.specs.declared.objects.Objects.{Objects}
 use Rattle.node_keeper.specs.Objects.{objects_of}
 use Rattle.recoveries.specs.Records.{LogRecord}
@@ -63,7 +63,8 @@ pub record KeepsRest (old new : Keeper) : Type 0 where
 pub record ServesRequest (asker : ℕ) (it : NamedLetter) (old : Keeper) (before : Work) (new : Keeper)
     (after : Work) : Type 0 where
   pub replies : List Letter
-  pub done : IsDoneAt old.objects it.name (serve_events (objects_of old.objects it.name) it.letter) new.objects replies
+  pub done : IsOutcomeAt old.objects it.name (serve_events (objects_of old.objects it.name) it.letter) new.objects
+      replies
   pub grown : IsGrown before after (both_grown (logged_growth old.digest (served_records old it))
       (sent_growth old.ids.node old.digest (reply_sendings asker it.name replies)))
   pub fits : CanBeWritten old.ids.node old.digest (served_records old it) (reply_sendings asker it.name replies)
@@ -73,7 +74,7 @@ pub record ServesRequest (asker : ℕ) (it : NamedLetter) (old : Keeper) (before
 pub record TakesReply (it : NamedLetter) (old : Keeper) (before : Work) (new : Keeper) (after : Work)
     (ended : Option Ended) : Type 0 where
   pub letters : List Letter
-  pub done : IsTakenAt old.objects it.name it.letter new.objects letters (option_to_list ended)
+  pub done : IsReplyOutcomeAt old.objects it.name it.letter new.objects letters (option_to_list ended)
   pub grown : IsGrown before after (both_grown (logged_growth old.digest (taken_records old it))
       (both_grown (sent_growth old.ids.node old.digest (asked old.ids.node it.name letters))
       (tell_growth it.name ended)))
@@ -126,16 +127,16 @@ abbrev pub CanTake : NamedLetter → Keeper → Type 0
 CanTake it keeper =
     AllByRecursion (IsLoggable keeper.digest) (taken_records keeper it)
     × ((new : Objects) (letters : List Letter) (ended : List Ended) →
-    IsTakenAt keeper.objects it.name it.letter new letters ended →
+    IsReplyOutcomeAt keeper.objects it.name it.letter new letters ended →
     AllByRecursion (IsSendable keeper.ids.node keeper.digest) (asked keeper.ids.node it.name letters))
 
--- the same for a letter; whether the node heeds it, and whether it is a request, are arguments
+-- all that has to be written for a letter can be written; `heeded` and `asks` say if it is heeded and is a request
 abbrev pub CanDeliverAs : (heeded asks : Bool) → (asker : ℕ) → NamedLetter → Keeper → Type 0
 CanDeliverAs false asks asker it keeper = Unit {0}
 CanDeliverAs true true asker it keeper = CanServe asker it keeper
 CanDeliverAs true false asker it keeper = CanTake it keeper
 
--- the same for a letter that has come from the node of number `asker`
+-- all that has to be written for a letter that has come from the node of number `asker` can be written
 abbrev pub CanDeliver : (asker : ℕ) → NamedLetter → Keeper → Type 0
 CanDeliver asker it keeper =
     CanDeliverAs (heeds (kept_of keeper) (named_of it)) (is_request it.letter.message.body) asker it keeper

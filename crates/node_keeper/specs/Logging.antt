@@ -45,7 +45,7 @@ deeds_of (record_of.Serve frame) = letter_records LogRecord.Serves (message_from
 deeds_of (record_of.Take frame) = letter_records LogRecord.Takes (message_from frame)
 deeds_of (record_of.Move id name layout) = LogRecord.Moves name id layout ∷ []
 
--- the same for a record that may be missing: if it is, the node did nothing
+-- what a record of a log says that the node did, if there is a record; if there is none, the node did nothing
 abbrev pub deeds_if : Option Record → List LogRecord
 deeds_if None = []
 deeds_if (Some it) = deeds_of it

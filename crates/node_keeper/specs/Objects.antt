@@ -37,8 +37,8 @@ pub record IsHeardAt (objects : Objects) (index : ℕ) (name : List ℕ) (local 
   pub found : get (pointwise nat_eq) objects.by_name name ≡ Some local
 
 -- the object of this name takes no memory if it is a new one: it is not in the map
-abbrev pub IsSpared : Objects → (name : List ℕ) → Type 0
-IsSpared objects name =
+abbrev pub IsAbsentIfNew : Objects → (name : List ℕ) → Type 0
+IsAbsentIfNew objects name =
     (local : LocalObject) → get (pointwise nat_eq) objects.by_name name ≡ Some local → local ≢ new_of objects name
 
 -- the number of bytes of all pieces in the banks that the node keeps

@@ -13,7 +13,7 @@ use Rattle.node_keeper.specs.declared.keeper.Keeper.{Keeper}
 abbrev pub sendings_again : (name : List ℕ) → (id : ℕ) → Keeper → List Sending
 sendings_again name id keeper = asked keeper.ids.node name (letters_again fragment (objects_of keeper.objects name) id)
 
--- each of them can be sent
+-- each request of the call with this id that is sent again can be sent
 abbrev pub CanResend : (name : List ℕ) → (id : ℕ) → Keeper → Type 0
 CanResend name id keeper =
     AllByRecursion (IsSendable keeper.ids.node keeper.digest) (sendings_again name id keeper)

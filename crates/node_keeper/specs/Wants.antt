@@ -26,13 +26,13 @@ sends_in [] = []
 sends_in (Want.Logs it ∷ wants) = sends_in wants
 sends_in (Want.Sends send ∷ wants) = send ∷ sends_in wants
 
--- the same, without the nodes to which the letters go
+-- the records and letters among these, in their order, without the nodes to which the letters go
 abbrev pub left_by : List Want → List Left
 left_by [] = []
 left_by (Want.Logs it ∷ wants) = Left.Logs it ∷ left_by wants
 left_by (Want.Sends send ∷ wants) = Left.Sends (named_of send.it) ∷ left_by wants
 
--- the same as the node of this number puts it out: the entry of each record, and the frame of each letter to another
+-- what the node of this number puts out for these: the entry of each record, and the frame of each letter to another
 -- node
 abbrev pub outputs_of : (number : ℕ) → (digest : List ℕ) → List Want → List Output
 outputs_of number digest [] = []

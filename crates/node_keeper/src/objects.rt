@@ -7,7 +7,7 @@ ghost use Rattle.tag.specs.declared.refusal.Refusal.TheVariants.{NoMemory};
 ghost use Rattle.indexmap.specs.IndexMap.{get};
 ghost use Rattle.cluster_file.specs.Placement.{placed};
 ghost use Rattle.local_object.specs.Local.{LocalObject, new_local};
-ghost use Rattle.node_keeper.specs.Objects.{AreSame, IsSpared, new_of, objects_of};
+ghost use Rattle.node_keeper.specs.Objects.{AreSame, IsAbsentIfNew, new_of, objects_of};
 
 use bytes::Bytes;
 use cluster_file::ClusterNodes;
@@ -98,7 +98,7 @@ impl Objects {
     // If the object of a name equals a new one, it is not in the map.
     fn forget_new(&mut self, name: &Bytes)
         ensures same { AreSame self.old self.new }
-        ensures spared { IsSpared self.new name.now }
+        ensures spared { IsAbsentIfNew self.new name.now }
     {
         if self.is_new(name) {
             let _forgotten = self.by_name.swap_remove(name);

@@ -104,7 +104,7 @@ front_bytes n xs all i =
 number_again : (v n : ℕ) → v / 2 ^ 56 ≡ form → n ≡ v % 2 ^ 56 → form * 2 ^ 56 + n ≡ v
 number_again v n is_form is_length = omega arith
 
--- a head that says of a body what is so says what the head of that body says
+-- a head with the length and the digest of a body begins with the 12 bytes that describe this body
 pub says_of : (chain : ℕ) (head body : List ℕ) → IsHead chain head → ((i : ℕ) → get_or head i 0 < 256)
     → length body ≡ length_in head → digest_of body ≡ digest_in head → take 12 head ≡ described body
 unfolding described
@@ -115,7 +115,7 @@ says_of chain head body is bytes long same =
     (sym (be_bytes_8 (take 8 head) (number_of body) len (front_bytes 8 head bytes)
     (number_again (from_be_bytes w64 (take 8 head)) (length body) is.has_form long))) (sym same)
 
--- it is the head of that body
+-- a head with the length and the digest of a body is the head of this body
 pub head_is_of : (chain : ℕ) (head body : List ℕ) → IsHead chain head → ((i : ℕ) → get_or head i 0 < 256)
     → length body ≡ length_in head → digest_of body ≡ digest_in head → head ≡ head_of chain body
 head_is_of chain head body is bytes long same =
@@ -181,7 +181,7 @@ right : (head digest wanted tail : List ℕ) (test : Bool) → length head ≡ 1
 right head digest wanted tail test whole computed is tested holds =
     sym computed ∙ (bytes_eq-Decides digest tail).0 (sym tested ∙ holds) ∙ tail_of head tail whole is
 
--- it is another one
+-- if the test fails, the digest that was wanted is not that of the last bytes
 wrong : (head digest wanted tail : List ℕ) (test : Bool) → length head ≡ 16 → digest ≡ wanted
     → tail ≡ take 4 (drop 12 head) → test ≡ bytes_eq digest tail → test ≡ false → wanted ≡ drop 12 head → ⊥
 wrong head digest wanted tail test whole computed is tested fails same =

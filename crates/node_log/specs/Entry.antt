@@ -11,7 +11,7 @@ use Rattle.frames.specs.declared.error.FrameError.TheVariants as errors
 unfoldable pub digest_of : List ℕ → List ℕ
 digest_of bytes = to_be_bytes w32 (crc32c bytes)
 
--- the same where the check goes on from a state, in place of beginning
+-- the digest of bytes whose CRC-32C goes on from a given state: four bytes, high byte first
 unfoldable pub digest_behind : ℕ → List ℕ → List ℕ
 digest_behind state bytes = to_be_bytes w32 (bit_xor (after_bytes state bytes) all_bits)
 
@@ -31,7 +31,7 @@ first_chain = all_bits
 unfoldable pub chain_after : ℕ → List (List ℕ) → ℕ
 chain_after chain strings = after_bytes chain (described (frame_bytes strings))
 
--- the same after some entries
+-- the chain after several entries, one after another
 abbrev pub chain_behind : ℕ → List (List (List ℕ)) → ℕ
 chain_behind chain [] = chain
 chain_behind chain (entry ∷ entries) = chain_behind (chain_after chain entry) entries

@@ -25,7 +25,7 @@ pub(crate) fn after_bytes(state: u32, bytes: &[u8]) -> u32
     after_each(state, rest)
 }
 
-// The same, one byte after another.
+// The state after bytes, which are taken one at a time.
 fn after_each(state: u32, bytes: &[u8]) -> u32
     ensures { result ≡ after_bytes state bytes.now }
 {

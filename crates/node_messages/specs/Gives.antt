@@ -12,11 +12,11 @@ AgreesAs view (Ok x) read = read ≡ Ok (view x)
 AgreesAs view (Err (errors.Fault fault)) read = read ≡ Err fault
 AgreesAs view (Err errors.NoMemory) read = Unit {0}
 
--- the same for what a function returned, as it is
+-- what a function returned is what reading gives; if there was no memory, nothing is said
 abbrev pub Agrees : {X : Type 0} → Result X MessageError → Result X Fault → Type 0
 Agrees result read = AgreesAs (λ x. x) result read
 
--- the same for a value and the bytes after it
+-- what a function returned, a fault or a value with the bytes after it, is what reading gives
 abbrev pub AgreesAtBytes : {X : Type 0} → Result (X × Bor (List ℕ)) Fault → Result (X × List ℕ) Fault → Type 0
 AgreesAtBytes (Ok x) read = read ≡ Ok (x.0, x.1.now)
 AgreesAtBytes (Err fault) read = read ≡ Err fault

@@ -62,12 +62,12 @@ said_of_kind k = record {
   len = 0;
 }
 
--- the same with a piece, if there is one
+-- what a head says, with the point of a piece and the length of its value, if there is a piece
 abbrev pub with_piece : Option Piece → Said → Said
 with_piece None said = said
 with_piece (Some piece) said = record said { is_piece = 1; point = piece.point; len = piece.len }
 
--- the same with the status, the tag or the piece of an answer
+-- what a head says, with the status, the tag or the piece of an answer
 abbrev pub with_answer : Answer → Said → Said
 with_answer answer.Done said = said
 with_answer (answer.Pointer found) said = record said { status = status_code found }

@@ -87,7 +87,7 @@ piece_if true numbers strings =
     ending (Some (piece_in numbers bytes.0)) bytes.1)
 piece_if false numbers strings = ending None strings
 
--- the same
+-- the piece of a message, whose bytes are the last string, if the head says that there is a piece; or the first fault
 unfoldable pub last_piece : (numbers : List ℕ) → Strings → Result (Option Piece) Fault
 last_piece numbers strings =
     and_then (flag_from (byte_in PIECE_PLACE numbers)) (λ is_piece.

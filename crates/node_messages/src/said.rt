@@ -69,7 +69,7 @@ fn said_of_kind(kind: Kind) -> Said
     }
 }
 
-// The same with a piece.
+// What a head says, with the point of a piece and the length of its value.
 fn with_piece(piece: &Piece, said: Said) -> Said
     ensures said { result ≡ with_piece (Some piece.now) said }
     ensures fits { IsPiece piece.now }
@@ -96,7 +96,7 @@ fn said_of_request(request: &Request) -> Said
     }
 }
 
-// The same with a tag.
+// What a head says, with this tag.
 fn with_tag(tag: Tag, said: Said) -> Said
     ensures said { result ≡ record said { tag = tag } }
     ensures fits { IsTag tag }
@@ -104,7 +104,7 @@ fn with_tag(tag: Tag, said: Said) -> Said
     Said { tag, ..said }
 }
 
-// The same with the status, the tag or the piece of an answer.
+// What a head says, with the status, the tag or the piece of an answer.
 fn with_answer(answer: &Answer, said: Said) -> Said
     ensures said { result ≡ with_answer answer.now said }
     ensures fits { IsAnswer answer.now }

@@ -59,7 +59,7 @@ abbrev pub Gathers : (before after : Batch) → List Output → Type 0
 Gathers before after outputs =
     (chain : ℕ) (prior : List Output) → HasGathered chain before prior → HasGathered chain after (prior ++ outputs)
 
--- known bytes grew by a front of these
+-- some first part of these bytes was appended to the known bytes
 abbrev pub AppendsFront : Option (List ℕ) → Option (List ℕ) → List ℕ → Type 0
 AppendsFront old new bytes = (front back : List ℕ) × (bytes ≡ front ++ back) × Appends old new front
 

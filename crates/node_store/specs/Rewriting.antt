@@ -8,7 +8,7 @@ use Rattle.node_store.specs.declared.end.LogEnd.{LogEnd}
 use Rattle.node_store.specs.declared.rewriting.Rewriting.{Rewriting}
 use Rattle.node_store.specs.declared.rewriting.Rewriting.TheVariants as ends
 
--- where the bytes of a log are known, those of the second one are these
+-- if the bytes of a log are known, those of its second log are known too, and are these
 abbrev pub IsBeside : Option (List ℕ) → (second : Option (List ℕ)) → List ℕ → Type 0
 IsBeside None second bytes = ⊤
 IsBeside (Some log) second bytes = second ≡ Some bytes

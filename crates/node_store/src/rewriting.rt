@@ -120,7 +120,7 @@ fn write_entries<L: Log>(alloc: Global, log: &mut L, entries: &[Entry]) -> io::R
 }
 
 // Appends these bytes to a log, and drops them. `before` is the number of bytes that were written before them, and the
-// result that with them.
+// result is the number of bytes that are written then.
 fn write_part<L: Log>(log: &mut L, part: &mut Gathered, before: u64) -> io::Result<u64>
     ensures written { OnOk result (Appends (L.written log.old) (L.written log.new) part.old) }
     ensures empty { OnOk result (part.new ≡ []) }

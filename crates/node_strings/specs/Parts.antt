@@ -19,7 +19,7 @@ abbrev pub if_read : {X E : Type 0} → Result X E → Option X
 if_read (Ok x) = Some x
 if_read (Err fault) = None
 
--- one part after another, as long as each is read
+-- what `next` reads after the first part, or none if the first part was not read
 abbrev pub then_read : {A B : Type 0} → Option A → (A → Option B) → Option B
 then_read (Some x) next = next x
 then_read None next = None

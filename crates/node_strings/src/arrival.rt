@@ -57,7 +57,7 @@ fn read_behind(address: &[u8], rest: Frame) -> Option<Arrival>
     }
 }
 
-// The same, where the address is that of no client.
+// What has come from a node, or that time has passed, with this address and these strings behind it.
 fn read_other(address: &[u8], rest: Frame) -> Option<Arrival>
     ensures { result ≡ node_arrival address.now rest }
 {

@@ -47,7 +47,7 @@ places_letters node heard (place ∷ places) = place_letters node heard place ++
 abbrev pub letters_as : (node : ℕ) → LocalObject → List Letter
 letters_as node local = places_letters node local.places local.places
 
--- the same, as the object's own node serves them
+-- the letters that lead to the banks of an object, as the object's own node serves them
 abbrev pub letters_to : LocalObject → List Letter
 letters_to local = letters_as local.node local
 

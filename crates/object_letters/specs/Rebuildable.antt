@@ -26,7 +26,7 @@ pub record IsOwnBank (node : ℕ) (delta : Option ℕ) (place : Place) (bank : B
   pub limited : bank.delta ≡ delta
   pub reached : IsReachedBank member bank
 
--- the same, if there is a bank
+-- if a place has a bank, it was opened for the member that the node is, and came to be by requests to this member
 abbrev pub IsOwnIfOpen : (node : ℕ) → (delta : Option ℕ) → Place → Option Bank → Type 0
 IsOwnIfOpen node delta place None = Unit {0}
 IsOwnIfOpen node delta place (Some bank) = IsOwnBank node delta place bank

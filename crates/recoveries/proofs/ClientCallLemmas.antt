@@ -16,7 +16,7 @@ use Rattle.mail.specs.Message.{is_request}
 use Rattle.local_object.specs.Events.{LocalEvent, advanced_at, advanced_here, all_done, done_here, learnt_from}
 use Rattle.local_object.specs.Going.{next_if}
 use Rattle.local_object.specs.Local.{LocalObject, layout_here}
-use Rattle.local_object.specs.Taking.{AreSettling, GoesOn, IsTaken, begin_events, call_events, can_begin, lead_events, machine_of}
+use Rattle.local_object.specs.Taking.{AreSettling, GoesOn, IsReplyOutcome, begin_events, call_events, can_begin, lead_events, machine_of}
 use Rattle.local_object.specs.Taking.{repeats, step_events}
 use Rattle.local_object.proofs.HeardLayoutLemmas.{calls_heard}
 use Rattle.recoveries.proofs.KeptPlaceLemmas.{letter_alone}
@@ -120,7 +120,7 @@ module _ (moves : Type 0) (local copy : LocalObject) (is : IsObjectCopy moves lo
 
   -- a reply that is to no open move changes nothing that the copy has
   pub client_takes : has_move_open local letter.message.call ≡ false → (new : LocalObject) (sent : List Letter)
-      (ended : List Ended) → IsTaken (is_taken local letter) local letter new sent ended → IsObjectCopy moves new copy
+      (ended : List Ended) → IsReplyOutcome (is_taken local letter) local letter new sent ended → IsObjectCopy moves new copy
   client_takes no_move new sent ended taken =
       go (is_taken local letter) refl taken (open_call local.calls letter.message.call) refl no_move
     where
@@ -130,7 +130,7 @@ module _ (moves : Type 0) (local copy : LocalObject) (is : IsObjectCopy moves lo
       untaken None e false false is = absurd (cc)
       untaken (Some call) e r n is = absurd (cc)
 
-      go : (b : Bool) → is_taken local letter ≡ b → IsTaken b local letter new sent ended →
+      go : (b : Bool) → is_taken local letter ≡ b → IsReplyOutcome b local letter new sent ended →
           (o : Option NodeCall) → open_call local.calls letter.message.call ≡ o → is_move_call o ≡ false → IsObjectCopy moves new copy
       go false e taken o f client = subst (λ l. IsObjectCopy moves l copy) (sym taken.done.local) is
       go true e taken None f client =

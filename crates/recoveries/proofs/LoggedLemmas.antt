@@ -12,7 +12,7 @@ use Rattle.deeds.specs.Kept.{KeptNode}
 use Rattle.recoveries.specs.Copies.{IsCopyOf, IsLogged}
 use Rattle.recoveries.specs.Laws.{GivenUpNeedsNoRecord, MovesAreLogged, ReadsNeedNoRecord, SameNeedsNoRecord, ServedIsLogged}
 use Rattle.recoveries.specs.Laws.{StartsAreLogged, TakenIsLogged, TakenNeedsNoRecord, UnchangedNeedsNoRecord, WritesNeedNoRecord}
-use Rattle.recoveries.specs.Records.{IsDoneTo, IsKeptUnder, IsStarted, LogRecord, RecoversOne}
+use Rattle.recoveries.specs.Records.{IsNamedOutcome, IsKeptUnder, IsStarted, LogRecord, RecoversOne}
 use Rattle.recoveries.proofs.KeptCallLemmas.{IsObjectCopy}
 use Rattle.recoveries.proofs.TakenReplyLemmas.{move_takes}
 use Rattle.recoveries.proofs.ClientCallLemmas.{client_takes}
@@ -27,11 +27,11 @@ one_record old new first each copy copied is recovers =
     same_both new new recovers.0 copied (each copy recovers.0 is recovers.1) (same_self new) recovers.2
 
 -- where an object keeps what comes of these events, it is the same to say what it keeps
-done_put : (old : KeptNode) (name : List ℕ) (events : List LocalEvent) (new : KeptNode) → IsDoneTo old name events new →
+done_put : (old : KeptNode) (name : List ℕ) (events : List LocalEvent) (new : KeptNode) → IsNamedOutcome old name events new →
     IsKeptUnder old name (all_done fragment (old.objects name) events).local new
 done_put old name events new done = subst (λ l. IsKeptUnder old name l new) done.done.local done.put
 
-done_alone : (old new : KeptNode) (name : List ℕ) (events : List LocalEvent) → IsDoneTo old name events new →
+done_alone : (old new : KeptNode) (name : List ℕ) (events : List LocalEvent) → IsNamedOutcome old name events new →
     ((copy : LocalObject) → IsObjectCopy (Moves old) (old.objects name) copy →
     IsObjectCopy (Moves old) (all_done fragment (old.objects name) events).local copy) → IsLogged old [] new
 done_alone old new name events done each copy copied is same =

@@ -6,7 +6,7 @@ use Rattle.deeds.specs.CallId.{CallIds, after_given}
 use Rattle.deeds.specs.Deeds.{Deed, after_deed, after_deeds}
 use Rattle.deeds.specs.Ids.{HaveNextIds, IsGiven, deed_id}
 use Rattle.deeds.specs.Kept.{FileOfNames}
-use Rattle.deeds.specs.May.{AreFed, IsEventFed, IsFed, MayAllBeDone, MayBeDone}
+use Rattle.deeds.specs.May.{AreDeedLettersKnown, IsEventLetterKnown, IsDeedLetterKnown, MayAllBeDone, MayBeDone}
 use Rattle.deeds.specs.Named.{NamedLetter, is_same_name, with_names}
 use Rattle.open_calls.proofs.ListLemmas.{all_append}
 use Rattle.deeds.proofs.NameLemmas.{names_decided}
@@ -29,7 +29,7 @@ of_one P (first ∷ got) all zero letter at = let same : first ≡ letter = cc i
 of_one P (first ∷ got) all (suc i) letter at = of_one P got all.1 i letter at
 
 event_fit : (got : List NamedLetter) (name : List ℕ) (event : LocalEvent) → AllByRecursion IsLawfulLetter got →
-    IsEventFed got name event → IsFit event
+    IsEventLetterKnown got name event → IsFit event
 event_fit got name (LocalEvent.Serve letter) lawful fed = of_one IsLawfulLetter got lawful fed.0 _ fed.1
 event_fit got name (LocalEvent.Take letter) lawful fed = of_one IsLawfulLetter got lawful fed.0 _ fed.1
 event_fit got name (LocalEvent.BeginRead id) lawful fed = tt
@@ -52,7 +52,7 @@ module _ (file : FileOfNames) (number : ℕ) where
   AreOwn objects = (name : List ℕ) → IsObjectOf file number name (objects name)
 
   deed_own : (objects : List ℕ → LocalObject) (got : List NamedLetter) (deed : Deed) → AllByRecursion IsLawfulLetter got →
-      MayBeDone fragment objects deed → IsFed got deed → AreOwn objects → AreOwn (after_deed fragment objects deed).objects
+      MayBeDone fragment objects deed → IsDeedLetterKnown got deed → AreOwn objects → AreOwn (after_deed fragment objects deed).objects
   deed_own objects got (Deed.Does name event) lawful may fed own other = go (is_same_name name other) refl
     where
       go : (b : Bool) → is_same_name name other ≡ b →
@@ -64,7 +64,7 @@ module _ (file : FileOfNames) (number : ℕ) where
   deed_own objects got (Deed.Resends name letters) lawful may fed own other = own other
 
   deed_lawful : (objects : List ℕ → LocalObject) (got : List NamedLetter) (deed : Deed) → AllByRecursion IsLawfulLetter got →
-      MayBeDone fragment objects deed → IsFed got deed → AreOwn objects →
+      MayBeDone fragment objects deed → IsDeedLetterKnown got deed → AreOwn objects →
       AllByRecursion IsLawfulLetter (after_deed fragment objects deed).sent
   deed_lawful objects got (Deed.Does name event) lawful may fed own =
       named_lawful name (done_here fragment (objects name) event).sent
@@ -73,7 +73,7 @@ module _ (file : FileOfNames) (number : ℕ) where
       named_lawful name letters (resent_lawful (objects name) letters (own name).rebuildable may)
 
   deeds_own : (objects : List ℕ → LocalObject) (got : List NamedLetter) (deeds : List Deed) → AllByRecursion IsLawfulLetter got →
-      MayAllBeDone fragment objects deeds → AreFed fragment objects got deeds → AreOwn objects →
+      MayAllBeDone fragment objects deeds → AreDeedLettersKnown fragment objects got deeds → AreOwn objects →
       AreOwn (after_deeds fragment objects deeds).objects
   deeds_own objects got [] lawful may fed own = own
   deeds_own objects got (deed ∷ deeds) lawful may fed own =

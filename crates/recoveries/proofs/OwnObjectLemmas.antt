@@ -13,7 +13,7 @@ use Rattle.letter.specs.declared.letter.Letter.{Letter}
 use Rattle.local_object.specs.Events.{LocalEvent, Outcome, advanced_at, advanced_here, all_done, begun_here, done_here}
 use Rattle.local_object.specs.Events.{learnt_from, on_open_call, served_here, silent}
 use Rattle.local_object.specs.Local.{LocalObject, last_position, layout_here, learnt_if, with_heard}
-use Rattle.local_object.specs.Doing.{IsDone}
+use Rattle.local_object.specs.Doing.{IsOutcome}
 use Rattle.local_object.specs.May.{MayAllHappen, MayHappenHere}
 use Rattle.local_object.proofs.HeardPlaceLemmas.{layout_stays, layout_with}
 use Rattle.deeds.specs.Kept.{FileOfNames, KeptNode}
@@ -146,7 +146,7 @@ put_own old new name local put here own other =
 
 -- events that are done at one object
 pub done_own : (old new : KeptNode) (name : List ℕ) (local : LocalObject) (events : List LocalEvent) (sent : List Letter)
-    → AllByRecursion IsFit events → IsDone (old.objects name) events local sent → IsKeptUnder old name local new
+    → AllByRecursion IsFit events → IsOutcome (old.objects name) events local sent → IsKeptUnder old name local new
     → HasOwnObjects old → HasOwnObjects new
 done_own old new name local events sent fit done put own =
     put_own old new name local put

@@ -13,7 +13,7 @@ use Rattle.local_object.specs.Doing.{is_served, is_taken, serve_events}
 use Rattle.local_object.specs.Events.{LocalEvent, all_done}
 use Rattle.local_object.specs.Going.{next_if}
 use Rattle.local_object.specs.Local.{LocalObject, Place}
-use Rattle.local_object.specs.Taking.{AreSettling, IsTaken, call_events, can_begin, lead_events, machine_of, repeats}
+use Rattle.local_object.specs.Taking.{AreSettling, IsReplyOutcome, call_events, can_begin, lead_events, machine_of, repeats}
 use Rattle.local_object.specs.Taking.{step_events}
 use Rattle.open_calls.specs.OpenCalls.{NodeCall, open_call}
 use Rattle.object_letters.specs.Rebuildable.{HasLawfulLayouts, IsFit}
@@ -54,7 +54,7 @@ settling_fit local id events (inr some) = subst (λ (es : List LocalEvent). AllB
 
 take_own : (old new : KeptNode) (name : List ℕ) (letter : Letter) (local : LocalObject) (sent : List Letter)
     (ended : List Ended) → HasLawfulLayouts letter → IsKeptUnder old name local new → HasOwnObjects old → (b : Bool) →
-    IsTaken b (old.objects name) letter local sent ended → HasOwnObjects new
+    IsReplyOutcome b (old.objects name) letter local sent ended → HasOwnObjects new
 take_own old new name letter local sent ended lawful put own false taken =
     done_own old new name local [] sent tt taken.done put own
 take_own old new name letter local sent ended lawful put own true taken =

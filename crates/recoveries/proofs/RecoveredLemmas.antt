@@ -1,14 +1,14 @@
--- What is carried out again twice in a row.
+-- Records carried out again: from or to a node that keeps the same, and two lists of records in a row.
 use Rattle.std.proofs.Common.{ℕ, suc, ◌<◌, ◌^◌, cond, List, [], ◌∷◌, sym, subst, ap, ap₂, ◌∙◌}
 use Rattle.deeds.specs.CallId.{CallIds}
-use Rattle.local_object.specs.Doing.{IsDone, is_taken, serve_events}
+use Rattle.local_object.specs.Doing.{IsOutcome, is_taken, serve_events}
 use Rattle.local_object.specs.Events.{LocalEvent}
 use Rattle.local_object.specs.Local.{LocalObject}
-use Rattle.local_object.specs.Taking.{IsTaken}
+use Rattle.local_object.specs.Taking.{IsReplyOutcome}
 use Rattle.deeds.specs.Kept.{KeptNode}
 use Rattle.deeds.specs.Named.{is_same_name}
 use Rattle.recoveries.specs.Laws.{TwoAreRecovered}
-use Rattle.recoveries.specs.Records.{IsDoneTo, IsKeptUnder, IsSame, LogRecord, Recovers, RecoversOne}
+use Rattle.recoveries.specs.Records.{IsNamedOutcome, IsKeptUnder, IsSame, LogRecord, Recovers, RecoversOne}
 use Rattle.recoveries.proofs.LoggedLemmas.{begun_within}
 use Rattle.recoveries.proofs.NodeCopyLemmas.{same_self, same_then}
 
@@ -25,12 +25,12 @@ module _ (a b c : KeptNode) (same : IsSame a b) where
     objects = λ q. put.objects q ∙ ap (λ l. cond (is_same_name name q) local l) (same.objects q);
   }
 
-  done_from : (name : List ℕ) (events : LocalObject → List LocalEvent) → IsDoneTo b name (events (b.objects name)) c →
-      IsDoneTo a name (events (a.objects name)) c
+  done_from : (name : List ℕ) (events : LocalObject → List LocalEvent) → IsNamedOutcome b name (events (b.objects name)) c →
+      IsNamedOutcome a name (events (a.objects name)) c
   done_from name events done = record {
     local = done.local;
     sent = done.sent;
-    done = subst (λ l. IsDone l (events l) done.local done.sent) (same.objects name) done.done;
+    done = subst (λ l. IsOutcome l (events l) done.local done.sent) (same.objects name) done.done;
     put = put_from name done.local done.put;
   }
 
@@ -51,7 +51,7 @@ module _ (a b c : KeptNode) (same : IsSame a b) where
     local = taken.local;
     sent = taken.sent;
     ended = taken.ended;
-    taken = subst (λ l. IsTaken (is_taken l letter) l letter taken.local taken.sent taken.ended) (same.objects name) taken.taken;
+    taken = subst (λ l. IsReplyOutcome (is_taken l letter) l letter taken.local taken.sent taken.ended) (same.objects name) taken.taken;
     put = put_from name taken.local taken.put;
   }
 

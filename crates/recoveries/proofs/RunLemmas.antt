@@ -7,12 +7,12 @@ use Rattle.local_object.specs.declared.progress.Ended.{Ended}
 use Rattle.local_object.specs.Doing.{is_taken, serve_events}
 use Rattle.local_object.specs.Events.{LocalEvent, all_done, done_here}
 use Rattle.local_object.specs.Local.{LocalObject}
-use Rattle.local_object.specs.Taking.{IsTaken, repeats}
+use Rattle.local_object.specs.Taking.{IsReplyOutcome, repeats}
 use Rattle.local_object.specs.Restarts.{IsKeptHere}
 use Rattle.deeds.specs.Kept.{KeptNode, new_node}
 use Rattle.deeds.specs.Named.{is_same_name, with_named}
 use Rattle.recoveries.specs.Laws.{CopiesRestart, MoreIsRecorded, NewIsRecorded, RecoveredNodesRestart, TwoAreLogged}
-use Rattle.recoveries.specs.Records.{IsDoneTo, IsKeptUnder, IsSame, LogRecord, Recovers, RecoversOne}
+use Rattle.recoveries.specs.Records.{IsNamedOutcome, IsKeptUnder, IsSame, LogRecord, Recovers, RecoversOne}
 use Rattle.recoveries.proofs.TakenReplyLemmas.{gone_on, same_settling, taken_to}
 use Rattle.recoveries.proofs.NodeCopyLemmas.{new_copy, same_both, same_self, same_then, self_copy}
 use Rattle.recoveries.proofs.LoggedLemmas.{started_epoch, started_given, started_number, starts_logged}
@@ -55,7 +55,7 @@ one_put a b c d name local other same first second is = record {
 }
 
 one_taken : (b : Bool) (local : LocalObject) (letter : Letter) (new other : LocalObject) (sent more : List Letter)
-    (ended told : List Ended) → IsTaken b local letter new sent ended → IsTaken b local letter other more told → other ≡ new
+    (ended told : List Ended) → IsReplyOutcome b local letter new sent ended → IsReplyOutcome b local letter other more told → other ≡ new
 one_taken false local letter new other sent more ended told first second = second.done.local ∙ sym first.done.local
 one_taken true local letter new other sent more ended told first second =
     let taken = (done_here fragment local (LocalEvent.Take letter)).local in
@@ -66,8 +66,8 @@ one_taken true local letter new other sent more ended told first second =
     ∙ sym (taken_to local letter new sent ended first)
 
 module _ (a b c d : KeptNode) (same : IsSame a b) where
-  one_done : (name : List ℕ) (events : LocalObject → List LocalEvent) → IsDoneTo a name (events (a.objects name)) c →
-      IsDoneTo b name (events (b.objects name)) d → IsSame c d
+  one_done : (name : List ℕ) (events : LocalObject → List LocalEvent) → IsNamedOutcome a name (events (a.objects name)) c →
+      IsNamedOutcome b name (events (b.objects name)) d → IsSame c d
   one_done name events first second =
       one_put a b c d name first.local second.local same first.put second.put
       (second.done.local ∙ ap (λ (l : LocalObject). (all_done fragment l (events l)).local) (same.objects name)
@@ -88,7 +88,7 @@ module _ (a b c d : KeptNode) (same : IsSame a b) where
       one_put a b c d name first.local second.local same first.put second.put
       (one_taken (is_taken (a.objects name) letter) (a.objects name) letter first.local second.local first.sent second.sent
       first.ended second.ended first.taken
-      (subst (λ l. IsTaken (is_taken l letter) l letter second.local second.sent second.ended) (same.objects name) second.taken))
+      (subst (λ l. IsReplyOutcome (is_taken l letter) l letter second.local second.sent second.ended) (same.objects name) second.taken))
 
 all_recovered : (records : List LogRecord) (a b c d : KeptNode) → IsSame a b → Recovers records a c → Recovers records b d →
     IsSame c d

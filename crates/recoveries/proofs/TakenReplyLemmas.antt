@@ -19,7 +19,7 @@ use Rattle.local_object.specs.Events.{LocalEvent, all_done, done_here, learnt_fr
 use Rattle.local_object.specs.Going.{IsFetchedValue, next_if}
 use Rattle.local_object.specs.Local.{LocalObject, Place, layout_here, layout_in, heard_place}
 use Rattle.local_object.specs.Pieces.{first_pieces}
-use Rattle.local_object.specs.Taking.{AreSettling, CanSettle, GoesOn, IsTaken, begin_events, call_events, can_begin, is_repeated}
+use Rattle.local_object.specs.Taking.{AreSettling, CanSettle, GoesOn, IsReplyOutcome, begin_events, call_events, can_begin, is_repeated}
 use Rattle.local_object.specs.Taking.{lead_events, machine_of, repeats, step_events}
 use Rattle.local_object.proofs.HeardLayoutLemmas.{calls_heard}
 use Rattle.recoveries.proofs.KeptPlaceLemmas.{layouts_kept}
@@ -216,7 +216,7 @@ module _ (moves : Type 0) (here : moves) (local copy : LocalObject) (is : IsObje
       taken.settling taken.settles))
 
   taken_by : (b : Bool) (new copied : LocalObject) (sent more : List Letter) (ended told : List Ended) →
-      IsTaken b local letter new sent ended → IsTaken b copy letter copied more told → IsObjectCopy moves new copied
+      IsReplyOutcome b local letter new sent ended → IsReplyOutcome b copy letter copied more told → IsObjectCopy moves new copied
   taken_by false new copied sent more ended told taken retaken =
       subst (λ l. IsObjectCopy moves l copied) (sym taken.done.local)
       (subst (IsObjectCopy moves local) (sym retaken.done.local) is)
@@ -229,17 +229,17 @@ module _ (moves : Type 0) (here : moves) (local copy : LocalObject) (is : IsObje
       (there ∙ sym found)
 
   taken_both : (new copied : LocalObject) (sent more : List Letter) (ended told : List Ended) →
-      IsTaken (is_taken local letter) local letter new sent ended →
-      IsTaken (is_taken copy letter) copy letter copied more told → IsObjectCopy moves new copied
+      IsReplyOutcome (is_taken local letter) local letter new sent ended →
+      IsReplyOutcome (is_taken copy letter) copy letter copied more told → IsObjectCopy moves new copied
   taken_both new copied sent more ended told taken retaken =
       taken_by (is_taken local letter) new copied sent more ended told taken
-      (subst (λ b. IsTaken b copy letter copied more told) same_taken retaken)
+      (subst (λ b. IsReplyOutcome b copy letter copied more told) same_taken retaken)
 
 -- a reply to an open move is taken by a node and by its copy
 pub move_takes : (moves : Type 0) (local copy : LocalObject) → IsObjectCopy moves local copy → (letter : Letter) →
     has_move_open local letter.message.call ≡ true → (new copied : LocalObject) (sent more : List Letter) (ended told : List Ended) →
-    IsTaken (is_taken local letter) local letter new sent ended →
-    IsTaken (is_taken copy letter) copy letter copied more told → IsObjectCopy moves new copied
+    IsReplyOutcome (is_taken local letter) local letter new sent ended →
+    IsReplyOutcome (is_taken copy letter) copy letter copied more told → IsObjectCopy moves new copied
 move_takes moves local copy is letter open_move new copied sent more ended told taken retaken =
     go (open_call local.calls letter.message.call) refl open_move
   where

@@ -11,7 +11,7 @@ use Rattle.local_object.specs.Events.{LocalEvent}
 use Rattle.deeds.specs.Kept.{FileOfNames, KeptNode, new_node}
 use Rattle.deeds.specs.Restarts.{IsRestarted}
 use Rattle.recoveries.specs.Copies.{IsCopyOf, IsHeeded, IsLogged, IsRecorded}
-use Rattle.recoveries.specs.Records.{IsDoneTo, IsSame, IsStarted, IsTakenBy, LogRecord, Recovers}
+use Rattle.recoveries.specs.Records.{IsNamedOutcome, IsSame, IsStarted, IsNamedReplyOutcome, LogRecord, Recovers}
 
 -- What needs a record
 
@@ -22,20 +22,20 @@ StartsAreLogged = (old new : KeptNode) → IsStarted old new → IsLogged old (L
 -- a letter that is served
 abbrev pub ServedIsLogged : Type 0
 ServedIsLogged = (old new : KeptNode) (name : List ℕ) (letter : Letter) → IsHeeded old name letter →
-    IsDoneTo old name (serve_events (old.objects name) letter) new →
+    IsNamedOutcome old name (serve_events (old.objects name) letter) new →
     IsLogged old (LogRecord.Serves name letter ∷ []) new
 
 -- a reply to an open move
 abbrev pub TakenIsLogged : Type 0
 TakenIsLogged = (old new : KeptNode) (name : List ℕ) (letter : Letter) →
-    has_move_open (old.objects name) letter.message.call ≡ true → IsTakenBy old name letter new →
+    has_move_open (old.objects name) letter.message.call ≡ true → IsNamedReplyOutcome old name letter new →
     IsLogged old (LogRecord.Takes name letter ∷ []) new
 
 -- a move that begins, at the node that moves objects
 abbrev pub MovesAreLogged : Type 0
 MovesAreLogged = (old new : KeptNode) (name : List ℕ) (id : ℕ) (layout : Layout) →
     old.ids.node ≡ old.file.mover → move_refusal (old.objects name) id ≡ None →
-    IsDoneTo old name (LocalEvent.BeginMove id layout ∷ []) new →
+    IsNamedOutcome old name (LocalEvent.BeginMove id layout ∷ []) new →
     IsLogged old (LogRecord.Moves name id layout ∷ []) new
 
 -- What needs no record
@@ -47,29 +47,30 @@ SameNeedsNoRecord = (old new : KeptNode) → IsSame old new → IsLogged old [] 
 -- a letter that is served and changes no bank
 abbrev pub UnchangedNeedsNoRecord : Type 0
 UnchangedNeedsNoRecord = (old new : KeptNode) (name : List ℕ) (letter : Letter) → IsHeeded old name letter →
-    IsUnchangedBy (old.objects name) letter → IsDoneTo old name (serve_events (old.objects name) letter) new →
+    IsUnchangedBy (old.objects name) letter → IsNamedOutcome old name (serve_events (old.objects name) letter) new →
     IsLogged old [] new
 
 -- a reply to a read or a write, or to no call that is open here
 abbrev pub TakenNeedsNoRecord : Type 0
 TakenNeedsNoRecord = (old new : KeptNode) (name : List ℕ) (letter : Letter) → IsHeeded old name letter →
-    has_move_open (old.objects name) letter.message.call ≡ false → IsTakenBy old name letter new → IsLogged old [] new
+    has_move_open (old.objects name) letter.message.call ≡ false → IsNamedReplyOutcome old name letter new →
+    IsLogged old [] new
 
 -- a read that begins
 abbrev pub ReadsNeedNoRecord : Type 0
 ReadsNeedNoRecord = (old new : KeptNode) (name : List ℕ) (id : ℕ) → read_refusal (old.objects name) id ≡ None →
-    IsDoneTo old name (LocalEvent.BeginRead id ∷ []) new → IsLogged old [] new
+    IsNamedOutcome old name (LocalEvent.BeginRead id ∷ []) new → IsLogged old [] new
 
 -- a write that begins
 abbrev pub WritesNeedNoRecord : Type 0
 WritesNeedNoRecord = (old new : KeptNode) (name : List ℕ) (id : ℕ) (value : List ℕ) →
-    write_refusal (old.objects name) id value ≡ None → IsDoneTo old name (LocalEvent.BeginWrite id value ∷ []) new →
-    IsLogged old [] new
+    write_refusal (old.objects name) id value ≡ None →
+    IsNamedOutcome old name (LocalEvent.BeginWrite id value ∷ []) new → IsLogged old [] new
 
 -- a read or a write that is given up
 abbrev pub GivenUpNeedsNoRecord : Type 0
 GivenUpNeedsNoRecord = (old new : KeptNode) (name : List ℕ) (id : ℕ) →
-    IsDoneTo old name (give_up_events (old.objects name) id) new → IsLogged old [] new
+    IsNamedOutcome old name (give_up_events (old.objects name) id) new → IsLogged old [] new
 
 -- Runs
 

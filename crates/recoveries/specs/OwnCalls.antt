@@ -24,20 +24,20 @@ pub record AreOwnCalls (ids : CallIds) (calls : List NodeCall) : Type 0 where
   pub given : AllByRecursion (λ call. WasGiven ids call.id) calls
   pub distinct : NodeCallsDiffer calls
 
--- the open calls of each object of a node are such
+-- the open calls of each object of a node have ids that the node gave, and no two of one object have the same id
 pub record HasOwnCalls (node : KeptNode) : Type 0 where
   pub within : HasRanges node.ids
   pub own : (name : List ℕ) → AreOwnCalls node.ids (node.objects name).calls
 
--- this is so of a new node
+-- `HasOwnCalls` is true of a new node
 abbrev pub NewNodesHaveOwnCalls : Type 0
 NewNodesHaveOwnCalls = (file : FileOfNames) (number : ℕ) → HasOwnCalls (new_node file number)
 
--- and stays so, whatever a node handles
+-- `HasOwnCalls` stays true of a node that handles letters, whatever it does with them
 abbrev pub HandlingKeepsOwnCalls : Type 0
 HandlingKeepsOwnCalls = (old new : KeptNode) (got sent : List NamedLetter) (notices : List Notice) →
     IsHandled fragment old got new sent notices → HasOwnCalls old → HasOwnCalls new
 
--- and if it stops and starts again
+-- `HasOwnCalls` stays true of a node that stops and starts again
 abbrev pub RestartingKeepsOwnCalls : Type 0
 RestartingKeepsOwnCalls = (before after : KeptNode) → IsRestarted before after → HasOwnCalls before → HasOwnCalls after

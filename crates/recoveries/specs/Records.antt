@@ -5,10 +5,10 @@ use Rattle.layout.specs.Layout.{Layout}
 use Rattle.deeds.specs.CallId.{with_next_epoch}
 use Rattle.letter.specs.declared.letter.Letter.{Letter}
 use Rattle.local_object.specs.declared.progress.Ended.{Ended}
-use Rattle.local_object.specs.Doing.{IsDone, is_taken, serve_events}
+use Rattle.local_object.specs.Doing.{IsOutcome, is_taken, serve_events}
 use Rattle.local_object.specs.Events.{LocalEvent}
 use Rattle.local_object.specs.Local.{LocalObject}
-use Rattle.local_object.specs.Taking.{IsTaken}
+use Rattle.local_object.specs.Taking.{IsReplyOutcome}
 use Rattle.deeds.specs.Kept.{KeptNode}
 use Rattle.deeds.specs.Named.{with_named}
 
@@ -35,18 +35,18 @@ pub record IsKeptUnder (old : KeptNode) (name : List ℕ) (local : LocalObject) 
   pub objects : (other : List ℕ) → new.objects other ≡ with_named old.objects name local other
 
 -- these events may happen at the object of a name, and after them the node keeps this
-pub record IsDoneTo (old : KeptNode) (name : List ℕ) (events : List LocalEvent) (new : KeptNode) : Type 0 where
+pub record IsNamedOutcome (old : KeptNode) (name : List ℕ) (events : List LocalEvent) (new : KeptNode) : Type 0 where
   pub local : LocalObject
   pub sent : List Letter
-  pub done : IsDone (old.objects name) events local sent
+  pub done : IsOutcome (old.objects name) events local sent
   pub put : IsKeptUnder old name local new
 
 -- the object of a name took a letter, if that is a reply to a call that is open there, and then the node keeps this
-pub record IsTakenBy (old : KeptNode) (name : List ℕ) (letter : Letter) (new : KeptNode) : Type 0 where
+pub record IsNamedReplyOutcome (old : KeptNode) (name : List ℕ) (letter : Letter) (new : KeptNode) : Type 0 where
   pub local : LocalObject
   pub sent : List Letter
   pub ended : List Ended
-  pub taken : IsTaken (is_taken (old.objects name) letter) (old.objects name) letter local sent ended
+  pub taken : IsReplyOutcome (is_taken (old.objects name) letter) (old.objects name) letter local sent ended
   pub put : IsKeptUnder old name local new
 
 -- the node began the next epoch, since there was one
@@ -59,9 +59,10 @@ pub record IsStarted (old new : KeptNode) : Type 0 where
 -- the node carried out a record again
 abbrev pub RecoversOne : LogRecord → (old new : KeptNode) → Type 0
 RecoversOne LogRecord.Starts old new = IsStarted old new
-RecoversOne (LogRecord.Serves name letter) old new = IsDoneTo old name (serve_events (old.objects name) letter) new
-RecoversOne (LogRecord.Takes name letter) old new = IsTakenBy old name letter new
-RecoversOne (LogRecord.Moves name id layout) old new = IsDoneTo old name (LocalEvent.BeginMove id layout ∷ []) new
+RecoversOne (LogRecord.Serves name letter) old new =
+    IsNamedOutcome old name (serve_events (old.objects name) letter) new
+RecoversOne (LogRecord.Takes name letter) old new = IsNamedReplyOutcome old name letter new
+RecoversOne (LogRecord.Moves name id layout) old new = IsNamedOutcome old name (LocalEvent.BeginMove id layout ∷ []) new
 
 -- the node carried out these records again, one after another
 abbrev pub Recovers : List LogRecord → (old new : KeptNode) → Type 0

@@ -29,7 +29,7 @@ NewNodesHaveOwn = (file : FileOfNames) (number : ℕ) → ((name : List ℕ) →
 abbrev pub IsLawfulLetter : NamedLetter → Type 0
 IsLawfulLetter it = HasLawfulLayouts it.letter
 
--- they stay its own, whatever it handles of letters with lawful layouts
+-- if all objects of a node are its own, they still are after it handles letters with lawful layouts
 abbrev pub HandlingKeepsOwn : Type 0
 HandlingKeepsOwn = (old new : KeptNode) (got sent : List NamedLetter) (notices : List Notice) →
     AllByRecursion IsLawfulLetter got → IsHandled fragment old got new sent notices → HasOwnObjects old →
@@ -41,12 +41,12 @@ HasLawfulLetter (LogRecord.Serves name letter) = HasLawfulLayouts letter
 HasLawfulLetter (LogRecord.Takes name letter) = HasLawfulLayouts letter
 HasLawfulLetter it = Unit {0}
 
--- they stay its own, where it carries out again records of letters with lawful layouts
+-- if all objects of a node are its own, they still are after it carries out records with lawful layouts again
 abbrev pub RecoveringKeepsOwn : Type 0
 RecoveringKeepsOwn = (old new : KeptNode) (records : List LogRecord) → AllByRecursion HasLawfulLetter records →
     Recovers records old new → HasOwnObjects old → HasOwnObjects new
 
--- they stay its own, where nothing happens to them or an epoch begins
+-- if all objects of a node are its own, they still are if nothing happens to them, and after an epoch begins
 abbrev pub StartsKeepOwn : Type 0
 StartsKeepOwn = (old new : KeptNode) → HasOwnObjects old →
     (IsSame old new → HasOwnObjects new) × (IsStarted old new → HasOwnObjects new)

@@ -18,8 +18,8 @@ use Rattle.refinement.specs.Systems.{System, SystemEvent, system_after}
 use Rattle.deeds.specs.Named.{IsOneOf, NamedLetter, is_same_name, with_names}
 use Rattle.deeds.specs.Deeds.{Deed, Notice, after_deed, after_deeds, noticed}
 use Rattle.deeds.specs.Ids.{HaveNextIds, IsGiven, IsLater, begun_id, deed_id}
-use Rattle.deeds.specs.May.{AreFed, IsAllowed, IsEventAllowed, IsEventFed, IsFed, MayAllBeDone, MayBeDone}
-use Rattle.deeds.proofs.FedLemmas.{AreAmong, deed_fed_more}
+use Rattle.deeds.specs.May.{AreDeedLettersKnown, IsAllowed, IsEventAllowed, IsEventLetterKnown, IsDeedLetterKnown, MayAllBeDone, MayBeDone}
+use Rattle.deeds.proofs.KnownLetterLemmas.{AreAmong, deed_fed_more}
 use Rattle.deeds.proofs.IdLemmas.{given_later}
 use Rattle.deeds.proofs.NameLemmas.{names_decided, one_of_both, one_of_more, other_named, own_named}
 use Rattle.refinement.specs.Histories.{is_about}
@@ -74,7 +74,7 @@ abbrev DeedLeads : (fragment : Code) (name : List ℕ) (number mover : ℕ) (ids
 DeedLeads fragment name number mover ids deed = (system : System) (objects : List ℕ → LocalObject) (mine now : CallIds)
     (letters : List NamedLetter) (notices : List Notice) → Follows fragment name system (with_ids ids number mine) letters notices →
     mine.node ≡ number → HasRanges mine → system.objects number ≡ objects name → mover ≡ (system.files number).mover →
-    MayBeDone fragment objects deed → IsFed letters deed → IsAllowed number mover deed → IsGiven mine (deed_id deed) now →
+    MayBeDone fragment objects deed → IsDeedLetterKnown letters deed → IsAllowed number mover deed → IsGiven mine (deed_id deed) now →
     Leads fragment name system number ((after_deed fragment objects deed).objects name) (with_ids ids number now)
     (letters ++ (after_deed fragment objects deed).sent) (notices ++ (after_deed fragment objects deed).notices)
 
@@ -83,7 +83,7 @@ module _ (fragment : Code) (name : List ℕ) (number mover : ℕ) (ids : ℕ →
   event_at : (event : LocalEvent) (system : System) (local : LocalObject) (mine now : CallIds) (letters : List NamedLetter)
       (notices : List Notice) → Follows fragment name system (with_ids ids number mine) letters notices →
       mine.node ≡ number → HasRanges mine → system.objects number ≡ local → mover ≡ (system.files number).mover →
-      MayHappenHere fragment local event → IsEventFed letters name event → IsEventAllowed number mover event →
+      MayHappenHere fragment local event → IsEventLetterKnown letters name event → IsEventAllowed number mover event →
       IsGiven mine (begun_id event) now →
       Leads fragment name system number (done_here fragment local event).local (with_ids ids number now)
       (letters ++ with_names name (done_here fragment local event).sent) (notices ++ noticed name local event)
@@ -183,7 +183,7 @@ module _ (fragment : Code) (name : List ℕ) (number mover : ℕ) (ids : ℕ →
       (letters : List NamedLetter) (notices : List Notice) (got : List NamedLetter) →
       Follows fragment name system (with_ids ids number mine) letters notices → mine.node ≡ number → HasRanges mine →
       system.objects number ≡ objects name → mover ≡ (system.files number).mover → MayAllBeDone fragment objects deeds →
-      AreFed fragment objects got deeds → AreAmong got letters → AllByRecursion (IsAllowed number mover) deeds →
+      AreDeedLettersKnown fragment objects got deeds → AreAmong got letters → AllByRecursion (IsAllowed number mover) deeds →
       HaveNextIds mine deeds last →
       Leads fragment name system number ((after_deeds fragment objects deeds).objects name) (with_ids ids number last)
       (letters ++ (after_deeds fragment objects deeds).sent) (notices ++ (after_deeds fragment objects deeds).notices)

@@ -20,7 +20,7 @@ use Rattle.refinement.specs.Systems.{IsPremisedIn, System, SystemEvent, system_a
 use Rattle.deeds.specs.Named.{NamedLetter, with_names}
 use Rattle.deeds.specs.Deeds.{Notice, noticed}
 use Rattle.deeds.specs.Ids.{IsGiven, IsLater, IsNextId, begun_id}
-use Rattle.deeds.specs.May.{IsEventAllowed, IsEventFed}
+use Rattle.deeds.specs.May.{IsEventAllowed, IsEventLetterKnown}
 use Rattle.deeds.proofs.IdLemmas.{given_later, next_later}
 use Rattle.open_calls.proofs.ListLemmas.{all_append, all_weaker}
 use Rattle.deeds.proofs.NameLemmas.{names_decided}
@@ -123,7 +123,7 @@ module _ (fragment : Code) (name : List ℕ) (system : System) (ids : ℕ → Ca
           subst (IsToldIn (map (answered_entry call time) system.history)) equal (now_told system.history call time has)
       one_told call time has (suc place) ended at = absurd (cc)
 
-  pub acted : (event : LocalEvent) → MayHappenHere fragment local event → IsEventFed letters name event →
+  pub acted : (event : LocalEvent) → MayHappenHere fragment local event → IsEventLetterKnown letters name event →
       IsEventAllowed number (system.files number).mover event → IsGiven mine (begun_id event) now →
       Leads fragment name system number (done_here fragment local event).local (with_ids ids number now)
       (letters ++ with_names name (done_here fragment local event).sent) (notices ++ noticed name local event)

@@ -17,7 +17,7 @@ fn close_all<L: StoreName>(store: Store<L>, seats: Vec<Seat<L>>) -> (Closing, Cl
     }
 }
 
-/// Closes a store, which is to tell this, with so many calls.
+/// Closes a store. Checks that the close returns `closing`, and that the cluster then has this many calls.
 pub(crate) fn close<L: StoreName>(
     rt: &impl Abort,
     store: Store<L>,

@@ -64,7 +64,7 @@ pub(crate) fn perform<R: Threads + Wait + Abort + Sync>(rt: &R, alloc: Global, p
     perform_named::<Brand, R>(rt, alloc, blank, cluster, play)
 }
 
-// The same at the store of this name.
+// Does what `perform` does, with a store whose name is the type `L`.
 fn perform_named<L: StoreName + Send + Sync, R: Threads + Wait + Abort + Sync>(
     rt: &R,
     alloc: Global,

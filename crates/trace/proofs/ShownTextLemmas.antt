@@ -9,7 +9,7 @@ use Rattle.exports.specs.declared.event.Event.{Event}
 use Rattle.exports.specs.Event.{IsHistory}
 use Rattle.trace.specs.Shown.{IsLoss, behind}
 
--- a text that is another one was written, or lost
+-- if a text was written or lost, so was each text that equals it
 pub shown_as : (old new : Option (List ℕ)) (r : Result Unit Fault) (text other : List ℕ) → text ≡ other
     → OnOk r (Appends old new text) → IfErr r IsLoss → MatchResult r (λ _. Appends old new other) IsLoss
 shown_as old new (Ok x) text other same shown lost = subst (Appends old new) same shown

@@ -10,7 +10,8 @@ ghost use Rattle.call.specs.Pieces.{HavePieces};
 ghost use Rattle.open_calls.specs.OpenCalls.{open_call};
 ghost use Rattle.local_object.specs.Local.{last_position, layout_here};
 ghost use Rattle.local_object.specs.Events.{LocalEvent, begun_here};
-ghost use Rattle.local_object.specs.Doing.{IsDone, is_moving, move_refusal, read_refusal, unless_open, write_refusal};
+ghost use Rattle.local_object.specs.Doing.{IsOutcome, is_moving, move_refusal, read_refusal, unless_open};
+ghost use Rattle.local_object.specs.Doing.{write_refusal};
 
 use crate::LocalObject;
 use crate::letters::letters_of;
@@ -29,7 +30,9 @@ impl LocalObject {
     ///
     /// `NotNow` if a call with this id is open here, and `NoMemory`.
     pub fn begin_read(&mut self, id: CallId) -> Result<Vec<Letter>, Refusal>
-        ensures done { IfOk result (λ letters. IsDone self.old (LocalEvent.BeginRead id ∷ []) self.new letters.items) }
+        ensures done { IfOk result (λ letters.
+            IsOutcome self.old (LocalEvent.BeginRead id ∷ []) self.new letters.items) }
+
         ensures cause { IsByCause (read_refusal self.old id) result }
         ensures unchanged { IfErr result (λ e. (e ≡ NoMemory) ⊎ (self.new ≡ self.old)) }
     {
@@ -45,7 +48,7 @@ impl LocalObject {
     /// `NoMemory`.
     pub fn begin_write(&mut self, id: CallId, value: Bytes) -> Result<Vec<Letter>, Refusal>
         ensures done { IfOk result (λ letters.
-            IsDone self.old (LocalEvent.BeginWrite id value ∷ []) self.new letters.items) }
+            IsOutcome self.old (LocalEvent.BeginWrite id value ∷ []) self.new letters.items) }
 
         ensures cause { IsByCause (write_refusal self.old id value) result }
         ensures unchanged { IfErr result (λ e. (e ≡ NoMemory) ⊎ (self.new ≡ self.old)) }
@@ -71,7 +74,7 @@ impl LocalObject {
     /// new position and the one after it, and `NoMemory`.
     pub fn begin_move(&mut self, id: CallId, layout: Layout) -> Result<Vec<Letter>, Refusal>
         ensures done { IfOk result (λ letters.
-            IsDone self.old (LocalEvent.BeginMove id layout ∷ []) self.new letters.items) }
+            IsOutcome self.old (LocalEvent.BeginMove id layout ∷ []) self.new letters.items) }
 
         ensures cause { IsByCause (move_refusal self.old id) result }
         ensures unchanged { IfErr result (λ e. (e ≡ NoMemory) ⊎ (self.new ≡ self.old)) }
@@ -101,7 +104,7 @@ impl LocalObject {
         requires new { open_call self.old.calls id ≡ None }
         requires still { is_moving self.old ≡ false }
         ensures done { IfOk result (λ letters.
-            IsDone self.old (LocalEvent.BeginMove id layout.now ∷ []) self.new letters.items) }
+            IsOutcome self.old (LocalEvent.BeginMove id layout.now ∷ []) self.new letters.items) }
 
         ensures refused { IfErr result (λ e. e ≡ NoMemory) }
     {

@@ -3,7 +3,7 @@
 ghost use Rattle.std.specs.Prelude.{◌≡◌, ℕ, List, IfOk, IfErr, MatchOption, OnOk, option_to_list};
 ghost use Rattle.tag.specs.declared.refusal.Refusal.TheVariants.{NoMemory};
 ghost use Rattle.local_object.specs.Going.{settled_here};
-ghost use Rattle.local_object.specs.Taking.{CanSettle, HasDoneBy, SettlesFetched, lead_events};
+ghost use Rattle.local_object.specs.Taking.{CanSettle, IsOutcomeWithAnswers, SettlesFetched, lead_events};
 
 use crate::going::{advance, ended, fetched, next_here, next_if};
 use crate::{LocalObject, Progress};
@@ -58,7 +58,7 @@ impl LocalObject {
     ///
     /// `NoMemory` is the only refusal.
     pub(crate) fn lead(&mut self, id: CallId, again: bool) -> Result<Progress, Refusal>
-        ensures done { IfOk result (λ progress. HasDoneBy self.old (lead_events again self.old id) self.new
+        ensures done { IfOk result (λ progress. IsOutcomeWithAnswers self.old (lead_events again self.old id) self.new
             progress.letters.items (option_to_list progress.ended)) }
 
         ensures refused { IfErr result (λ e. e ≡ NoMemory) }

@@ -4,7 +4,7 @@ ghost use Rattle.std.specs.Prelude.{◌≡◌, [], IfOk, IfErr};
 ghost use Rattle.std.specs.List.{AllByRecursion};
 ghost use Rattle.tag.specs.declared.refusal.Refusal.TheVariants.{NoMemory};
 ghost use Rattle.encoder.specs.Fragment.{fragment};
-ghost use Rattle.local_object.specs.Doing.{IsDone, give_up_events, gives_up};
+ghost use Rattle.local_object.specs.Doing.{IsOutcome, give_up_events, gives_up};
 ghost use Rattle.local_object.specs.Resent.{IsResent, letters_again};
 
 use crate::LocalObject;
@@ -43,7 +43,7 @@ impl LocalObject {
     /// Ends the read or the write with this id without an answer, if one is open here. A write may still take effect.
     /// Returns whether a call was given up. A move goes on until it is answered. It allocates no memory.
     pub fn give_up(&mut self, id: CallId) -> bool
-        ensures done { IsDone self.old (give_up_events self.old id) self.new [] }
+        ensures done { IsOutcome self.old (give_up_events self.old id) self.new [] }
         ensures given_up { result ≡ gives_up self.old id }
     {
         let Some(index) = self.calls.index_of(id) else {

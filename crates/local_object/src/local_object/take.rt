@@ -4,8 +4,8 @@ ghost use Rattle.std.specs.Prelude.{◌≡◌, ◌∷◌, [], true, IfOk, IfErr,
 ghost use Rattle.tag.specs.declared.refusal.Refusal.TheVariants.{NoMemory};
 ghost use Rattle.local_object.specs.Doing.{is_taken};
 ghost use Rattle.local_object.specs.Events.{LocalEvent};
-ghost use Rattle.local_object.specs.Going.{HasDone, taken_here};
-ghost use Rattle.local_object.specs.Taking.{HasDoneBy, IsTaken, is_repeat_in, repeats};
+ghost use Rattle.local_object.specs.Going.{IsSomeOutcome, taken_here};
+ghost use Rattle.local_object.specs.Taking.{IsOutcomeWithAnswers, IsReplyOutcome, is_repeat_in, repeats};
 
 use super::has_next;
 use crate::{LocalObject, Progress};
@@ -29,9 +29,9 @@ impl LocalObject {
     /// `NoMemory` is the only refusal.
     pub fn take(&mut self, letter: Letter) -> Result<Progress, Refusal>
         ensures done { IfOk result (λ progress.
-            HasDone self.old self.new progress.letters.items (option_to_list progress.ended)) }
+            IsSomeOutcome self.old self.new progress.letters.items (option_to_list progress.ended)) }
 
-        ensures taken { IfOk result (λ progress. IsTaken (is_taken self.old letter) self.old letter self.new
+        ensures taken { IfOk result (λ progress. IsReplyOutcome (is_taken self.old letter) self.old letter self.new
             progress.letters.items (option_to_list progress.ended)) }
 
         ensures refused { IfErr result (λ e. e ≡ NoMemory) }
@@ -75,7 +75,7 @@ impl LocalObject {
     // The call that the reply names takes it, and the node hears of its layouts.
     fn take_reply(&mut self, letter: Letter) -> Result<(), Refusal>
         requires { is_taken self.old letter ≡ true }
-        ensures done { OnOk result (HasDoneBy self.old (LocalEvent.Take letter ∷ []) self.new [] []) }
+        ensures done { OnOk result (IsOutcomeWithAnswers self.old (LocalEvent.Take letter ∷ []) self.new [] []) }
         ensures refused { IfErr result (λ e. e ≡ NoMemory) }
     {
         self.learn(&letter)?;

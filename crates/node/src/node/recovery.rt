@@ -6,7 +6,7 @@ ghost use Rattle.node_keeper.specs.Objects.{objects_of};
 ghost use Rattle.node_effects.specs.declared.error.NodeError.TheVariants.{NoMemory};
 ghost use Rattle.node_effects.specs.declared.error.RecoveryError.TheVariants.{Stopped};
 ghost use Rattle.node_strings.specs.declared.record.Record.TheVariants as record_of;
-ghost use Rattle.recoveries.specs.Records.{IsDoneTo, IsStarted, IsTakenBy};
+ghost use Rattle.recoveries.specs.Records.{IsNamedOutcome, IsStarted, IsNamedReplyOutcome};
 ghost use Rattle.node_keeper.specs.Keeping.{kept_of};
 ghost use Rattle.node.specs.Frames.{IsLetterOf};
 ghost use Rattle.node.specs.Recovering.{CarriesOutRecord, KeepsDesk, RefusesLetter, RefusesOwn, RefusesRecord};
@@ -107,7 +107,7 @@ impl Node {
 
     // A request is served again.
     fn serve_again(&mut self, it: NamedLetter) -> Result<(), RecoveryError>
-        ensures served { OnOk result (IsDoneTo (kept_of self.old.keeper) it.name
+        ensures served { OnOk result (IsNamedOutcome (kept_of self.old.keeper) it.name
             (serve_events (objects_of self.old.keeper.objects it.name) it.letter) (kept_of self.new.keeper)) }
         ensures rest { KeepsDesk self.old self.new }
         ensures refused { IfErr result (λ e. e ≡ Stopped NoMemory) }
@@ -121,7 +121,7 @@ impl Node {
     // A reply is taken again. A call that it answers is open no more, and nobody is told again.
     fn take_again(&mut self, it: NamedLetter) -> Result<(), RecoveryError>
         ensures taken { OnOk result
-            (IsTakenBy (kept_of self.old.keeper) it.name it.letter (kept_of self.new.keeper)) }
+            (IsNamedReplyOutcome (kept_of self.old.keeper) it.name it.letter (kept_of self.new.keeper)) }
         ensures rest { KeepsDesk self.old self.new }
         ensures refused { IfErr result (λ e. e ≡ Stopped NoMemory) }
     {
@@ -137,7 +137,7 @@ impl Node {
 
     // A move begins again. No client waits for it.
     fn recover_move(&mut self, id: CallId, name: Bytes, layout: Layout) -> Result<(), RecoveryError>
-        ensures begun { OnOk result (IsDoneTo (kept_of self.old.keeper) name (LocalEvent.BeginMove id layout ∷ [])
+        ensures begun { OnOk result (IsNamedOutcome (kept_of self.old.keeper) name (LocalEvent.BeginMove id layout ∷ [])
             (kept_of self.new.keeper)) }
         ensures rest { KeepsDesk self.old self.new }
         ensures refused { IfErr result (RefusesOwn self.old.keeper (record_of.Move id name layout)) }

@@ -87,7 +87,7 @@ impl Desk {
     }
 }
 
-// What the client of a call is told that was answered.
+// The answer that the client of an answered call gets.
 fn ended_answer(wanted: Wanted, ended: Ended) -> Answer
     ensures { result ≡ ended_answer wanted ended }
 {

@@ -3,7 +3,7 @@ ghost use Rattle.std.specs.Prelude.{◌≡◌, ◌≢◌, ◌<◌, ◌^◌, ◌�
 ghost use Rattle.tag.specs.declared.refusal.Refusal.TheVariants.{NoMemory};
 ghost use Rattle.deeds.specs.CallId.{with_next_epoch};
 ghost use Rattle.local_object.specs.Doing.{give_up_events, gives_up};
-ghost use Rattle.node_keeper.specs.Doing.{IsDoneAt};
+ghost use Rattle.node_keeper.specs.Doing.{IsOutcomeAt};
 ghost use Rattle.node_keeper.specs.Objects.{objects_of};
 ghost use Rattle.node_effects.specs.Errors.{WritesOrFails};
 ghost use Rattle.node_effects.specs.Work.{IsGrown, one_entry};
@@ -170,7 +170,7 @@ impl Keeper {
     pub fn give_up(&mut self, name: &Bytes, id: CallId) -> bool
         ensures acts { (asker : ℕ) (work : Todo) → Acts asker [] self.old work self.new work }
         ensures given_up { result ≡ gives_up (objects_of self.old.objects name.now) id }
-        ensures done { IsDoneAt self.old.objects name.now
+        ensures done { IsOutcomeAt self.old.objects name.now
             (give_up_events (objects_of self.old.objects name.now) id) self.new.objects [] }
         ensures rest { KeepsRest self.old self.new }
     {

@@ -4,7 +4,7 @@ ghost use Rattle.std.specs.Prelude.{IfErr, IfOk, OnOk, option_to_list};
 ghost use Rattle.local_object.specs.Doing.{move_refusal, serve_events};
 ghost use Rattle.local_object.specs.Events.{LocalEvent};
 ghost use Rattle.node_keeper.specs.Objects.{AreSame, objects_of};
-ghost use Rattle.recoveries.specs.Records.{IsDoneTo, IsStarted, IsTakenBy};
+ghost use Rattle.recoveries.specs.Records.{IsNamedOutcome, IsStarted, IsNamedReplyOutcome};
 ghost use Rattle.node_effects.specs.Errors.{IsByRefusal};
 ghost use Rattle.node_effects.specs.declared.error.NodeError.TheVariants.{NoMemory};
 ghost use Rattle.node_keeper.specs.Delivering.{KeepsRest, first_id};
@@ -31,7 +31,7 @@ impl Keeper {
 
     /// Serves a request again. Fails with `NoMemory`.
     pub fn serve_again(&mut self, it: NamedLetter) -> Result<(), NodeError>
-        ensures served { OnOk result (IsDoneTo (kept_of self.old) it.name
+        ensures served { OnOk result (IsNamedOutcome (kept_of self.old) it.name
             (serve_events (objects_of self.old.objects it.name) it.letter) (kept_of self.new)) }
 
         ensures rest { OnOk result (KeepsRest self.old self.new) }
@@ -45,7 +45,7 @@ impl Keeper {
     /// Takes a reply again. Returns the id of the call that this answers, if it answers one. Fails with `NoMemory`.
     pub fn take_again(&mut self, it: NamedLetter) -> Result<Option<CallId>, NodeError>
         ensures taken { IfOk result (λ id.
-            (taken : IsTakenBy (kept_of self.old) it.name it.letter (kept_of self.new))
+            (taken : IsNamedReplyOutcome (kept_of self.old) it.name it.letter (kept_of self.new))
             × (id ≡ first_id taken.ended)) }
 
         ensures rest { OnOk result (KeepsRest self.old self.new) }
@@ -58,7 +58,7 @@ impl Keeper {
 
     /// Begins a move again. Fails with `Refused` if the object refuses the move, or with `NoMemory`.
     pub fn move_again(&mut self, name: &Bytes, id: CallId, layout: Layout) -> Result<(), NodeError>
-        ensures begun { OnOk result (IsDoneTo (kept_of self.old) name.now (LocalEvent.BeginMove id layout ∷ [])
+        ensures begun { OnOk result (IsNamedOutcome (kept_of self.old) name.now (LocalEvent.BeginMove id layout ∷ [])
             (kept_of self.new)) }
 
         ensures rest { KeepsRest self.old self.new }

@@ -7,7 +7,7 @@ ghost use Rattle.indexmap.specs.IndexMap.{get};
 ghost use Rattle.tag.specs.declared.limits.TheConstants.{LONGEST_VALUE};
 ghost use Rattle.local_object.specs.Doing.{move_refusal, read_refusal, write_refusal};
 ghost use Rattle.local_object.specs.Events.{LocalEvent};
-ghost use Rattle.node_keeper.specs.Doing.{IsDoneAt};
+ghost use Rattle.node_keeper.specs.Doing.{IsOutcomeAt};
 ghost use Rattle.node_keeper.specs.Objects.{AreSame, objects_of};
 
 use super::Objects;
@@ -23,7 +23,7 @@ impl Objects {
     /// Is refused with `NotNow` if a call with this id is open at the object, or with `NoMemory`.
     pub fn begin_read(&mut self, name: &Bytes, id: CallId) -> Result<Vec<Letter>, Refusal>
         ensures done { IfOk result (λ letters.
-            IsDoneAt self.old name.now (LocalEvent.BeginRead id ∷ []) self.new letters.items) }
+            IsOutcomeAt self.old name.now (LocalEvent.BeginRead id ∷ []) self.new letters.items) }
 
         ensures cause { IsByCause (read_refusal (objects_of self.old name.now) id) result }
         ensures unchanged { IfErr result (λ e. (e ≡ NoMemory) ⊎ AreSame self.old self.new) }
@@ -47,7 +47,7 @@ impl Objects {
         value: Bytes,
     ) -> Result<Vec<Letter>, Refusal>
         ensures done { IfOk result (λ letters.
-            IsDoneAt self.old name.now (LocalEvent.BeginWrite id value ∷ []) self.new letters.items) }
+            IsOutcomeAt self.old name.now (LocalEvent.BeginWrite id value ∷ []) self.new letters.items) }
 
         ensures cause { IsByCause (write_refusal (objects_of self.old name.now) id value) result }
         ensures unchanged { IfErr result (λ e. (e ≡ NoMemory) ⊎ AreSame self.old self.new) }
@@ -82,7 +82,7 @@ impl Objects {
         layout: Layout,
     ) -> Result<Vec<Letter>, Refusal>
         ensures done { IfOk result (λ letters.
-            IsDoneAt self.old name.now (LocalEvent.BeginMove id layout ∷ []) self.new letters.items) }
+            IsOutcomeAt self.old name.now (LocalEvent.BeginMove id layout ∷ []) self.new letters.items) }
 
         ensures cause { IsByCause (move_refusal (objects_of self.old name.now) id) result }
         ensures unchanged { IfErr result (λ e. (e ≡ NoMemory) ⊎ AreSame self.old self.new) }

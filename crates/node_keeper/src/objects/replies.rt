@@ -2,8 +2,8 @@
 ghost use Rattle.std.specs.Prelude.{◌≡◌, [], IfErr, IfOk, OnOk, option_to_list};
 ghost use Rattle.tag.specs.declared.refusal.Refusal.TheVariants.{NoMemory};
 ghost use Rattle.local_object.specs.Doing.{give_up_events, gives_up};
-ghost use Rattle.node_keeper.specs.Doing.{IsDoneAt, IsTakenAt};
-ghost use Rattle.node_keeper.specs.Objects.{IsSpared, objects_of};
+ghost use Rattle.node_keeper.specs.Doing.{IsOutcomeAt, IsReplyOutcomeAt};
+ghost use Rattle.node_keeper.specs.Objects.{IsAbsentIfNew, objects_of};
 
 use super::Objects;
 use bytes::Bytes;
@@ -18,10 +18,10 @@ impl Objects {
     ///
     /// `NoMemory` is the only refusal.
     pub fn take(&mut self, name: &Bytes, letter: Letter) -> Result<Progress, Refusal>
-        ensures done { IfOk result (λ progress. IsTakenAt self.old name.now letter self.new
+        ensures done { IfOk result (λ progress. IsReplyOutcomeAt self.old name.now letter self.new
             progress.letters.items (option_to_list progress.ended)) }
 
-        ensures spared { OnOk result (IsSpared self.new name.now) }
+        ensures spared { OnOk result (IsAbsentIfNew self.new name.now) }
         ensures refused { IfErr result (λ e. e ≡ NoMemory) }
     {
         let progress = self.take_there(name, letter)?;
@@ -29,9 +29,9 @@ impl Objects {
         Ok(progress)
     }
 
-    // The same, and the object stays in the map.
+    // Does what `take` does, but leaves the object in the map, also if it equals a new one.
     fn take_there(&mut self, name: &Bytes, letter: Letter) -> Result<Progress, Refusal>
-        ensures done { IfOk result (λ progress. IsTakenAt self.old name.now letter self.new
+        ensures done { IfOk result (λ progress. IsReplyOutcomeAt self.old name.now letter self.new
             progress.letters.items (option_to_list progress.ended)) }
 
         ensures refused { IfErr result (λ e. e ≡ NoMemory) }
@@ -47,18 +47,18 @@ impl Objects {
     /// may still take effect. Returns whether a call was given up. A move goes on until it is answered. The function
     /// allocates no memory.
     pub fn give_up(&mut self, name: &Bytes, id: CallId) -> bool
-        ensures done { IsDoneAt self.old name.now (give_up_events (objects_of self.old name.now) id) self.new [] }
+        ensures done { IsOutcomeAt self.old name.now (give_up_events (objects_of self.old name.now) id) self.new [] }
         ensures given_up { result ≡ gives_up (objects_of self.old name.now) id }
-        ensures spared { IsSpared self.new name.now }
+        ensures spared { IsAbsentIfNew self.new name.now }
     {
         let given_up = self.give_up_there(name, id);
         self.forget_new(name);
         given_up
     }
 
-    // The same, and the object stays in the map.
+    // Does what `give_up` does, but leaves the object in the map, also if it equals a new one.
     fn give_up_there(&mut self, name: &Bytes, id: CallId) -> bool
-        ensures done { IsDoneAt self.old name.now (give_up_events (objects_of self.old name.now) id) self.new [] }
+        ensures done { IsOutcomeAt self.old name.now (give_up_events (objects_of self.old name.now) id) self.new [] }
         ensures given_up { result ≡ gives_up (objects_of self.old name.now) id }
     {
         match self.by_name.get_mut(name) {

@@ -5,8 +5,8 @@ ghost use Rattle.tag.specs.declared.refusal.Refusal.TheVariants.{NoMemory};
 ghost use Rattle.encoder.specs.Fragment.{fragment};
 ghost use Rattle.local_object.specs.Doing.{serve_events};
 ghost use Rattle.local_object.specs.Resent.{IsResent, letters_again};
-ghost use Rattle.node_keeper.specs.Doing.{IsDoneAt};
-ghost use Rattle.node_keeper.specs.Objects.{IsSpared, objects_of};
+ghost use Rattle.node_keeper.specs.Doing.{IsOutcomeAt};
+ghost use Rattle.node_keeper.specs.Objects.{IsAbsentIfNew, objects_of};
 
 use super::Objects;
 use bytes::Bytes;
@@ -20,10 +20,10 @@ impl Objects {
     ///
     /// `NoMemory` is the only refusal.
     pub fn serve(&mut self, name: &Bytes, letter: Letter) -> Result<Option<Letter>, Refusal>
-        ensures done { IfOk result (λ reply. IsDoneAt self.old name.now
+        ensures done { IfOk result (λ reply. IsOutcomeAt self.old name.now
             (serve_events (objects_of self.old name.now) letter) self.new (option_to_list reply)) }
 
-        ensures spared { OnOk result (IsSpared self.new name.now) }
+        ensures spared { OnOk result (IsAbsentIfNew self.new name.now) }
         ensures refused { IfErr result (λ e. e ≡ NoMemory) }
     {
         let reply = self.serve_there(name, letter)?;
@@ -31,9 +31,9 @@ impl Objects {
         Ok(reply)
     }
 
-    // The same, and the object stays in the map.
+    // Does what `serve` does, but leaves the object in the map, also if it equals a new one.
     fn serve_there(&mut self, name: &Bytes, letter: Letter) -> Result<Option<Letter>, Refusal>
-        ensures done { IfOk result (λ reply. IsDoneAt self.old name.now
+        ensures done { IfOk result (λ reply. IsOutcomeAt self.old name.now
             (serve_events (objects_of self.old name.now) letter) self.new (option_to_list reply)) }
 
         ensures refused { IfErr result (λ e. e ≡ NoMemory) }

@@ -6,7 +6,7 @@ use Rattle.letter.specs.declared.letter.Letter.{Letter}
 use Rattle.local_object.specs.declared.progress.Ended.{Ended}
 use Rattle.local_object.specs.Codes.{at_node}
 use Rattle.local_object.specs.Ended.{told_of}
-use Rattle.local_object.specs.Taking.{HasDoneBy, lead_events}
+use Rattle.local_object.specs.Taking.{IsOutcomeWithAnswers, lead_events}
 use Rattle.local_object.proofs.CarriedCallLemmas.{same_call}
 use Rattle.local_object.proofs.DoneLemmas.{by_from, by_none}
 use Rattle.local_object.proofs.OpenLemmas.{advanced_by, answered_by, lead_none, lead_waits, object}
@@ -33,11 +33,11 @@ returns-in_ok-letters-in-Restart-clause-done c =
     let position = c.in-Restart.position in
     let new = object o.node o.delta o.places c.advance.new.calls in
     let step = subst (λ s. (s ≡ next.Restart kind position) ⊎ (s ≡ next.Begin kind position)) c.next_if.ensures.next c.in-Restart.is in
-    subst (λ (ended : List Ended). HasDoneBy c.args.self.now (lead_events c.args.again c.args.self.now c.args.id) new
+    subst (λ (ended : List Ended). IsOutcomeWithAnswers c.args.self.now (lead_events c.args.again c.args.self.now c.args.id) new
     c.sent.result.letters.items ended)
     (sym (ap option_to_list c.sent.ensures.ended))
-    (subst (λ (letters : List Letter). HasDoneBy c.args.self.now (lead_events c.args.again c.args.self.now c.args.id) new letters [])
-    (sym c.sent.ensures.letters)
+    (subst (λ (letters : List Letter). IsOutcomeWithAnswers c.args.self.now (lead_events c.args.again c.args.self.now c.args.id) new
+    letters []) (sym c.sent.ensures.letters)
     (by_from (λ l. lead_events c.args.again l c.args.id) c.self.view_is
     (advanced_by o.node o.delta o.places c.in-Some.ensures.distinct c.in-Some.ensures.index call c.at.ensures kind position
     c.advance.new.calls c.in_ok-letters-in-Restart.letters.items c.args.again step
@@ -49,7 +49,7 @@ returns-in_default-clause-done c =
     let old = c.args.self.now in
     let letters = c.none.result.letters.items in
     let told = option_to_list c.none.result.ended in
-    subst (λ events. HasDoneBy old events old letters told)
+    subst (λ events. IsOutcomeWithAnswers old events old letters told)
     (sym (ap (λ l. lead_events c.args.again l c.args.id) (sym c.self.view_is)
     ∙ lead_none o.node o.delta o.places c.args.again o.calls c.args.id c.in_default.ensures.index))
     (by_none old old letters told refl c.none.ensures.letters (ap option_to_list c.none.ensures.ended))
@@ -61,7 +61,7 @@ returns-in-Wait-clause-done c =
     let letters = c.none-in-Wait.result.letters.items in
     let told = option_to_list c.none-in-Wait.result.ended in
     let step = subst (λ s. (s ≡ next.Wait) ⊎ (s ≡ next.Settle)) c.next_if.ensures.next c.in-Wait.is in
-    subst (λ events. HasDoneBy old events old letters told)
+    subst (λ events. IsOutcomeWithAnswers old events old letters told)
     (sym (ap (λ l. lead_events c.args.again l c.args.id) (sym c.self.view_is)
     ∙ lead_waits o.node o.delta o.places c.in-Some.ensures.distinct c.in-Some.ensures.index c.at.result.now c.at.ensures c.args.again step))
     (by_none old old letters told refl c.none-in-Wait.ensures.letters (ap option_to_list c.none-in-Wait.ensures.ended))

@@ -1,6 +1,6 @@
 use Rattle.std.proofs.Common.{[], inr, refl, subst, ◌∷◌}
 use Rattle.local_object.specs.Events.{LocalEvent}
-use Rattle.node_keeper.specs.Doing.{IsDoneAt}
+use Rattle.node_keeper.specs.Doing.{IsOutcomeAt}
 use Rattle.node_effects.specs.declared.notice.Notice.TheVariants as notice
 use Rattle.recoveries.specs.Records.{LogRecord}
 use Rattle.node_keeper.specs.Beginning.{moving_call}
@@ -14,9 +14,9 @@ use Rattle.node_keeper.proofs.keeper.Keeper.begin_move.Goals as goal
 pub returns-in_ok-post-in-Ok-clause-acts : goal.returns-in_ok-post-in-Ok-clause-acts
 returns-in_ok-post-in-Ok-clause-acts c =
     let moved = LogRecord.Moves c.args.name.now c.in_ok-id.id c.args.layout in
-    let done : IsDoneAt c.args.self.now.objects c.args.name.now (LocalEvent.BeginMove c.in_ok-id.id c.args.layout ∷ [])
+    let done : IsOutcomeAt c.args.self.now.objects c.args.name.now (LocalEvent.BeginMove c.in_ok-id.id c.args.layout ∷ [])
     c.begin_move.new.self c.in-Ok.letters.items =
-    subst (λ l. IsDoneAt c.args.self.now.objects c.args.name.now (LocalEvent.BeginMove c.in_ok-id.id l ∷ [])
+    subst (λ l. IsOutcomeAt c.args.self.now.objects c.args.name.now (LocalEvent.BeginMove c.in_ok-id.id l ∷ [])
     c.begin_move.new.self c.in-Ok.letters.items) c.in_ok-to.ensures.cases c.in-Ok.ensures.done in
     λ asker. begun_acts asker c.args.self.now _ c.args.work.now c.next_id.new.work c.log_move.new.work c.post.new.work
     c.args.name.now (LocalEvent.BeginMove c.in_ok-id.id c.args.layout) c.in_ok-id.id c.in-Ok.letters.items
@@ -31,7 +31,7 @@ returns-in_ok-post-in-Ok-clause-begins c =
     let id = c.in_ok-id.id in
     call_begun (moving_call c.args.name.now c.args.layout) id c.args.self.now _ c.args.work.now c.next_id.new.work c.log_move.new.work
     c.post.new.work c.in-Ok.letters.items c.in_ok-id.ensures.gives c.in-Ok.ensures.cause
-    (subst (λ l. IsDoneAt c.args.self.now.objects c.args.name.now (LocalEvent.BeginMove id l ∷ []) c.begin_move.new.self
+    (subst (λ l. IsOutcomeAt c.args.self.now.objects c.args.name.now (LocalEvent.BeginMove id l ∷ []) c.begin_move.new.self
     c.in-Ok.letters.items) c.in_ok-to.ensures.cases c.in-Ok.ensures.done) c.in_ok-log_move-in-Ok.ensures.logged
     c.in_ok-post-in-Ok.ensures.grown (c.in_ok-log_move-in-Ok.ensures.writes, tt) c.in_ok-post-in-Ok.ensures.writes refl refl
 
@@ -52,7 +52,7 @@ returns-in_err-post-in-Ok-clause-refused c =
     err_same _ c.from_residual-in_err-post-in-Ok.result error c.from_residual-in_err-post-in-Ok.ensures.1
     (post_not_begun (moving_call c.args.name.now c.args.layout) c.args.self.now c.in_ok-id.id c.in_ok-id.ensures.next
     c.begin_move.new.self c.in-Ok.letters.items
-    (subst (λ l. IsDoneAt c.args.self.now.objects c.args.name.now (LocalEvent.BeginMove c.in_ok-id.id l ∷ []) c.begin_move.new.self
+    (subst (λ l. IsOutcomeAt c.args.self.now.objects c.args.name.now (LocalEvent.BeginMove c.in_ok-id.id l ∷ []) c.begin_move.new.self
     c.in-Ok.letters.items) c.in_ok-to.ensures.cases c.in-Ok.ensures.done) c.next_id.new.ids.node
     (gives_node c.args.self.now.ids c.in_ok-id.id c.next_id.new.ids c.args.work.now c.next_id.new.work c.in_ok-id.ensures.gives)
     error c.in_err-post-in-Ok.ensures.writes)

@@ -3,7 +3,7 @@ use Rattle.deeds.specs.Deeds.{Notice as Seen}
 use Rattle.local_object.specs.Doing.{write_refusal}
 use Rattle.local_object.specs.Events.{LocalEvent}
 use Rattle.node_keeper.specs.Objects.{objects_of}
-use Rattle.node_keeper.specs.Doing.{IsDoneAt}
+use Rattle.node_keeper.specs.Doing.{IsOutcomeAt}
 use Rattle.node_effects.specs.Work.{IsGrown}
 use Rattle.node_effects.specs.declared.notice.Notice.TheVariants as notice
 use Rattle.node_keeper.specs.Beginning.{opened_growth, writing_call}
@@ -19,7 +19,7 @@ returns-in_ok-post-in-Ok-clause-acts c =
     λ asker. begun_acts asker c.args.self.now _ c.args.work.now c.next_id.new.work c.note.new.self c.post.new.work
     c.args.name.now (LocalEvent.BeginWrite c.in_ok-id.id c.args.value) c.in_ok-id.id c.in-Ok.letters.items []
     (notice.Writes c.in_ok-name_seen-in-Ok.name_seen c.in_ok-id.id c.args.value) refl refl c.in_ok-id.ensures.gives
-    (subst (λ v. IsDoneAt c.args.self.now.objects c.args.name.now (LocalEvent.BeginWrite c.in_ok-id.id v ∷ [])
+    (subst (λ v. IsOutcomeAt c.args.self.now.objects c.args.name.now (LocalEvent.BeginWrite c.in_ok-id.id v ∷ [])
     c.begin_write.new.self c.in-Ok.letters.items) c.in_ok-written.ensures.cases c.in-Ok.ensures.done) refl tt
     (ap (λ n. Seen.Writes n c.in_ok-id.id c.args.value ∷ []) c.in_ok-name_seen-in-Ok.ensures.cases) (inl refl)
     (write_logged c.args.self.now c.args.name.now c.in_ok-id.id c.args.value
@@ -38,7 +38,7 @@ returns-in_ok-post-in-Ok-clause-begins c =
     c.post.new.work c.in-Ok.letters.items c.in_ok-id.ensures.gives
     (subst (λ v. write_refusal (objects_of c.args.self.now.objects c.args.name.now) id v ≡ None) c.in_ok-written.ensures.cases
     c.in-Ok.ensures.cause)
-    (subst (λ v. IsDoneAt c.args.self.now.objects c.args.name.now (LocalEvent.BeginWrite id v ∷ []) c.begin_write.new.self
+    (subst (λ v. IsOutcomeAt c.args.self.now.objects c.args.name.now (LocalEvent.BeginWrite id v ∷ []) c.begin_write.new.self
     c.in-Ok.letters.items) c.in_ok-written.ensures.cases c.in-Ok.ensures.done) sees
     c.in_ok-post-in-Ok.ensures.grown tt c.in_ok-post-in-Ok.ensures.writes refl refl
 
@@ -60,7 +60,7 @@ returns-in_err-post-in-Ok-clause-refused c =
     err_same _ c.from_residual-in_err-post-in-Ok.result error c.from_residual-in_err-post-in-Ok.ensures.1
     (post_not_begun (writing_call c.args.name.now c.args.value) c.args.self.now c.in_ok-id.id c.in_ok-id.ensures.next
     c.begin_write.new.self c.in-Ok.letters.items
-    (subst (λ v. IsDoneAt c.args.self.now.objects c.args.name.now (LocalEvent.BeginWrite c.in_ok-id.id v ∷ []) c.begin_write.new.self
+    (subst (λ v. IsOutcomeAt c.args.self.now.objects c.args.name.now (LocalEvent.BeginWrite c.in_ok-id.id v ∷ []) c.begin_write.new.self
     c.in-Ok.letters.items) c.in_ok-written.ensures.cases c.in-Ok.ensures.done) c.next_id.new.ids.node
     (gives_node c.args.self.now.ids c.in_ok-id.id c.next_id.new.ids c.args.work.now c.next_id.new.work c.in_ok-id.ensures.gives)
     error c.in_err-post-in-Ok.ensures.writes)

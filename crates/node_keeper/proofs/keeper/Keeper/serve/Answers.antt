@@ -1,6 +1,6 @@
 use Rattle.std.proofs.Common.{rules, [], option_to_list, refl, subst, ◌∷◌}
 use Rattle.local_object.specs.Doing.{serve_events}
-use Rattle.node_keeper.specs.Doing.{IsDoneAt}
+use Rattle.node_keeper.specs.Doing.{IsOutcomeAt}
 use Rattle.node_keeper.specs.Objects.{objects_of}
 use Rattle.node_effects.specs.Work.{IsGrown, no_growth}
 use Rattle.letter.specs.declared.letter.NamedLetter.{NamedLetter}
@@ -20,9 +20,9 @@ returns-in_ok-send-in-Some-clause-serves c =
     let same = c.in_ok-it.ensures.same in
     let reply = c.in-Some.reply in record {
       replies = reply ∷ [];
-      done = subst (λ o. IsDoneAt old.objects c.args.it.name (serve_events (objects_of old.objects c.args.it.name) c.args.it.letter)
+      done = subst (λ o. IsOutcomeAt old.objects c.args.it.name (serve_events (objects_of old.objects c.args.it.name) c.args.it.letter)
           c.serve.new.self (option_to_list o)) c.in-Some.is
-          (subst (λ (i : NamedLetter). IsDoneAt old.objects i.name (serve_events (objects_of old.objects i.name) i.letter)
+          (subst (λ (i : NamedLetter). IsOutcomeAt old.objects i.name (serve_events (objects_of old.objects i.name) i.letter)
           c.serve.new.self (option_to_list c.in_ok-reply.field-0)) same c.in_ok-reply.ensures.done);
       grown = grown_then c.args.work.now c.log_serve.new.work c.send.new.work _ _ c.in_ok-it.ensures.logged
           (subst (λ (i : NamedLetter). IsGrown c.log_serve.new.work c.send.new.work
@@ -44,9 +44,9 @@ returns-in-None-clause-serves c =
     let old = c.args.self.now in
     let same = c.in_ok-it.ensures.same in record {
       replies = [];
-      done = subst (λ o. IsDoneAt old.objects c.args.it.name (serve_events (objects_of old.objects c.args.it.name) c.args.it.letter)
+      done = subst (λ o. IsOutcomeAt old.objects c.args.it.name (serve_events (objects_of old.objects c.args.it.name) c.args.it.letter)
           c.serve.new.self (option_to_list o)) c.in-None.is
-          (subst (λ (i : NamedLetter). IsDoneAt old.objects i.name (serve_events (objects_of old.objects i.name) i.letter)
+          (subst (λ (i : NamedLetter). IsOutcomeAt old.objects i.name (serve_events (objects_of old.objects i.name) i.letter)
           c.serve.new.self (option_to_list c.in_ok-reply.field-0)) same c.in_ok-reply.ensures.done);
       grown = grown_then c.args.work.now c.log_serve.new.work c.log_serve.new.work _ no_growth c.in_ok-it.ensures.logged
           (grown_none c.log_serve.new.work);
@@ -69,9 +69,9 @@ returns-in_err-send-in-Some-clause-refused c =
     let old = c.args.self.now in
     let same = c.in_ok-it.ensures.same in
     let reply = c.in-Some.reply in
-    let done = subst (λ o. IsDoneAt old.objects c.args.it.name (serve_events (objects_of old.objects c.args.it.name) c.args.it.letter)
+    let done = subst (λ o. IsOutcomeAt old.objects c.args.it.name (serve_events (objects_of old.objects c.args.it.name) c.args.it.letter)
     c.serve.new.self (option_to_list o)) c.in-Some.is
-    (subst (λ (i : NamedLetter). IsDoneAt old.objects i.name (serve_events (objects_of old.objects i.name) i.letter)
+    (subst (λ (i : NamedLetter). IsOutcomeAt old.objects i.name (serve_events (objects_of old.objects i.name) i.letter)
     c.serve.new.self (option_to_list c.in_ok-reply.field-0)) same c.in_ok-reply.ensures.done) in
     err_same _ c.from_residual-in_err-send-in-Some.result c.in_err-send-in-Some.field-0.0 c.from_residual-in_err-send-in-Some.ensures.1
     (serve_unsent c.args.sender c.args.it old c.serve.new.self reply done c.in_err-send-in-Some.field-0.0

@@ -1,5 +1,5 @@
 use Rattle.std.proofs.Common.{option_to_list, refl, subst}
-use Rattle.node_keeper.specs.Doing.{IsTakenAt}
+use Rattle.node_keeper.specs.Doing.{IsReplyOutcomeAt}
 use Rattle.node_effects.specs.Errors.{IsUnwritten}
 use Rattle.node_effects.specs.Work.{IsGrown}
 use Rattle.std.specs.List.{AllByRecursion}
@@ -25,7 +25,7 @@ returns-clause-takes c =
       told,
       record {
         letters = letters;
-        done = subst (λ (i : NamedLetter). IsTakenAt old.objects i.name i.letter c.take.new.self letters (option_to_list ended)) same
+        done = subst (λ (i : NamedLetter). IsReplyOutcomeAt old.objects i.name i.letter c.take.new.self letters (option_to_list ended)) same
             c.in_ok-progress.ensures.done;
         grown = grown_then c.args.work.now c.log_take.new.work c.tell.new.work _ _ c.in_ok-it.ensures.logged
             (grown_then c.log_take.new.work c.post.new.work c.tell.new.work _ _
@@ -63,7 +63,7 @@ returns-in_err-post-clause-refused c =
     let same = c.in_ok-it.ensures.same in
     err_same _ c.from_residual-in_err-post.result error c.from_residual-in_err-post.ensures.1
     (take_unsent c.args.it old c.take.new.self letters (option_to_list ended)
-    (subst (λ (i : NamedLetter). IsTakenAt old.objects i.name i.letter c.take.new.self letters (option_to_list ended)) same
+    (subst (λ (i : NamedLetter). IsReplyOutcomeAt old.objects i.name i.letter c.take.new.self letters (option_to_list ended)) same
     c.in_ok-progress.ensures.done) error
     (subst (λ (i : NamedLetter). IsUnwritten (AllByRecursion (IsSendable n old.digest) (asked n i.name letters)) error) same
     c.in_err-post.ensures.writes))

@@ -1,7 +1,7 @@
 use Rattle.std.proofs.Common.{[]}
 use Rattle.local_object.specs.Doing.{give_up_events}
 use Rattle.node_keeper.specs.Objects.{objects_of}
-use Rattle.node_keeper.proofs.SparedLemmas.{done_same}
+use Rattle.node_keeper.proofs.UnchangedObjectLemmas.{done_same}
 use Rattle.node_keeper.proofs.objects.Objects.give_up.Goals as goal
 
 pub returns-clause-done : goal.returns-clause-done

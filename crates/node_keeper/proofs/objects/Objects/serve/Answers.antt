@@ -1,7 +1,7 @@
 use Rattle.std.proofs.Common.{option_to_list}
 use Rattle.local_object.specs.Doing.{serve_events}
 use Rattle.node_keeper.specs.Objects.{objects_of}
-use Rattle.node_keeper.proofs.SparedLemmas.{done_same}
+use Rattle.node_keeper.proofs.UnchangedObjectLemmas.{done_same}
 use Rattle.node_keeper.proofs.objects.Objects.serve.Goals as goal
 
 pub returns-clause-done : goal.returns-clause-done

@@ -1,5 +1,5 @@
 use Rattle.std.proofs.Common.{option_to_list}
-use Rattle.node_keeper.proofs.SparedLemmas.{taken_same}
+use Rattle.node_keeper.proofs.UnchangedObjectLemmas.{taken_same}
 use Rattle.node_keeper.proofs.objects.Objects.take.Goals as goal
 
 pub returns-clause-done : goal.returns-clause-done

@@ -4,7 +4,7 @@ use Rattle.letter.specs.declared.letter.Letter.{Letter}
 use Rattle.local_object.specs.declared.progress.Ended.{Ended}
 use Rattle.local_object.specs.Events.{LocalEvent}
 use Rattle.local_object.specs.Local.{LocalObject}
-use Rattle.node_keeper.specs.Doing.{IsDoneAt, IsTakenAt}
+use Rattle.node_keeper.specs.Doing.{IsOutcomeAt, IsReplyOutcomeAt}
 use Rattle.node_keeper.specs.Objects.{AreSame, IsChangedAt}
 use Rattle.node_keeper.specs.declared.objects.Objects.{Objects}
 
@@ -19,11 +19,12 @@ module _ (old mid new : Objects) (name : List ℕ) (same : AreSame mid new) wher
     objects = λ other. same.objects other ∙ changed.objects other;
   }
 
-  pub done_same : (events : List LocalEvent) (sent : List Letter) → IsDoneAt old name events mid sent → IsDoneAt old name events new sent
+  pub done_same : (events : List LocalEvent) (sent : List Letter) → IsOutcomeAt old name events mid sent
+      → IsOutcomeAt old name events new sent
   done_same events sent done =
       record { local = done.local; done = done.done; changed = changed_same done.local done.changed }
 
-  pub taken_same : (letter : Letter) (letters : List Letter) (ended : List Ended) → IsTakenAt old name letter mid letters ended →
-      IsTakenAt old name letter new letters ended
+  pub taken_same : (letter : Letter) (letters : List Letter) (ended : List Ended) → IsReplyOutcomeAt old name letter mid letters ended →
+      IsReplyOutcomeAt old name letter new letters ended
   taken_same letter letters ended taken =
       record { local = taken.local; done = taken.done; taken = taken.taken; changed = changed_same taken.local taken.changed }
