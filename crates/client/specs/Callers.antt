@@ -30,7 +30,7 @@ CanBeCoded (round.Encode value k n) = IsCodable k n value
 CanBeCoded (round.Decode pieces k len) = GiveBack k len pieces.items
 CanBeCoded _ = Unit {0}
 
--- this is handed in after a round: the encoded value, or the value of the decoded pieces, or nothing
+-- a thread hands in what the round asked for: the encoded value, the value of the decoded pieces, or nothing
 abbrev pub IsCodedFrom : Round → HandedIn → Type 0
 IsCodedFrom (round.Encode value k n) (hand.Coded coded) = coded ≡ record { k = k; n = n; value = value }
 IsCodedFrom (round.Decode pieces k len) (hand.Decoded decoded) =

@@ -97,7 +97,7 @@ module _ (first : Cluster) (cluster : Cluster) where
       ((r ≡ NoCall) × (has_move cluster m ≡ false))
       ⊎ ((has_move cluster m ≡ true) × IsRefusedIn first m.name m.call cluster r)
 
--- in some state of the store a round is refused so
+-- in some state of a store that was opened with `first`, a round is refused with this refusal, as `refused` says
 abbrev pub IsRefusedThen : {S : Type 0} → (first : Cluster) → (Cluster → S → Refusal → Type 0) → S → Refusal → Type 0
 IsRefusedThen first refused s r = (cluster : Cluster) × (IsStateOf first cluster × refused cluster s r)
 

@@ -8,7 +8,7 @@ use mathlib.Core.Option.{some, some-ne-none, some-injective}
 use lib.ListN.{get_elem?}
 use Rattle.crossbeam_queue.specs.Fifo.{Pushes, Pops, Forks, Merges, Learns}
 use Rattle.coding_pool.specs.declared.jobs.Known.{Known}
-use Rattle.coding_pool.specs.Jobs.{known, PARTS, times, once_below, IsIdle, AreIdle, AreOnce, IsWhole, HasNoMore}
+use Rattle.coding_pool.specs.Jobs.{known, PARTS, times, once_below, IsIdle, AreIdle, HaveEachJobOnce, IsWhole, HasNoMore}
 
 -- the sum after a change of one view
 sum_set : (f : Known → ℕ) (views : List Known) (pass : ℕ) (v w : Known) → get_elem? views pass ≡ some v →
@@ -44,7 +44,7 @@ idle_more (v ∷ vs) w i h = (h.0, idle_more vs w i h.1)
 has_part : (v : Known) → 0 < v.parts → IsIdle v
 has_part v part none = absurd (omega (arith, part, none))
 
--- f is 0 of whoever is idle
+-- f is 0 for each holder that has no part, and so has pushed and popped nothing
 abbrev IsOfParts : (Known → ℕ) → Type 0
 IsOfParts f = (v : Known) → v.parts ≡ 0 → IsIdle v → f v ≡ 0
 
@@ -86,7 +86,7 @@ once_more job n = grind (arith, nat_tests)
 
 -- the next job is pushed by the pass with every part
 pub pushes : (n pass : ℕ) (v : Known) (job : ℕ) → v.parts ≡ PARTS → job ≡ v.pushed →
-    Pushes AreOnce n pass v job (λ w. w ≡ known v.parts (v.pushed + 1) v.popped)
+    Pushes HaveEachJobOnce n pass v job (λ w. w ≡ known v.parts (v.pushed + 1) v.popped)
 pushes n pass v job whole next items views room b at =
     let w = known v.parts (v.pushed + 1) v.popped in
     let alone = sum_alone (λ u. u.pushed) pushed_of_parts views pass v b.idle at (b.parts ∙ sym whole) in
@@ -113,7 +113,7 @@ pushes n pass v job whole next items views room b at =
     )
 
 pub pops : (pass : ℕ) (v : Known) → 0 < v.parts →
-    Pops AreOnce pass v (λ job w. w ≡ known v.parts v.pushed (v.popped ++ job ∷ []))
+    Pops HaveEachJobOnce pass v (λ job w. w ≡ known v.parts v.pushed (v.popped ++ job ∷ []))
 pops pass v part job items views b at =
     let w = known v.parts v.pushed (v.popped ++ job ∷ []) in
     let p = sum_set (λ u. u.pushed) views pass v w at in
@@ -137,7 +137,7 @@ pops pass v part job items views b at =
       refl,
     )
 
-pub forks : (pass : ℕ) (v : Known) → 1 < v.parts → Forks AreOnce pass v (known (v.parts - 1) v.pushed v.popped) (known 1 0 [])
+pub forks : (pass : ℕ) (v : Known) → 1 < v.parts → Forks HaveEachJobOnce pass v (known (v.parts - 1) v.pushed v.popped) (known 1 0 [])
 forks pass v more items views b at =
     let l = known (v.parts - 1) v.pushed v.popped in
     let r = known 1 0 [] in
@@ -166,7 +166,7 @@ forks pass v more items views b at =
     }
 
 pub merges : (pass : ℕ) (v : Known) (other : ℕ) (u : Known) → 0 < v.parts →
-    Merges AreOnce pass v other u (known (v.parts + u.parts) (v.pushed + u.pushed) (v.popped ++ u.popped)) (known 0 0 [])
+    Merges HaveEachJobOnce pass v other u (known (v.parts + u.parts) (v.pushed + u.pushed) (v.popped ++ u.popped)) (known 0 0 [])
 merges pass v other u part items views b at apart there =
     let w = known (v.parts + u.parts) (v.pushed + u.pushed) (v.popped ++ u.popped) in
     let z = known 0 0 [] in
@@ -195,7 +195,7 @@ merges pass v other u part items views b at apart there =
       idle = idle_set vs other z (λ _. (refl, refl)) (idle_set views pass w (has_part w (omega (arith, part))) b.idle);
     }
 
-pub learns_whole : (pass : ℕ) (v : Known) → Learns AreOnce pass v (IsWhole v)
+pub learns_whole : (pass : ℕ) (v : Known) → Learns HaveEachJobOnce pass v (IsWhole v)
 learns_whole pass v items views b at whole job =
     let one = sum_alone (λ u. times job u.popped) (popped_of_parts job) views pass v b.idle at (b.parts ∙ sym whole) in
     let two = sum_alone (λ u. u.pushed) pushed_of_parts views pass v b.idle at (b.parts ∙ sym whole) in
@@ -203,7 +203,7 @@ learns_whole pass v items views b at whole job =
     let e = ap (λ (m : ℕ). once_below m job) two in
     omega (arith, one, q, e)
 
-pub learns_no_more : (pass : ℕ) (v : Known) → Learns AreOnce pass v (HasNoMore v)
+pub learns_no_more : (pass : ℕ) (v : Known) → Learns HaveEachJobOnce pass v (HasNoMore v)
 learns_no_more pass v items views b at whole =
     let two = sum_alone (λ u. u.pushed) pushed_of_parts views pass v b.idle at (b.parts ∙ sym whole) in
     let q = b.count in

@@ -30,7 +30,7 @@ AreIdle [] = Unit {0}
 AreIdle (v ∷ vs) = IsIdle v × AreIdle vs
 
 -- the rule: the jobs in the queue and the popped jobs of all views are the jobs below the number pushed, each once
-pub record AreOnce (items : List ℕ) (views : List Known) : Type 0 where
+pub record HaveEachJobOnce (items : List ℕ) (views : List Known) : Type 0 where
   pub parts : sum_by (λ v. v.parts) views ≡ PARTS
   pub each : (job : ℕ) →
       times job items + sum_by (λ v. times job v.popped) views ≡ once_below (sum_by (λ v. v.pushed) views) job

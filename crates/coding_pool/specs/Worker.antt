@@ -21,7 +21,7 @@ abbrev pub IsEach : ℕ → List Piece → Type 0
 IsEach n pieces = (job : ℕ) → times job (map point_of pieces) ≡ once_below n job
 
 -- the value of the coding job may be encoded: k is at least 1, and the value is within the limit
-pub record IsErrand (errand : CodingJob) : Type 0 where
+pub record IsEncodableJob (errand : CodingJob) : Type 0 where
   pub some : 1 ≤ errand.k
   pub longest : length errand.value.now ≤ LONGEST_VALUE
 
@@ -33,11 +33,11 @@ pub record IsWorker (errand : CodingJob) (w : Worker) : Type 0 where
   pub made : All (λ p. p ≡ piece_at_point errand.value.now errand.k p.point) w.pieces.items
 
 -- a worker of the coding job that has one part, and pushed no job
-pub record IsHand (errand : CodingJob) (w : Worker) : Type 0 where
+pub record IsWorkerWithOnePart (errand : CodingJob) (w : Worker) : Type 0 where
   pub worker : IsWorker errand w
   pub parts : (view w.pass).parts ≡ 1
   pub pushed : (view w.pass).pushed ≡ 0
 
 -- what a thread may hand back: a worker with one part, or NoMemory
 abbrev pub IsHandedBack : CodingJob → Result Worker Refusal → Type 0
-IsHandedBack errand answer = MatchResult answer (IsHand errand) (λ r. r ≡ NoMemory)
+IsHandedBack errand answer = MatchResult answer (IsWorkerWithOnePart errand) (λ r. r ≡ NoMemory)

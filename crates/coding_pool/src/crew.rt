@@ -2,7 +2,7 @@
 ghost use Rattle.std.specs.Prelude.{◌≡◌, ◌+◌, ◌<◌, ◌≤◌, [], All, IfOk, IfErr, vec_capacity, vec_len};
 ghost use Rattle.tag.specs.declared.refusal.Refusal.TheVariants.{NoMemory};
 ghost use Rattle.coding_pool.specs.declared.worker.CodingJob.{CodingJob};
-ghost use Rattle.coding_pool.specs.Worker.{IsHand, IsErrand, IsHandedBack};
+ghost use Rattle.coding_pool.specs.Worker.{IsWorkerWithOnePart, IsEncodableJob, IsHandedBack};
 
 use crate::gate::Gate;
 use crate::worker::{Answer, CodingJob, Worker};
@@ -20,8 +20,8 @@ pub fn work_all<G: Gate, R: Threads + Wait + Sync>(
     gate: &G,
     crew: Vec<Worker>,
 ) -> Result<Vec<Answer>, Refusal>
-    requires errand { IsErrand errand }
-    requires crew { All (λ w. IsHand errand w) crew.items }
+    requires errand { IsEncodableJob errand }
+    requires crew { All (λ w. IsWorkerWithOnePart errand w) crew.items }
     ensures count { IfOk result (λ v. vec_len v ≡ vec_len crew) }
     ensures answers { IfOk result (λ v. All (λ a. IsHandedBack errand.entry a) v.items) }
     ensures refused { IfErr result (λ r. r ≡ NoMemory) }
@@ -37,9 +37,9 @@ pub fn work_all<G: Gate, R: Threads + Wait + Sync>(
         thread::scope_env(),
         rt,
         |scope| -> Result<Vec<Answer>, Refusal>
-            requires errand { IsErrand (record { alloc = alloc; jobs = jobs; k = k; value = value }) }
+            requires errand { IsEncodableJob (record { alloc = alloc; jobs = jobs; k = k; value = value }) }
             requires crew { All
-                (λ w. IsHand (record { alloc = alloc; jobs = jobs; k = k; value = value }) w) crew.items }
+                (λ w. IsWorkerWithOnePart (record { alloc = alloc; jobs = jobs; k = k; value = value }) w) crew.items }
             ensures count { IfOk result (λ v. vec_len v ≡ vec_len crew) }
             ensures answers { IfOk result (λ v. All
                 (λ a. IsHandedBack (record { alloc = alloc; jobs = jobs.entry; k = k; value = value.entry }) a)
@@ -66,8 +66,8 @@ fn work_in<'s, E, G: Gate, R: Threads + Wait + Sync>(
     unstarted: &'s AtomicUsize,
     mut crew: Vec<Worker>,
 ) -> Result<Vec<Answer>, Refusal>
-    requires errand { IsErrand errand }
-    requires crew { All (λ w. IsHand errand w) crew.items }
+    requires errand { IsEncodableJob errand }
+    requires crew { All (λ w. IsWorkerWithOnePart errand w) crew.items }
     ensures count { IfOk result (λ v. vec_len v ≡ vec_len crew) }
     ensures answers { IfOk result (λ v. All (λ a. IsHandedBack errand.entry a) v.items) }
     ensures refused { IfErr result (λ r. r ≡ NoMemory) }
@@ -111,8 +111,8 @@ fn start<'s, E, G: Gate, R: Wait + Sync>(
     place: usize,
     worker: Worker,
 ) -> Result<PromisedHandle<Answer, CodingJob<'s>>, Answer>
-    requires errand { IsErrand errand }
-    requires worker { IsHand errand worker }
+    requires errand { IsEncodableJob errand }
+    requires worker { IsWorkerWithOnePart errand worker }
     ensures started { IfOk result (λ handle. handle.promise ≡ errand.entry) }
     ensures refused { IfErr result (λ answer. IsHandedBack errand.entry answer) }
 {
@@ -123,8 +123,8 @@ fn start<'s, E, G: Gate, R: Wait + Sync>(
         value,
     } = errand;
     let task = move || -> Answer
-        requires errand { IsErrand (record { alloc = alloc; jobs = jobs; k = k; value = value }) }
-        requires worker { IsHand (record { alloc = alloc; jobs = jobs; k = k; value = value }) worker }
+        requires errand { IsEncodableJob (record { alloc = alloc; jobs = jobs; k = k; value = value }) }
+        requires worker { IsWorkerWithOnePart (record { alloc = alloc; jobs = jobs; k = k; value = value }) worker }
         ensures { IsHandedBack (record { alloc = alloc; jobs = jobs.entry; k = k; value = value.entry }) result }
     {
         if unstarted.load(Ordering::SeqCst) == place {

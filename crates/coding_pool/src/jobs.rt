@@ -30,9 +30,9 @@ pub struct Once;
 
 impl Protocol<u8, Known> for Once {
     ghost use Rattle.std.specs.Prelude.{[]};
-    ghost use Rattle.coding_pool.specs.Jobs.{known, AreOnce, PARTS};
+    ghost use Rattle.coding_pool.specs.Jobs.{known, HaveEachJobOnce, PARTS};
 
-    ghost holds = { AreOnce };
+    ghost holds = { HaveEachJobOnce };
 
     ghost first = { known PARTS 0 [] };
 }

@@ -7,7 +7,7 @@ ghost use Rattle.tag.specs.Refusal.{IsByCause};
 ghost use Rattle.encoder.specs.Coded.{IsCodable, ArePieces};
 ghost use Rattle.coding_pool.specs.Jobs.{known, PARTS};
 ghost use Rattle.coding_pool.specs.Pool.{encode_all_cause};
-ghost use Rattle.coding_pool.specs.Worker.{IsWorker, IsHand, IsErrand, IsHandedBack};
+ghost use Rattle.coding_pool.specs.Worker.{IsWorker, IsWorkerWithOnePart, IsEncodableJob, IsHandedBack};
 
 use crate::crew::work_all;
 use crate::gate::{Gate, NoGate};
@@ -100,7 +100,7 @@ fn hire(errand: CodingJob, pass: &mut JobPass, workers: usize) -> Result<Vec<Wor
     ensures view { IfOk result
         (λ _. view pass.new ≡ known (PARTS - workers) (view pass.old).pushed (view pass.old).popped) }
     ensures count { IfOk result (λ crew. vec_len crew ≡ workers) }
-    ensures crew { IfOk result (λ crew. All (λ w. IsHand errand.entry w) crew.items) }
+    ensures crew { IfOk result (λ crew. All (λ w. IsWorkerWithOnePart errand.entry w) crew.items) }
     ensures refused { IfErr result (λ r. r ≡ NoMemory) }
 {
     let mut crew = Vec::with_capacity(errand.alloc, workers)?;

@@ -3,7 +3,7 @@ ghost use Rattle.std.specs.Prelude.{◌≡◌, ◌+◌, ◌<◌, ◌≤◌, [], 
 ghost use Rattle.crossbeam_queue.specs.Passes.{view, IsPassOf};
 ghost use Rattle.tag.specs.declared.refusal.Refusal.TheVariants.{NoMemory};
 ghost use Rattle.coding_pool.specs.Jobs.{PARTS};
-ghost use Rattle.coding_pool.specs.Worker.{IsWorker, IsHand, IsErrand, IsEach};
+ghost use Rattle.coding_pool.specs.Worker.{IsWorker, IsWorkerWithOnePart, IsEncodableJob, IsEach};
 
 use crate::gate::Gate;
 use crate::jobs::{Cut, JobPass, Jobs, Pop};
@@ -61,7 +61,7 @@ impl Worker {
 
     /// Takes jobs until none is left, and makes their pieces. `NoMemory` is the only refusal.
     pub fn work<G: Gate, R: Wait>(mut self, rt: &R, errand: CodingJob, gate: &G) -> Answer
-        requires errand { IsErrand errand }
+        requires errand { IsEncodableJob errand }
         requires worker { IsWorker errand self }
         requires part { 0 < (view self.pass).parts }
         ensures worker { IfOk result (λ w. IsWorker errand.entry w) }
@@ -86,7 +86,7 @@ impl Worker {
     /// Takes over the pass and the pieces of another worker. `NoMemory` is the only refusal.
     pub fn take_over(mut self, errand: CodingJob, other: Worker) -> Answer
         requires worker { IsWorker errand self }
-        requires other { IsHand errand other }
+        requires other { IsWorkerWithOnePart errand other }
         requires part { 0 < (view self.pass).parts }
         ensures worker { IfOk result (λ w. IsWorker errand.entry w) }
         ensures parts { IfOk result (λ w. (view w.pass).parts ≡ (view self.pass).parts + 1) }

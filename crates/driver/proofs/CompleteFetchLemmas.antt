@@ -34,7 +34,7 @@ use Rattle.register.specs.Coding.{piece_by, pieces_below, least_of}
 use Rattle.register.specs.View.{want_at, fetched_pieces, pieces_of}
 use Rattle.driver.proofs.PieceCountLemmas.{count_below}
 use Rattle.driver.proofs.WantLemmas.{place_of_call, wants_at}
-use Rattle.driver.proofs.ReplyPieceLemmas.{Brought, IsOf, all_take, take_length, all_below, first_reply}
+use Rattle.driver.proofs.ReplyPieceLemmas.{Brought, IsPieceOfValueBelow, all_take, take_length, all_below, first_reply}
 use Rattle.driver.proofs.ReplyPieceLemmas.{len_is, brought_of, some_is, piece_there, coded_value, journaled_value, all_weaker}
 use Rattle.driver.proofs.DistinctPointLemmas.{apart_below, apart_take, points_apart}
 
@@ -148,8 +148,9 @@ module _ (object : Object) (last index : ℕ) (call : Call) (sound : IsSound fra
   abbrev pub ps : List Piece
   ps = take layout.k (pieces_below u.phase.replies (length layout.members))
 
-  all_of : AllByRecursion (IsOf value layout.k (length layout.members)) ps
-  all_of = all_take (IsOf value layout.k (length layout.members)) layout.k (pieces_below u.phase.replies (length layout.members))
+  all_of : AllByRecursion (IsPieceOfValueBelow value layout.k (length layout.members)) ps
+  all_of =
+      all_take (IsPieceOfValueBelow value layout.k (length layout.members)) layout.k (pieces_below u.phase.replies (length layout.members))
       (all_below value layout.k u.phase.replies (length layout.members) brought)
 
   pub are_pieces : ArePiecesOf value layout.k ps

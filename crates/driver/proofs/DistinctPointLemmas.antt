@@ -8,9 +8,9 @@ use Rattle.piece.specs.declared.piece.Piece.{Piece}
 use Rattle.decoder.specs.Pieces.{points_of}
 use Rattle.mail.specs.declared.phase.Taken.{Taken}
 use Rattle.register.specs.Coding.{piece_by, piece_list, pieces_below}
-use Rattle.driver.proofs.ReplyPieceLemmas.{Brought, IsOf, by_member, all_both, all_take, all_below}
+use Rattle.driver.proofs.ReplyPieceLemmas.{Brought, IsPieceOfValueBelow, by_member, all_both, all_take, all_below}
 
--- no two points are the same
+-- no two pieces of the list have the same point
 abbrev AreApart : List Piece → Type 0
 AreApart [] = Unit {0}
 AreApart (p ∷ ps) = AllByRecursion (λ q. nat_eq p.point q.point ≡ false) ps × AreApart ps
@@ -26,7 +26,8 @@ no_same a b less = go (nat_eq a b) refl
     go true e = absurd (let same = eqb-true a b e in omega (arith, less, same))
     go false e = e
 
-apart_push : (value : List ℕ) (k n : ℕ) (xs : List Piece) (y : Piece) → AllByRecursion (IsOf value k n) xs → y.point ≡ n → AreApart xs
+apart_push : (value : List ℕ) (k n : ℕ) (xs : List Piece) (y : Piece) → AllByRecursion (IsPieceOfValueBelow value k n) xs → y.point ≡ n
+    → AreApart xs
     → AreApart (xs ++ y ∷ [])
 apart_push value k n [] y below is apart = (tt, tt)
 apart_push value k n (x ∷ xs) y below is apart = (

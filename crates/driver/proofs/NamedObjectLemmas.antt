@@ -57,7 +57,7 @@ named_changed (object ∷ objects) name change state e = go (named_changed objec
     go rest true is = cc (there object.state state (sym (ap (λ b. cond b (Some object.state) (named objects name)) is) ∙ e))
     go rest false is = cc (rest (sym (ap (λ b. cond b (Some object.state) (named objects name)) is) ∙ e))
 
--- the same cause
+-- a result that follows from a cause also follows from each equal cause
 pub by_cause : {T : Type 0} (a b : Option Refusal) (r : Result T Refusal) → a ≡ b → IsByCause a r → IsByCause b r
 by_cause a b (Ok x) e h = sym e ∙ h
 by_cause a b (Err r) e (inl some) = inl (sym e ∙ some)

@@ -24,8 +24,8 @@ abbrev pub Brought : (value : List ℕ) → (k : ℕ) → Taken → Type 0
 Brought value k t = (piece : Piece) → answer_piece t.reply.answer ≡ Some piece → piece ≡ piece_at_point value k t.member
 
 -- a piece is the value's at its point, which is below n
-abbrev pub IsOf : (value : List ℕ) → (k n : ℕ) → Piece → Type 0
-IsOf value k n piece = (piece ≡ piece_at_point value k piece.point) × (piece.point < n)
+abbrev pub IsPieceOfValueBelow : (value : List ℕ) → (k n : ℕ) → Piece → Type 0
+IsPieceOfValueBelow value k n piece = (piece ≡ piece_at_point value k piece.point) × (piece.point < n)
 
 pub by_member : (value : List ℕ) (k : ℕ) (replies : List Taken) (member : ℕ) (piece : Piece) → AllByRecursion (Brought value k) replies
     → piece_by replies member ≡ Some piece
@@ -40,7 +40,8 @@ by_member value k (t ∷ replies) member piece all e = go (by_member value k rep
         ∙ ap (piece_at_point value k) (eqb-true t.member member same)
     go rest false apart = rest (sym (ap (λ b. cond b (answer_piece t.reply.answer) (piece_by replies member)) apart) ∙ e)
 
-is_of : (value : List ℕ) (k member : ℕ) (piece : Piece) → piece ≡ piece_at_point value k member → IsOf value k (suc member) piece
+is_of : (value : List ℕ) (k member : ℕ) (piece : Piece) → piece ≡ piece_at_point value k member
+    → IsPieceOfValueBelow value k (suc member) piece
 is_of value k member piece e =
     let point : piece.point ≡ member = ap (λ (p : Piece). p.point) e in
     (e ∙ ap (piece_at_point value k) (sym point), omega (arith, point))
@@ -53,7 +54,8 @@ pub all_both : (P : Piece → Type 0) (xs ys : List Piece) → AllByRecursion P 
 all_both P [] ys a b = b
 all_both P (x ∷ xs) ys a b = (a.0, all_both P xs ys a.1 b)
 
-all_wider : (value : List ℕ) (k n : ℕ) (xs : List Piece) → AllByRecursion (IsOf value k n) xs → AllByRecursion (IsOf value k (suc n)) xs
+all_wider : (value : List ℕ) (k n : ℕ) (xs : List Piece) → AllByRecursion (IsPieceOfValueBelow value k n) xs
+    → AllByRecursion (IsPieceOfValueBelow value k (suc n)) xs
 all_wider value k n [] all = tt
 all_wider value k n (x ∷ xs) all = ((all.0.0, (let less = all.0.1 in omega (arith, less))), all_wider value k n xs all.1)
 
@@ -67,12 +69,13 @@ take_length (suc k) [] within = absurd (omega (arith, within))
 take_length (suc k) (x ∷ xs) within = ap suc (take_length k xs (omega (arith, within)))
 
 pub all_below : (value : List ℕ) (k : ℕ) (replies : List Taken) (n : ℕ) → AllByRecursion (Brought value k) replies
-    → AllByRecursion (IsOf value k n) (pieces_below replies n)
+    → AllByRecursion (IsPieceOfValueBelow value k n) (pieces_below replies n)
 all_below value k replies zero all = tt
 all_below value k replies (suc n) all =
-    all_both (IsOf value k (suc n)) (pieces_below replies n) (piece_list (piece_by replies n))
+    all_both (IsPieceOfValueBelow value k (suc n)) (pieces_below replies n) (piece_list (piece_by replies n))
     (all_wider value k n (pieces_below replies n) (all_below value k replies n all))
-    (all_listed (IsOf value k (suc n)) (piece_by replies n) (λ piece e. is_of value k n piece (by_member value k replies n piece all e)))
+    (all_listed (IsPieceOfValueBelow value k (suc n)) (piece_by replies n)
+    (λ piece e. is_of value k n piece (by_member value k replies n piece all e)))
 
 -- a member that replied a piece brought it
 pub first_reply : (replies : List Taken) (place : ℕ) (t : Taken) → IsDistinct nat_eq (members_of replies) → slice_get replies place ≡ Some t

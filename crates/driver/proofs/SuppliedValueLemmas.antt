@@ -159,7 +159,7 @@ supply_is object number k n now value e =
         all_three _ _ _ (ap (bytes_eq value) s.value_is ∙ bytes_same value) (eq-eqb k (layout_at object s.position).k (sym s.k_is))
         (eq-eqb n (length (layout_at object s.position).members) (sym s.n_is))
 
--- where there is a value to send, what is refused otherwise is refused so
+-- a refusal to return the value that a call is to send is also the refusal to supply the call with this value
 pub value_refused : (object : Object) (number now : ℕ) (refusal : Refusal) → value_cause object number ≡ Some refusal
     → supplying_cause now object number ≡ Some refusal
 value_refused object number now refusal = go (call_at object number)

@@ -1,4 +1,4 @@
 pub mod FollowsLemmas
 pub mod FreeClientLemmas
 pub mod ListLemmas
-pub mod TextLemmas
+pub mod FlattenedPairLemmas

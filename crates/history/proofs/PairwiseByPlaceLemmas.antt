@@ -46,7 +46,7 @@ named_all entries [] P all place h = absurd (omega arith)
 named_all entries (x ∷ xs) P all zero h = all.0
 named_all entries (x ∷ xs) P all (suc place) h = named_all entries xs P all.1 place (omega arith)
 
--- none of two comes behind one that was called after its answer
+-- at places below `bound`, no call was answered before a call at an earlier place was called
 abbrev pub KeepsPlaces : List Entry → List ℕ → (bound : ℕ) → Type 0
 KeepsPlaces entries order bound = (earlier later : ℕ) → earlier < later → later < bound →
     IsAnsweredBefore (at entries order later) (at entries order earlier) → ⊥

@@ -41,7 +41,7 @@ wrong_read op value current bytes rest eo ev ne s =
     let t : Steps operation.Read (Some bytes) current rest = rw (eo, ev) at s in
     let e : bytes ≡ current = cc (t.1.0) in ne e
 
--- a call that stays a step carries what is to be shown of the whole list past it
+-- if a call is a step of the register, the whole list follows the register exactly if the calls after this one do
 pub passes_on : (entries : List Entry) (order : List ℕ) (index : ℕ) (entry : Entry) (current next : List ℕ) →
     index < length order → entry ≡ at entries order index →
     IsRegister [] (entries_listed entries order) ↔ IsRegister current (entries_listed entries (drop index order)) →
@@ -56,7 +56,7 @@ passes_on entries order index entry current next h is whole step =
           whole.1 (subst (λ (es : List Entry). IsRegister current es) (sym cut) (step.1 r))),
     )
 
--- a call that is no step ends it
+-- if a call is no step of the register, the whole list does not follow the register
 pub stops : (entries : List Entry) (order : List ℕ) (index : ℕ) (entry : Entry) (current : List ℕ) → index < length order →
     entry ≡ at entries order index →
     IsRegister [] (entries_listed entries order) ↔ IsRegister current (entries_listed entries (drop index order)) →

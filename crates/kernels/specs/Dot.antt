@@ -27,7 +27,7 @@ AreDots out coefficients rows sources size until =
     (r b : ℕ) → r < rows → b < until
     → slice_index out (r * size + b) ≡ dot_byte (row coefficients rows r) sources b
 
--- the same for the bytes that `out` has
+-- up to byte `until` each row of `out` has its sums, except for bytes past the end of `out`
 abbrev pub AreDotsWithin : List ℕ → List ℕ → ℕ → List (List ℕ) → ℕ → ℕ → Type 0
 AreDotsWithin out coefficients rows sources size until =
     (r b : ℕ) → r < rows → b < until → r * size + b < length out

@@ -5,8 +5,8 @@ use std::alloc::{AllocError, Global};
 use std::marker::Model;
 use std::sync::Arc;
 
-/// A layout that several letters and positions own together. A letter goes through many hands, and a shared layout is
-/// eight bytes long where a `Layout` has more than 256.
+/// A layout that several letters and positions own together. A letter is moved by many functions, and a shared layout
+/// is eight bytes long where a `Layout` has more than 256.
 #[derive(Debug, Drop)]
 pub struct SharedLayout {
     shared: Arc<Layout>,

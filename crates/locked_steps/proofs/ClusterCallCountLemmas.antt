@@ -20,7 +20,7 @@ use Rattle.locked_steps.proofs.ObjectCallCountLemmas.{begins, count_stepped}
 abbrev count_of : State → ℕ
 count_of state = client_count state.object.calls
 
--- a step of an object that is there
+-- a step of an existing object adds to the count the read or write that it begins, if it begins one
 pub calls_stepped : (cluster : Cluster) (name : List ℕ) (step : Step) (old : State) → named cluster.objects name ≡ Some old
     → client_calls (of.with_step cluster name step) ≡ client_calls cluster + begins step
 calls_stepped cluster name step old at =
@@ -69,7 +69,7 @@ sum_kept name change (o ∷ os) same = pick (bytes_eq name o.name) (sum_kept nam
     pick true rest = let one = same o.state in omega (arith, one)
     pick false rest = omega (arith, rest)
 
--- a step that begins neither a read nor a write
+-- a step that begins neither a read nor a write leaves the count as it is
 pub calls_kept : (cluster : Cluster) (name : List ℕ) (step : Step) → begins step ≡ 0
     → client_calls (of.with_step cluster name step) ≡ client_calls cluster
 calls_kept cluster name step none =
@@ -103,6 +103,6 @@ sum_most [] = omega arith
 sum_most (o ∷ os) =
     omega (arith, sum_most os, count_most o.state.object.calls)
 
--- where there is no call there is no read or write
+-- if no object has a call, no object has a read or a write
 pub none_called : (cluster : Cluster) → calls cluster.objects ≡ 0 → client_calls cluster ≡ 0
 none_called cluster none = let most = sum_most cluster.objects in omega (arith, most, none)

@@ -30,7 +30,7 @@ pub fn stir_in<L: StoreName, C: Chooser>(
     stir(&mut booked.cluster, name, chooser)
 }
 
-// The step alone, of the cluster without its book.
+// Handles a message in the cluster alone, without the book of its calls.
 fn stir<C: Chooser>(cluster: &mut Cluster, name: &str, chooser: &mut C) -> Result<bool, Refusal>
     ensures step { IfOk result (λ b. Stirs C.chooses name.entry.now cluster.old chooser.old b cluster.new chooser.new) }
     ensures refused { IfErr result (λ e. StirsNot C.chooses name.entry.now cluster.old chooser.old chooser.new e) }
@@ -67,7 +67,7 @@ pub fn disturb_in<L: StoreName, C: Chooser>(
     disturb(&mut booked.cluster, name, chooser)
 }
 
-// The step alone, of the cluster without its book.
+// Loses or repeats a message in the cluster alone, without the book of its calls.
 fn disturb<C: Chooser>(cluster: &mut Cluster, name: &str, chooser: &mut C) -> Result<bool, Refusal>
     ensures step { IfOk result
         (λ b. Disturbs C.chooses name.entry.now cluster.old chooser.old b cluster.new chooser.new) }

@@ -38,7 +38,7 @@ pub fn retire_in<L: StoreName>(
     Ok(freed)
 }
 
-// The step alone, of the cluster without its book.
+// Makes the step in the cluster alone, without the book of its calls and without the administrator.
 fn retire(cluster: &mut Cluster, name: &str, position: u64) -> Result<u64, Refusal>
     ensures step { OnOk result (cluster.new ≡ retired cluster.old name.entry.now) }
     ensures freed { IfOk result (λ bytes. stored_all cluster.new + bytes ≡ stored_all cluster.old) }

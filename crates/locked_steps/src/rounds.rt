@@ -156,7 +156,7 @@ fn past_calls(cluster: &Cluster, name: &str)
     }
 }
 
-// The same for a call that wants to be answered. For any other call it looks up nothing and states nothing.
+// Calls `past_calls` for a call that wants to be answered. For any other call it looks up nothing and states nothing.
 fn past_calls_at_end(cluster: &Cluster, name: &str, due: Want)
     ensures { due ≡ want.Answer → (state : State) → named cluster.now.objects name.now ≡ Some state
         → AllByRecursion (λ call. call.called ≤ cluster.now.counter) state.object.calls }

@@ -14,7 +14,7 @@ use Rattle.player.specs.Shown.{line_of}
 use Rattle.player.specs.Play.{Prints, IsPlayed, IsBad, Plays, IsBadAt, Changes}
 use Rattle.words.specs.Written.{Written}
 
--- a text that is so is also so in another way
+-- a result about a printed text stays true if what it says of the text and of a bad line is replaced by weaker facts
 pub prints_more : (old new : Written) (Is More : List ℕ → Type 0) (Bad Worse : Type 0) (r : Result Unit Stop)
     → ((text : List ℕ) → Is text → More text) → (Bad → Worse) → Prints old new Is Bad r → Prints old new More Worse r
 prints_more old new Is More Bad Worse (Ok x) more worse printed = (printed.0, more printed.0 printed.1, printed.2)

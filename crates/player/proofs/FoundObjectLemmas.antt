@@ -1,4 +1,4 @@
--- What is read of an object that is there.
+-- A sound object has no bank of a member whose number is MOST_MEMBERS or greater.
 use Rattle.std.proofs.Common.{◌≡◌, ◌⊎◌, ℕ, ◌<◌, ◌≤◌, zero, suc, List, [], ◌∷◌, get_or, length}
 use Rattle.std.proofs.Common.{Some, None, refl, ap, inl, inr, arith}
 use Rattle.std.specs.Prelude.{slice_get}

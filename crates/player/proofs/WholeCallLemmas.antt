@@ -1,4 +1,4 @@
--- A whole call comes to what is told of it.
+-- What the driver says of a whole call gives what the player says of the command that makes it.
 use Rattle.std.proofs.Common.{◌≡◌, ℕ, List, subst, Option, Result, Ok, Err, sym, refl, inl, inr}
 use Rattle.tag.specs.declared.refusal.Refusal.{Refusal}
 use Rattle.call.specs.declared.receipt.Receipt.{Receipt}

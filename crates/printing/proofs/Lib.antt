@@ -1,1 +1,1 @@
-pub mod TextLemmas
+pub mod FlattenedListLemmas

@@ -6,7 +6,7 @@ use Rattle.record.specs.declared.stage.Stage.TheVariants.{ReadBegin, ReadNext}
 use Rattle.record.specs.PhaseOrder.{begun_at, due}
 use Rattle.record.specs.Journals.{stage_tag}
 
--- what is so of the first reading, where it is one, and of the stage else
+-- what holds of a stage, and of the first reading that begins if the stage is ReadBegin, holds once the phase has begun
 pub begun_has : (P : Stage → Type 0) (stage : Stage) (position : ℕ) → (stage ≡ ReadBegin → P (ReadNext position position)) →
     P stage → P (begun_at stage position)
 begun_has P stage position first has = grind arith
@@ -15,7 +15,7 @@ begun_has P stage position first has = grind arith
 pub begun_tag : (stage : Stage) (position : ℕ) → stage_tag (begun_at stage position) ≡ stage_tag stage
 begun_tag stage position = grind arith
 
--- nor ends a call
+-- if no phase is due once the phase has begun, none was due before
 pub begun_none : (stage : Stage) (position : ℕ) → due (begun_at stage position) ≡ None → due stage ≡ None
 begun_none stage position e = grind arith
 

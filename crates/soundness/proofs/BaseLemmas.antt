@@ -45,7 +45,7 @@ base_same (x ∷ xs) (y ∷ ys) step same =
     ap (λ b. cond b (suc (base_by xs step)) 0) (same 0)
     ∙ ap (λ n. cond (came_by (get_or y 0 no_bank).retired step) (suc n) 0) (base_same xs ys step (λ j. same (suc j)))
 
--- and so is the base
+-- two lists of banks whose positions were retired at the same steps have the same base
 pub first_same : (xs ys : List (List Bank)) → ((j : ℕ) → RetiredOf xs j ≡ RetiredOf ys j) → retired_first xs ≡ retired_first ys
 first_same [] [] same = refl
 first_same [] (y ∷ ys) same = ap (λ (o : Option ℕ). cond (is_some o) (suc (retired_first ys)) 0) (same 0)

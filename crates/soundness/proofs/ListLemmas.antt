@@ -64,7 +64,7 @@ pub all_pairs : {A : Type 0} (P Q : A → Type 0) (xs : List A) → AllByRecursi
 all_pairs P Q [] p q = tt
 all_pairs P Q (x ∷ xs) p q = ((p.0, q.0), all_pairs P Q xs p.1 q.1)
 
--- the same, where the properties are found from the first argument
+-- if P of an element gives Q of it, then P of all elements gives Q of all; P and Q are found from the first argument
 pub all_map : {A : Type 0} {P Q : A → Type 0} → ((x : A) → P x → Q x) → (xs : List A) → AllByRecursion P xs → AllByRecursion Q xs
 all_map f [] all = tt
 all_map f (x ∷ xs) all = (f x all.0, all_map f xs all.1)
@@ -75,7 +75,7 @@ pub all_both : {A : Type 0} {P Q R : A → Type 0} → ((x : A) → P x → Q x 
 all_both f [] p q = tt
 all_both f (x ∷ xs) p q = (f x p.0 q.0, all_both f xs p.1 q.1)
 
--- what is so at each index is so of each
+-- a property of the element at each index holds of all elements
 pub all_at : {A : Type 0} {P : A → Type 0} (xs : List A) → ((i : ℕ) (x : A) → slice_get xs i ≡ Some x → P x) → AllByRecursion P xs
 all_at [] f = tt
 all_at (x ∷ xs) f = (f 0 x refl, all_at xs (λ i y e. f (suc i) y e))

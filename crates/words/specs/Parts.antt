@@ -2,7 +2,7 @@
 -- What is read, part by part.
 use Rattle.std.specs.Prelude.{◌≡◌, Result, Ok, Err}
 
--- one part after another, up to the first fault
+-- the result of a first reading is given to the next one; a fault of the first is the fault of both
 abbrev pub and_then : {E A B : Type 0} → Result A E → (A → Result B E) → Result B E
 and_then (Ok x) next = next x
 and_then (Err fault) next = Err fault

@@ -17,7 +17,7 @@ use Rattle.atomicity.proofs.Sequences.ItemEntryLemmas.{some_step}
 use Rattle.atomicity.proofs.Sequences.ObjectItemLemmas.{IsItem}
 use Rattle.atomicity.proofs.Sequences.TaggedCallLemmas.{Found, found}
 
--- what is so of each number in a list is so all through it
+-- a property of each number that is in a list holds of all elements of the list
 pub all_of_has : (P : ℕ → Type 0) (xs : List ℕ) → ((n : ℕ) → has xs n ≡ true → P n) → AllByRecursion P xs
 all_of_has P [] f = tt
 all_of_has P (x ∷ xs) f =

@@ -31,7 +31,7 @@ pub record AtPhase (object : Object) (kind : CallKind) (from number called : ℕ
 abbrev pub LeftBefore : Object → (position step : ℕ) → Type 0
 LeftBefore object position step = (j : ℕ) → j < position → IsLeft object j step
 
--- at each step those before the base were
+-- at each step, the positions before the base of that step were left by the step
 abbrev pub Rests : Object → (ℕ → ℕ) → Type 0
 Rests object base = (step : ℕ) → LeftBefore object (base step) step
 

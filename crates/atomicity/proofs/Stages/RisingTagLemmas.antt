@@ -89,7 +89,7 @@ left_moved object legal position step left =
           (subst (λ p. Stored object (suc p) fin.0 end.now) moved.source fin.2);
     }
 
--- and so it had a pointer at a quorum
+-- a position that was left by a step had a pointer at a quorum by then
 left_pointed : (object : Object) → IsLegal object → (position step : ℕ) → IsLeft object position step →
     Pointed object position step
 left_pointed object legal position step left =

@@ -88,7 +88,7 @@ pub record Carried (object : Object) (called position : ℕ) (tag : Tag) : Type 
   pub pointed : Pointed object position asked
   pub answers : (other : Tag) → Stored object position other asked → IsAtMost other tag
 
--- a call's tag was at a quorum of its last position before that one had a pointer
+-- at some step up to `now` the tag was finalized at a quorum of the position `last`, and no quorum there had a pointer
 pub record Put (object : Object) (now last : ℕ) (tag : Tag) : Type 0 where
   pub at : ℕ
   pub until : at ≤ now

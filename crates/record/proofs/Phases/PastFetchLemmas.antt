@@ -70,7 +70,7 @@ IsOfWrite _ = Unit {0}
 pub late_of_write : (stage : Stage) → IsOfWrite stage → (tag : Tag) → stage_tag stage ≡ Some tag → IsLateWith tag stage
 late_of_write stage of tag e = grind arith
 
--- a call that is a write comes to no other stage by a phase
+-- from a stage that a write may come to, a phase of a write leads to such a stage
 pub of_write_past : (value : List ℕ) (kind : CallKind) → kind ≡ Write value → (number : ℕ) (stage : Stage) (phase : Phase) →
     IsOfWrite stage → IsOfWrite (stage_past kind number stage phase)
 of_write_past value kind k number stage phase of = grind arith

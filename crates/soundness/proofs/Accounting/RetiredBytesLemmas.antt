@@ -37,7 +37,7 @@ dropped_all test all (e ∷ es) =
     let first : cond (test e.0) (entry_bytes e) 0 ≡ entry_bytes e = ap (λ b. cond b (entry_bytes e) 0) (all e.0) in
     omega (arith, sum_by-cons (λ (e : Tag × Row). cond (test e.0) (entry_bytes e) 0) e es, sum_by-cons entry_bytes e es)
 
--- it stores nothing
+-- a bank stores no bytes once it is retired and has dropped its pieces
 pub retired_bytes : (bank : Bank) (now : ℕ) → bank_bytes (retired_bank bank now) ≡ 0
 retired_bytes bank now =
     let whole = collected_bytes (retiring bank now) in
@@ -45,7 +45,7 @@ retired_bytes bank now =
     dropped_all (is_dropped (retiring bank now)) (drops_each bank now) (map.entries bank.rows) in
     omega arith
 
--- nor do those of its position
+-- a server stores nothing at a position whose banks are all retired
 pub position-retired : (server : ℕ) (members : List ℕ) (banks : List Bank) (now : ℕ) →
     position_bytes server members (map (λ bank. retired_bank bank now) banks) ≡ 0
 position-retired server (member ∷ members) (bank ∷ banks) now =

@@ -72,7 +72,7 @@ pub banks_grow : (now : ℕ) (object : Object) (mail : List Message) (banks : Li
     Grows now object (record object { mail = mail; banks = banks })
 banks_grow now object mail banks grow = grind (arith, base_same, comes_past, le_refl, unchanged)
 
--- What is so of a record is so of one to which it grew
+-- Facts of a record that also hold of each record to which it grew
 module _ {now : ℕ} {old new : Object} (grows : Grows now old new) where
   pub begun_grows : (kind : Kind) (position step : ℕ) → HasBegun old kind position step → HasBegun new kind position step
   begun_grows kind position step b =

@@ -58,7 +58,7 @@ pub shown_known : (fragment : Code) (object : Object) (position member : ℕ) (k
     Known object (shown_tag answer)
 shown_known fragment object position member kind answer coded = grind arith
 
--- tags that were found, and the opening tag, are P; the tag that a call takes of them is Q
+-- P holds of the opening tag and of each tag that a call finds, and Q holds of the tag that the call takes from these
 module _ (P Q : Tag → Type 0) (opening : P opening_tag) (more : (t : Tag) → P t → Q t) (kind : CallKind) (number : ℕ)
     (takes : (q l : ℕ) (t : Tag) → P t → TagsAre P Q (tagged kind number q l t)) where
   tags_past : (stage : Stage) (phase : Phase) → P (greatest_tag phase.replies) → TagsAre P Q stage →

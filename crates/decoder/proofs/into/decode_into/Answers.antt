@@ -14,7 +14,7 @@ on_err : {T E : Type 0} (r : Result T E) (A B : Type 0) → OnErr r A → (A →
 on_err (Ok x) A B a f = tt
 on_err (Err e) A B a f = f a
 
--- what is never refused is an answer
+-- a result that cannot be a refusal is an answer, and what follows from an answer holds
 ok_and : {T E : Type 0} (r : Result T E) (A B : Type 0) → OnOk r A → OnErr r ⊥ → (A → B) → IsOk r × B
 ok_and (Ok x) A B a none f = (refl, f a)
 ok_and (Err e) A B a none f = absurd none

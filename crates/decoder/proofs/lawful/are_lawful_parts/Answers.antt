@@ -44,7 +44,7 @@ returns-clause-lawful c =
       λ parts. c.are_distinct.ensures.distinct.1 (distinct_points k len points (bytes_of fragments) parts),
     )
 
--- what holds, holds where a test is true
+-- a fact that holds in any case also holds if the test is true
 on_true : (b : Bool) (A : Type 0) → A → OnTrue b A
 on_true true A a = a
 on_true false A a = tt

@@ -1,7 +1,7 @@
 use Rattle.std.proofs.Common.{◌<◌, ◌∷◌, [], List, length, sym, ap₂, arith}
 use Rattle.exports.specs.declared.event.Event.{Event}
 use Rattle.exports.specs.Event.{ends_of}
-use Rattle.exports.proofs.TextLemmas.{both_more, flat_map-zip_all}
+use Rattle.exports.proofs.FlattenedPairLemmas.{both_more, flat_map-zip_all}
 use Rattle.exports.proofs.event.both_ends.Goals as goal
 
 pub loop-index-preserved : goal.loop-index-preserved

@@ -2,7 +2,7 @@ use Rattle.std.proofs.Common.{◌≡◌, ◌<◌, List, length, get_or, sym, sub
 use Rattle.std.proofs.Output.{has_written_append, has_written_of_eq}
 use Rattle.exports.specs.declared.lane.Lane.{Lane}
 use Rattle.exports.specs.CallLanes.{lane_text}
-use Rattle.printing.proofs.TextLemmas.{flat_map-take_item}
+use Rattle.printing.proofs.FlattenedListLemmas.{flat_map-take_item}
 use Rattle.exports.proofs.call_lanes.CallLanesDisplay.fmt.Goals as goal
 
 pub loop-lane-preserved : goal.loop-lane-preserved

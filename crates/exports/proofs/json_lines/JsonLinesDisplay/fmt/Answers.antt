@@ -1,7 +1,7 @@
 use Rattle.std.proofs.Common.{[], rules, sym, arith}
 use Rattle.std.proofs.Output.{has_written_append, has_written_of_eq}
 use Rattle.exports.specs.Json.{json_line}
-use Rattle.printing.proofs.TextLemmas.{flat_map-numbered_all, flat_map-numbered_item}
+use Rattle.printing.proofs.FlattenedListLemmas.{flat_map-numbered_all, flat_map-numbered_item}
 use Rattle.exports.proofs.json_lines.JsonLinesDisplay.fmt.Goals as goal
 
 pub loop-index-preserved : goal.loop-index-preserved

@@ -6,7 +6,7 @@ use Rattle.bank.specs.Pointer.{status_of}
 use Rattle.printing.specs.BankLine.{kept_text}
 use Rattle.printing.specs.Vocabulary.{word_of_status}
 use Rattle.printing.specs.Words.{in_words}
-use Rattle.printing.proofs.TextLemmas.{flat_map-all, flat_map-take_at}
+use Rattle.printing.proofs.FlattenedListLemmas.{flat_map-all, flat_map-take_at}
 use Rattle.printing.proofs.bank_line.BankLineDisplay.fmt.Goals as goal
 
 pub loop-i-preserved : goal.loop-i-preserved

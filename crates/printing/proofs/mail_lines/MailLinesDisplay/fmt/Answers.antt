@@ -3,7 +3,7 @@ use Rattle.std.proofs.Output.{has_written_append, has_written_of_eq}
 use Rattle.std.specs.Fmt.{HasWritten, decimal}
 use Rattle.printing.specs.MailLines.{message_line}
 use Rattle.printing.specs.Words.{in_words}
-use Rattle.printing.proofs.TextLemmas.{flat_map-numbered_all, flat_map-numbered_at}
+use Rattle.printing.proofs.FlattenedListLemmas.{flat_map-numbered_all, flat_map-numbered_at}
 use Rattle.printing.proofs.mail_lines.MailLinesDisplay.fmt.Goals as goal
 
 pub loop-place-preserved : goal.loop-place-preserved

@@ -3,7 +3,7 @@ use Rattle.std.proofs.Output.{has_written_append, has_written_of_eq}
 use Rattle.std.specs.Fmt.{HasWritten, decimal}
 use Rattle.std.proofs.lemmas.Grind.{common_steps}
 use Rattle.printing.specs.SequenceLine.{sequence_text}
-use Rattle.printing.proofs.TextLemmas.{flat_map-all, join_with_byte-flat_map}
+use Rattle.printing.proofs.FlattenedListLemmas.{flat_map-all, join_with_byte-flat_map}
 use Rattle.printing.proofs.sequence_line.SequenceLineDisplay.fmt.Goals as goal
 
 pub returns-clause-writes : goal.returns-clause-writes

@@ -6,7 +6,7 @@ use Rattle.record.specs.declared.call.Entry.{Entry}
 use Rattle.trace.specs.declared.cost.Cost.{Cost}
 use Rattle.trace.specs.Cost.{plus}
 use Rattle.trace.specs.CostLines.{cost_line, line_text, total_of, total_text}
-use Rattle.printing.proofs.TextLemmas.{flat_map-take_item}
+use Rattle.printing.proofs.FlattenedListLemmas.{flat_map-take_item}
 use Rattle.trace.proofs.CostSumLemmas.{total_of-take_item}
 use Rattle.trace.proofs.cost_lines.CostLinesDisplay.fmt.Goals as goal
 

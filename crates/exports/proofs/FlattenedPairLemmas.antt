@@ -4,7 +4,7 @@ use Rattle.std.proofs.Common.{get_or, sym, ap, ◌∙◌, append_assoc, arith}
 use Rattle.std.specs.List.{flat_map, zip}
 use Rattle.std.proofs.lemmas.List.{take_all}
 use Rattle.std.proofs.lemmas.Slice.Zip.{get_or-zip, length-zip}
-use Rattle.printing.proofs.TextLemmas.{flat_map-take_more}
+use Rattle.printing.proofs.FlattenedListLemmas.{flat_map-take_more}
 
 -- the first pairs and one more
 pub flat_map-zip_more : {A B Y : Type 0} (f : A × B → List Y) (xs : List A) (ys : List B) (i : ℕ) (d : A × B)
