@@ -34,7 +34,8 @@ has_next_tag kind _ replies = true
 abbrev pub can_reach : OpenCall → Bool
 can_reach call = is_below_limit (due call.stage) && has_next_tag call.kind call.stage call.phase.replies
 
--- whether this holds, and the position of the phase that is then due has such a successor too
+-- whether `can_reach` holds, and the phase due at the reached stage, if any, has a position with a successor of 32
+-- bits
 abbrev pub is_within_limits : OpenCall → Bool
 is_within_limits call = can_reach call && is_below_limit (due (reached call))
 
@@ -43,7 +44,7 @@ pub record CanReach (call : OpenCall) : Type 0 where
   pub room : IsBelowLimit call.stage
   pub tags : HasNextTag call.kind call.stage call.phase.replies
 
--- this holds, and the position of the phase that is then due has such a successor too
+-- `CanReach` holds, and the phase due at the reached stage, if any, has a position with a successor of 32 bits
 pub record IsWithinLimits (call : OpenCall) : Type 0 where
   pub stage : CanReach call
   pub due : IsBelowLimit (reached call)

@@ -2,14 +2,17 @@
 
 ghost use Rattle.std.specs.Prelude.{◌≡◌, ℕ, List, length, IfOk, IfErr, option_copied, None};
 ghost use Rattle.tag.specs.declared.refusal.Refusal.TheVariants.{NoMemory};
-ghost use Rattle.piece.specs.declared.piece.Piece.{Piece};
+ghost use Rattle.piece.specs.declared.piece.Piece.{Piece as Fragment};
+ghost use Rattle.bank.specs.Bank.{empty_piece};
 ghost use Rattle.mail.specs.declared.message.Body.TheVariants as body;
 ghost use Rattle.record.specs.Sending.{request_to, requests};
 ghost use Rattle.call.specs.Pieces.{piece_from, HavePieces, HavePieceOf};
 
 use bank::{Kind, Request};
+use bytes::Bytes;
 use encoder::Coded;
 use mail::{Ask, Body, Message};
+use piece::Piece;
 use std::alloc::Global;
 use tag::Refusal;
 
@@ -60,7 +63,7 @@ fn requests_with_pieces(
 // The requests of a phase that sends no pieces. Each is built in its place in the list.
 fn plain_requests(alloc: Global, ask: Ask, members: u8) -> Result<Vec<Message>, Refusal>
     requires { HavePieceOf ask.kind 0 None }
-    ensures requests { (servers : List ℕ) (piece : ℕ → Piece) → length servers ≡ members
+    ensures requests { (servers : List ℕ) (piece : ℕ → Fragment) → length servers ≡ members
         → IfOk result (λ ms. ms.items ≡ requests ask.call ask.number ask.kind ask.position servers 0 piece) }
 
     ensures refused { IfErr result (λ e. e ≡ NoMemory) }
@@ -72,7 +75,7 @@ fn plain_requests(alloc: Global, ask: Ask, members: u8) -> Result<Vec<Message>, 
             phase: ask.number,
             position: ask.position,
             member,
-            body: Body::Request(plain_request(ask.kind)),
+            body: Body::Request(plain_request(ask.kind, member)),
         });
     }
     Ok(messages)
@@ -109,25 +112,31 @@ fn request_of(kind: Kind, member: u8, coded: Option<&Coded>) -> Result<Request, 
     ensures request { IfOk result (λ q. q ≡ request_to kind (piece_from (option_copied coded.entry) member)) }
     ensures refused { IfErr result (λ e. e ≡ NoMemory) }
 {
-    match kind {
-        Kind::PreWrite(tag) => match coded {
-            Some(coded) => Ok(Request::PreWrite(tag, coded.piece_at(member).clone()?)),
-            None => unreachable!(),
-        },
-        _ => Ok(plain_request(kind)),
+    match (kind, coded) {
+        (Kind::PreWrite(tag), Some(coded)) => Ok(Request::PreWrite(
+            tag,
+            coded.piece_at(member).clone()?,
+        )),
+        _ => Ok(plain_request(kind, member)),
     }
 }
 
-// The request that a phase of this kind sends to each member, where it sends no piece.
-fn plain_request(kind: Kind) -> Request
-    requires { HavePieceOf kind 0 None }
-    ensures { (piece : Piece) → result ≡ request_to kind piece }
+// The request that a phase of this kind sends to a member, with the piece of the empty value if it sends a piece.
+fn plain_request(kind: Kind, member: u8) -> Request
+    ensures { result ≡ request_to kind (empty_piece member) }
 {
     match kind {
         Kind::Next => Request::Next,
         Kind::Spread(status) => Request::Spread(status),
         Kind::Query => Request::Query,
-        Kind::PreWrite(_) => unreachable!(),
+        Kind::PreWrite(tag) => Request::PreWrite(
+            tag,
+            Piece {
+                point: member,
+                len: 0,
+                bytes: Bytes::new(),
+            },
+        ),
         Kind::Finalize(tag) => Request::Finalize(tag),
         Kind::Fetch(tag) => Request::Fetch(tag),
     }

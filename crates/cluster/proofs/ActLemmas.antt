@@ -1,5 +1,5 @@
 -- An act of the object that a look-up found: what the cluster keeps, and by what it is refused.
-use Rattle.std.proofs.Common.{◌≡◌, ℕ, suc, pred, ◌+◌, ◌≤◌, Bool, true, false, List}
+use Rattle.std.proofs.Common.{◌≡◌, ℕ, pred, ◌+◌, ◌≤◌, Bool, true, false, List}
 use Rattle.std.proofs.Common.{length, Option, Some, None, Result, Ok, Err, IsErrAnd, inl, refl, sym, subst, arith}
 use Rattle.std.proofs.lemmas.Result.{err_from_is_err_and}
 use Rattle.tag.specs.declared.limits.TheConstants.{MOST_STEPS}
@@ -9,14 +9,12 @@ use Rattle.layout.specs.Layout.{Layout}
 use Rattle.record.specs.Accounts as of
 use Rattle.record.specs.Records.{Object}
 use Rattle.record.specs.Steps.{Step}
-use Rattle.register.specs.Act.{IsActCause, IsCausedBy, act_cause, answered_by, step_of, takes_memory}
+use Rattle.register.specs.Act.{IsActCause, IsCausedBy, act_cause, step_of, takes_memory}
 use Rattle.register.specs.State.{State, made, next_id}
 use Rattle.register.specs.declared.act.Act.{Act}
 use Rattle.register.specs.declared.act.Act.TheVariants as act
-use Rattle.register.specs.declared.act.Answered.{Answered}
-use Rattle.register.specs.declared.act.Answered.TheVariants as answered
 use Rattle.cluster.specs.Acts.{ServersAllow, begun_by}
-use Rattle.cluster.specs.Cluster.{Cluster, if_some}
+use Rattle.cluster.specs.Cluster.{Cluster}
 use Rattle.cluster.specs.Kept.{IsKeptCluster}
 use Rattle.cluster.proofs.LookupLemmas.{Entry, IsAt}
 use Rattle.cluster.proofs.ObjectStepLemmas.{cluster_of, call_at, move_at, quiet_at}
@@ -37,7 +35,7 @@ ok_by : {T : Type 0} {cause : Option Refusal} (answer : T) (memory : Bool) → c
 ok_by answer true none = none
 ok_by answer false none = none
 
--- an act that was made, whatever else its result says
+-- if the cause of an act allows that the act succeeds with one result, it allows success with any other result
 pub act_ok : {T U : Type 0} (cause : Option Refusal) (answer : T) (other : U) (a : Act) → IsActCause a cause (Ok answer)
     → IsActCause a cause (Ok other)
 act_ok cause answer other a by = ok_by other (takes_memory a) (act_none answer a by)
@@ -66,23 +64,6 @@ act_some T a some = some_by T (takes_memory a) some
 pub act_by : {T : Type 0} {cause own : Option Refusal} (answer : Result T Refusal) (a : Act) → cause ≡ own → IsActCause a own answer
     → IsActCause a cause answer
 act_by answer a same by = subst (λ c. IsActCause a c answer) (sym same) by
-
--- an act that begins a call returns the call's number
-begun_number : (a : Act) (place now : ℕ) (object : Object) → begun_by a ≡ 1
-    → answered_by a place now object ≡ Some (answered.Call (suc (length object.calls)))
-begun_number act.CallRead place now object begins = refl
-begun_number (act.CallWrite v) place now object begins = refl
-begun_number (act.CallMove l) place now object begins = refl
-begun_number _ place now object begins = absurd (cc)
-
-pub begun_call : (a : Act) (place now : ℕ) (found : Option State) (x : Answered) → begun_by a ≡ 1
-    → if_some found (answered_by a place now) ≡ Some x
-    → (n : ℕ) × ((x ≡ answered.Call n) × (if_some found (λ object. Some (suc (length object.calls))) ≡ Some n))
-begun_call a place now None x begins is = absurd (cc)
-begun_call a place now (Some s) x begins is =
-    let number = begun_number a place now s.object begins in
-    let call : x ≡ answered.Call (suc (length s.object.calls)) = cc in
-    (suc (length s.object.calls), (call, refl))
 
 -- no server stores more, or less
 pub no_more : (servers number : ℕ) (object : Object) (a : Act) → ServersAllow servers a → (server : ℕ) →

@@ -24,7 +24,7 @@ pub none_at : (now : Cluster) (name : List ℕ) (cause : Object → Option Refus
     → object_cause now name cause ≡ Some NoObject
 none_at now name cause none = ap (λ o. if_object o cause) none
 
--- what an answer says, where it says something else
+-- if a fact holds of an answer, so does each fact that follows from it
 pub if_ok : {T E : Type 0} {P Q : T → Type 0} (answer : Result T E) → ((x : T) → P x → Q x) → IfOk answer P → IfOk answer Q
 if_ok (Ok x) change says = change x says
 if_ok (Err e) change says = says

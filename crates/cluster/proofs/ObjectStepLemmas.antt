@@ -114,7 +114,7 @@ module _ {servers : List Bool} {layouts : List Layout} {counter : ℕ} {entries 
       next_call_id now name ≡ next_id old.object
   next_id_at same at = ap (λ (k : Cluster). next_call_id k name) (sym same) ∙ ap next_id_in (named_at at)
 
-  -- a cause that does not know the step, and one that does
+  -- the cause that is read from the object that was found; the second lemma is for causes that depend on the step
   pub own_cause_at : {now : Cluster} → cluster_of servers layouts entries counter ≡ now → IsAt entries name place old →
       (cause : Object → Option Refusal) → object_cause now name cause ≡ cause old.object
   own_cause_at same at cause = ap (λ (k : Cluster). object_cause k name cause) (sym same) ∙ ap (λ o. if_object o cause) (named_at at)

@@ -20,7 +20,7 @@ use Rattle.cluster.specs.Accounts.{banks_all}
 use Rattle.cluster.specs.Causes.{next, message_cause, serving_cause, can_handle, place_cause, handled_at}
 use Rattle.cluster.specs.Cluster.{Cluster, is_reached}
 use Rattle.cluster.specs.Kept.{IsKeptCluster}
-use Rattle.cluster.specs.Serving.{IsOf}
+use Rattle.cluster.specs.Serving.{HasServersAndCounts}
 use Rattle.cluster.proofs.StepLimitLemmas.{past_step}
 
 -- the request that is served, within the limit of steps and with room beside all that is stored
@@ -79,12 +79,13 @@ own_none {cluster} {place} {object} room now few part =
     ∙ step_within now _ few
     ∙ ap (λ b. unless b Full None) (is_le (all_bytes object.banks + request_bytes room.asked) MOST_BYTES within)
 
--- a cluster is of what it keeps
-pub own_of : {cluster : Cluster} {bytes count : ℕ} → IsKeptCluster cluster bytes count → IsOf cluster cluster.servers cluster.counter bytes
+-- a cluster that keeps its invariant has its own servers and counter, and as many bytes in its banks as it counts
+pub own_of : {cluster : Cluster} {bytes count : ℕ} → IsKeptCluster cluster bytes count →
+    HasServersAndCounts cluster cluster.servers cluster.counter bytes
 own_of kept = record { servers = refl; counter = refl; bytes = sym kept.stored }
 
 pub is_of : {cluster now : Cluster} {bytes count : ℕ} → IsKeptCluster cluster bytes count → cluster ≡ now →
-    IsOf now cluster.servers cluster.counter bytes
+    HasServersAndCounts now cluster.servers cluster.counter bytes
 is_of kept same = record {
   servers = ap (λ (k : Cluster). k.servers) (sym same);
   counter = ap (λ (k : Cluster). k.counter) (sym same);

@@ -18,7 +18,7 @@ sum_none : (from count : ℕ) → member_sum (λ s. 0) from count ≡ 0
 sum_none from zero = refl
 sum_none from (suc count) = let rest = sum_none (suc from) count in omega (arith, rest)
 
--- the same, server by server
+-- functions that have the same value at each server have the same sum over the servers
 pub sum_same : (f g : ℕ → ℕ) (from count : ℕ) → ((s : ℕ) → f s ≡ g s) →
     member_sum f from count ≡ member_sum g from count
 sum_same f g from zero same = refl
@@ -70,7 +70,7 @@ position_total servers (m ∷ members) (b ∷ banks) below same =
     omega (arith, rest, one, both, sum_by-cons bank_bytes b banks)
 position_total servers _ _ below same = absurd (omega (arith, same))
 
--- of one object
+-- over all servers, the stored bytes of one object are the bytes of its banks
 pub object_total : (servers : ℕ) (layouts : List Layout) (banks : List (List Bank)) →
     AllByRecursion (HasMembersBelow servers) layouts → AreBanked layouts banks →
     member_sum (λ s. stored_bytes s layouts banks) 0 servers ≡ all_bytes banks
@@ -82,7 +82,7 @@ object_total servers (l ∷ layouts) (b ∷ banks) below banked =
     omega (arith, rest, one, both, sum_by-cons banks_bytes b banks)
 object_total servers _ _ below banked = absurd banked
 
--- of all objects
+-- over all servers, the stored bytes of all objects are the bytes of all their banks
 pub objects_total : (servers counter : ℕ) (objects : List Named) → AllByRecursion (IsPlaced servers counter) objects
     → member_sum (λ s. object_sum (λ o. of.stored o.state.object s) objects) 0 servers ≡ banks_all objects
 objects_total servers counter [] placed = sum_none 0 servers

@@ -21,13 +21,13 @@ use Rattle.register.proofs.ListLemmas.{length_map, length_push}
 use Rattle.register.proofs.OpenedObjectLemmas.{opened_banks_bytes, bytes_push}
 use Rattle.cluster.specs.Kept.{AreBanked}
 
--- the same layouts and banks, and as many calls
+-- `later` has the layouts and the banks of `object`, and as many calls
 pub record IsQuiet (object later : Object) : Type 0 where
   pub layouts : later.layouts ≡ object.layouts
   pub banks : later.banks ≡ object.banks
   pub calls : length later.calls ≡ length object.calls
 
--- the same layouts and banks, and one more call
+-- `later` has the layouts and the banks of `object`, and one more call
 pub record IsCalled (object later : Object) : Type 0 where
   pub layouts : later.layouts ≡ object.layouts
   pub banks : later.banks ≡ object.banks
@@ -40,7 +40,7 @@ pub record IsMoved (object : Object) (layout : Layout) (later : Object) : Type 0
   pub banked : AreBanked object.layouts object.banks → AreBanked later.layouts later.banks
   pub calls : length later.calls ≡ suc (length object.calls)
 
--- the same layouts, and as many calls
+-- `later` has the layouts of `object` and as many calls; if each layout had a bank for each member, it still does
 pub record IsServed (object later : Object) : Type 0 where
   pub layouts : later.layouts ≡ object.layouts
   pub banked : AreBanked object.layouts object.banks → AreBanked later.layouts later.banks

@@ -38,7 +38,7 @@ past_step now later none = go (nat_le now MOST_STEPS) refl none
     go true e none = grind (arith, nat_tests, e)
     go false e none = absurd (cc)
 
--- what follows where a call, or a message, is there
+-- if nothing is refused, there is a call (or a message) whose own cause refuses nothing, and what follows from that
 past_call : {P : Type 0} (found : Option Call) (cause : Call → Option Refusal) → ((call : Call) → cause call ≡ None → P) →
     if_call found cause ≡ None → P
 past_call None cause use_it none = absurd (cc)

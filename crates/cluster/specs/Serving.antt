@@ -7,7 +7,7 @@ use Rattle.cluster.specs.Cluster.{Cluster}
 use Rattle.cluster.specs.Accounts.{banks_all}
 
 -- the cluster has these servers, this number of its last step, and this many bytes in all banks
-pub record IsOf (cluster : Cluster) (up : List Bool) (last stored : ℕ) : Type 0 where
+pub record HasServersAndCounts (cluster : Cluster) (up : List Bool) (last stored : ℕ) : Type 0 where
   pub servers : cluster.servers ≡ up
   pub counter : cluster.counter ≡ last
   pub bytes : banks_all cluster.objects ≡ stored

@@ -32,6 +32,7 @@ use Rattle.register.proofs.BeginPhaseLemmas.{IsBeginning}
 use Rattle.register.proofs.ChangedCallLemmas.{below_limit, due_below, requests_plain, with_due, with_due_is}
 use Rattle.register.proofs.FirstReadingLemmas.{begun_below}
 use Rattle.register.proofs.FoundCallLemmas.{IsFound, IsWanting, at, at_number, at_place, place, same, below_due, due_kept, caused}
+use Rattle.register.proofs.FoundCallLemmas.{wants_now}
 use Rattle.register.proofs.RoomLemmas.{step_past}
 use Rattle.register.proofs.SentPieceLemmas.{layout_read}
 use Rattle.register.proofs.StepInvariantLemmas.{base_within, due_now, few_positions}
@@ -154,9 +155,20 @@ module _ {c : Contents} {number index : ℕ} {t : Tracked} {w : Want} (anew : Bo
   plain = plain_due anew (state_of c).object wanted.found.kept.sound.legal (pred number) t.call both
 
   -- so a phase is due
-  pub some_due : due (begun_at t.stage c.base) ≡ None → ⊥
+  some_due : due (begun_at t.stage c.base) ≡ None → ⊥
   some_due none =
       absurd (let clash : Some (plain.kind, plain.position) ≡ None = sym plain.is_due ∙ sym (due_kept wanted.found) ∙ none in cc)
+
+-- where no phase is due the call wants none
+pub due_nothing : {c : Contents} {number index : ℕ} {t : Tracked} (anew : Bool) → IsFound c number index t → (now : ℕ)
+    → due (begun_at t.stage c.base) ≡ None → due_cause anew now (state_of c).object number ≡ Some NotNow
+due_nothing {c = c} {number = number} {t = t} anew f now none =
+    go (wants_due anew (want_of (state_of c).object (pred number) t.call)) refl
+  where
+    go : (b : Bool) → wants_due anew (want_of (state_of c).object (pred number) t.call) ≡ b
+        → due_cause anew now (state_of c).object number ≡ Some NotNow
+    go true is = absurd (some_due anew (wants_now f) is none)
+    go false is = due_refused anew (wants_now f) now is
 
 -- where this phase is due
 module _ {c : Contents} {number index : ℕ} {t : Tracked} {w : Want} (anew : Bool) (wanted : IsWanting c number index t w)

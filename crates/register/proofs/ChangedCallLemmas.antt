@@ -161,7 +161,7 @@ room_there count most later none = go (nat_lt count most) refl none
     go true e none = grind (arith, nat_tests, e)
     go false e none = absurd (cc)
 
--- requests are by how many servers there are
+-- the requests of a phase depend on how many servers there are, and not on which ones
 pub requests_length : (call phase : ℕ) (kind : Kind) (position : ℕ) (a b : List ℕ) (member : ℕ) (piece : ℕ → Piece) → length a ≡ length b →
     requests call phase kind position a member piece ≡ requests call phase kind position b member piece
 requests_length call phase kind position [] [] member piece e = refl

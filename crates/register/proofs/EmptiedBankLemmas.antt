@@ -7,11 +7,11 @@ use Rattle.bank.specs.Bytes.{bank_bytes}
 use Rattle.register.specs.Position.{banks_bytes}
 use Rattle.register.proofs.ListLemmas.{same_some}
 
--- the first banks once they have, and the others
+-- the first `count` banks, each changed by f, and the other banks as they were
 abbrev pub dropped_so_far : (Bank → Bank) → List Bank → (count : ℕ) → List Bank
 dropped_so_far f banks count = map f (take count banks) ++ drop count banks
 
--- the next one is still as it was
+-- the bank at place i is still as it was when f has changed the first i banks
 pub next_is : (f : Bank → Bank) (banks : List Bank) (i : ℕ) (other : Bank)
     → get_or (dropped_so_far f banks i) i other ≡ get_or banks i other
 next_is f (bank ∷ banks) (suc i) other = next_is f banks i other
@@ -34,7 +34,7 @@ next_freed (first ∷ banks) (suc i) bank at =
     let rest = next_freed banks i bank at in
     omega (arith, rest, sum_by-cons bank_bytes first (take (suc i) banks), sum_by-cons bank_bytes first (take i banks))
 
--- in all no more than all of them store
+-- the first i banks store no more bytes than all banks
 pub first_least : (banks : List Bank) (i : ℕ) → banks_bytes (take i banks) ≤ banks_bytes banks
 first_least (first ∷ banks) (suc i) =
     let rest = first_least banks i in
@@ -42,7 +42,7 @@ first_least (first ∷ banks) (suc i) =
 first_least [] (suc i) = omega arith
 first_least _ _ = omega arith
 
--- and at the end all have
+-- f has changed all banks if it has changed as many as there are
 pub all_dropped : (f : Bank → Bank) (banks : List Bank) → dropped_so_far f banks (length banks) ≡ map f banks
 all_dropped f [] = refl
 all_dropped f (first ∷ banks) = ap (λ bs. f first ∷ bs) (all_dropped f banks)

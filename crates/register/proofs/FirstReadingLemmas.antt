@@ -20,13 +20,13 @@ use Rattle.call.specs.StageLimits.{IsBelowLimit}
 use Rattle.register.specs.Coding.{pieces_position}
 use Rattle.register.proofs.ListLemmas.{same_some}
 
--- what is wanted is the same wherever it will begin
+-- what a call wants does not depend on the position at which its first reading begins
 pub begun_want : (object : Object) (stage : Stage) (position : ℕ) (settled : Option (List ℕ)) (phase : Option Phase)
     → want_after object (due stage) settled phase ≡ want_after object (due (begun_at stage position)) settled phase
 begun_want object ReadBegin position settled None = refl
 begun_want object _ position settled _ = refl
 
--- and so is where pieces are to go, since it sends none
+-- the position to which a call sends pieces does not depend on where its first reading begins, which sends none
 pub begun_pieces : (object : Object) (answered : Bool) (stage : Stage) (position : ℕ) (settled : Option (List ℕ)) (phase : Option Phase)
     → pieces_position (cond answered want.Done (want_after object (due stage) settled phase)) (due stage) phase
     ≡ pieces_position (cond answered want.Done (want_after object (due (begun_at stage position)) settled phase))

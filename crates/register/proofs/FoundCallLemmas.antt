@@ -1,10 +1,10 @@
 -- A call of a register, found by its number.
-use Rattle.std.proofs.Common.{◌≡◌, ℕ, suc, pred, ◌<◌, ◌≤◌, List, [], ◌∷◌, length, get_or, slice_get, Option, Some}
+use Rattle.std.proofs.Common.{◌≡◌, ℕ, suc, pred, ◌<◌, ◌≤◌, List, [], length, get_or, slice_get, Option, Some}
 use Rattle.std.proofs.Common.{None, option_map, IfSome, sym, ap, subst, ◌∙◌, refl}
 use Rattle.std.proofs.lemmas.Option.{slice_get_read, same_Some, slice_get_within}
 use Rattle.mail.specs.Phase.{Phase}
 use Rattle.record.specs.PhaseOrder.{begun_at, due}
-use Rattle.record.specs.Legal.{due_of, stage_of, BeginsAt}
+use Rattle.record.specs.Legal.{due_of, stage_of}
 use Rattle.record.specs.Wants.{current_phase, want_of}
 use Rattle.record.specs.declared.stage.Want.{Want}
 use Rattle.record.specs.declared.stage.Want.TheVariants as want
@@ -60,19 +60,6 @@ module _ {c : Contents} {number index : ℕ} {t : Tracked} (found : IsFound c nu
   pub below : HasPositionsBelow (length c.positions) t
   below = is_below c found.kept index t found.there
 
-  -- it has begun
-  pub begun : current_phase t.call.phases ≡ None → ⊥
-  begun none = go t.call.phases none (found.kept.sound.legal.calls index t.call at).begins
-    where
-      go : (phases : List Phase) → current_phase phases ≡ None → BeginsAt phases t.call.called → ⊥
-      go [] e begins = begins
-      go (p ∷ []) e begins = absurd (cc)
-      go (p ∷ q ∷ ps) e begins = last q ps e
-        where
-          last : (q : Phase) (ps : List Phase) → current_phase (q ∷ ps) ≡ None → ⊥
-          last q [] e = absurd (cc)
-          last q (r ∷ rs) e = last r rs e
-
   -- whatever is read again at its place is the call
   pub same : {old : Tracked} → old ≡ get_or c.calls index old → t ≡ old
   same {old = old} read =
@@ -110,7 +97,7 @@ pub wanting : {c : Contents} {number index : ℕ} {t : Tracked} {positions : Lis
     → v ≡ tracked_want (object_of None positions [] []) t → positions ≡ c.positions → v ≡ w → IsWanting c number index t w
 wanting found is same matched = record { found = found; wants = wanted found is same ∙ matched }
 
--- the call was read, and wants what it wants
+-- a call that was read wants what `want_of` computes for it
 pub wants_now : {c : Contents} {number index : ℕ} {t : Tracked} (f : IsFound c number index t)
     → IsWanting c number index t (want_of (state_of c).object (pred number) t.call)
 wants_now f = record { found = f; wants = refl }
@@ -167,6 +154,6 @@ not_settle want.Again later no_settle no_again = absurd (no_again refl)
 not_settle (want.Settle k len) later no_settle no_again = absurd (no_settle k len refl)
 not_settle _ later no_settle no_again = refl
 
--- what comes after what a caller sees comes after what is kept
+-- a step later than the last one that a caller sees is later than the last one that is kept
 pub later : (c : Contents) {s : State} {now : ℕ} → state_of c ≡ s → s.last < now → c.last < now
 later c {now = now} view after = subst (λ (s : State). s.last < now) (sym view) after

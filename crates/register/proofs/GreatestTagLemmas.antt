@@ -93,7 +93,7 @@ passed_up_to : (n : ℕ) (kind : CallKind) (number : ℕ) (stage : Stage) (end :
 passed_up_to n kind number stage None replies lacks shown so_far = so_far
 passed_up_to n kind number stage (Some end) replies lacks shown so_far = after_up_to n kind number stage replies lacks shown so_far
 
--- nor does a first reading that begins
+-- a stage whose phase begins has found no greater tag than before
 pub begun_up_to : (n : ℕ) (stage : Stage) (position : ℕ) → FoundUpTo n stage → FoundUpTo n (begun_at stage position)
 begun_up_to n (QueryFrom p l t q) position so_far = so_far
 begun_up_to n _ position so_far = tt

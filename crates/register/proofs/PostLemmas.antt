@@ -1,5 +1,5 @@
 -- The current phase of a call that sends no pieces asks again.
-use Rattle.std.proofs.Common.{◌≡◌, ℕ, pred, ◌<◌, Bool, true, false, List, ◌++◌, get_or, Option, Some, None, refl, sym}
+use Rattle.std.proofs.Common.{◌≡◌, ℕ, pred, ◌<◌, Bool, true, false, not, List, ◌++◌, get_or, Option, Some, None, refl, sym}
 use Rattle.std.proofs.Common.{subst, ap, ◌∙◌}
 use Rattle.tag.specs.declared.limits.TheConstants.{MOST_STEPS}
 use Rattle.tag.specs.declared.refusal.Refusal.{Refusal}
@@ -57,30 +57,26 @@ module _ {c : Contents} {number index : ℕ} {t : Tracked} {w : Want} (wanted : 
   post_refused other = cc (post_by (current_phase t.call.phases) refl, not_replies w other)
 
 -- where the call wants replies, and its current phase is known
-module _ {c : Contents} {number index : ℕ} {t : Tracked}
-    (wanted : IsWanting c number index t want.Replies) {current : Option Phase} {plain : Bool}
-    (is : current_phase t.call.phases ≡ current) (tested : plain ≡ is_plain current) where
+module _ {c : Contents} {number index : ℕ} {t : Tracked} (wanted : IsWanting c number index t want.Replies) {p : Phase} {sends : Bool}
+    (there : current_phase t.call.phases ≡ Some p) (tested : sends ≡ is_pre_write p.kind) where
   abbrev object : Object
   object = (state_of c).object
 
-  pub post_pieces : (now : ℕ) → plain ≡ false → post_cause now (state_of c).object number ≡ Some NotNow
-  post_pieces now sends = post_by wanted now current is ∙ ap (for_room wanted now) (sym tested ∙ sends)
+  post_with : (now : ℕ) (b : Bool) → sends ≡ b → post_cause now (state_of c).object number ≡ for_room wanted now (not b)
+  post_with now b is = post_by wanted now (Some p) there ∙ ap (λ b. for_room wanted now (not b)) (sym tested ∙ is)
 
-  module _ (sends_none : plain ≡ true) where
-    chosen : (p : Phase) × (current ≡ Some p) × (is_pre_write p.kind ≡ false)
-    chosen = plain_phase current (sym tested ∙ sends_none)
+  pub post_pieces : (now : ℕ) → sends ≡ true → post_cause now (state_of c).object number ≡ Some NotNow
+  post_pieces now pre = post_with now true pre
 
-    abbrev p : Phase
-    p = chosen.0
-
-    there : current_phase t.call.phases ≡ Some p
-    there = is ∙ chosen.1
+  module _ (sends_none : sends ≡ false) where
+    plain : is_pre_write p.kind ≡ false
+    plain = sym tested ∙ sends_none
 
     abbrev servers : List ℕ
     servers = (layout_at object p.position).members
 
     goes_on : (now : ℕ) → post_cause now (state_of c).object number ≡ for_room wanted now true
-    goes_on now = post_by wanted now current is ∙ ap (for_room wanted now) (sym tested ∙ sends_none)
+    goes_on now = post_with now false sends_none
 
     -- past the limit of steps
     pub post_past : (now : ℕ) → MOST_STEPS < now → post_cause now (state_of c).object number ≡ Some Full
@@ -96,7 +92,7 @@ module _ {c : Contents} {number index : ℕ} {t : Tracked}
         ∙ ap (λ q. steps.asked_again fragment object t.call q) there
         ∙ ap (λ rs. object_of c.delta c.positions (c.mail ++ missing c.mail (members_of p.replies) rs) c.calls)
         (requests_plain p.call p.number p.kind p.position servers 0 (sent_pieces fragment object t.call p.position) (piece_from None)
-        (no_pre p.kind chosen.2)
+        (no_pre p.kind plain)
         ∙ ap (λ n. requests n p.number p.kind p.position servers 0 (piece_from None)) (phase_call f there)))
 
     asks : IsAsking c number index t (Step.Post (pred number)) (λ now. post_cause now object number) None
@@ -106,13 +102,13 @@ module _ {c : Contents} {number index : ℕ} {t : Tracked}
         call = t.call;
         phase = p;
         waiting = record { wants = (at_place wanted.found, wanted.wants); current = there };
-        plain = λ pre. no_pre p.kind chosen.2 pre.0 pre.1;
+        plain = λ pre. no_pre p.kind plain pre.0 pre.1;
       };
       phase = p;
       current = there;
       servers = servers;
       members = phase_members wanted.found there;
-      sends = no_coded p.kind p.members chosen.2;
+      sends = no_coded p.kind p.members plain;
       makes = post_is;
       causes = goes_on;
     }

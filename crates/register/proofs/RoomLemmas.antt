@@ -76,7 +76,7 @@ pub for_memory : {T : Type 0} (cause : Option Refusal) (r : Result T Refusal) �
 for_memory cause (Ok x) none refused = absurd refused
 for_memory cause (Err e) none refused = inr (none, refused)
 
--- the same where a refusal is handed on
+-- if there is no cause of refusal, a result that hands on a refusal for want of memory follows from the cause
 pub handed_on : {T : Type 0} (cause : Option Refusal) (r : Result T Refusal) (refusal : Refusal) → cause ≡ None
     → IsErrAnd r (λ e. e ≡ refusal) → refusal ≡ NoMemory → IsByCause cause r
 handed_on cause (Ok x) refusal none refused is = absurd refused
@@ -88,7 +88,7 @@ pub same_cause : {T : Type 0} (cause : Option Refusal) (r : Result T Refusal) (r
 same_cause cause (Ok x) refusal refused by = absurd refused
 same_cause cause (Err e) refusal refused by = subst (λ (e : Refusal). IsRefusalBy cause e) (sym refused) by
 
--- the same cause, said otherwise
+-- a refusal by a cause is a refusal by each equal cause
 pub by_cause : {a b : Option Refusal} {r : Refusal} → a ≡ b → IsRefusalBy b r
     → IsRefusalBy a r
 by_cause {r = r} e by = subst (λ (cause : Option Refusal). IsRefusalBy cause r) (sym e) by

@@ -138,3 +138,12 @@ module _ {c : Contents} {number index : ℕ} {t : Tracked} {position : ℕ} (s :
       → layout_at object position ≡ layout
       → coding_at object number ≡ Some (value, layout.k, length layout.members)
   coding_is {value = value} sent layout_is = cc (at_number s.found, s.due, or_empty (sent_value t.call.kind t.call.settled) value sent)
+
+-- a call with no value to send sends no pieces
+pub none_sent : {c : Contents} {number index : ℕ} {t : Tracked} → IsFound c number index t
+    → None ≡ sent_value t.call.kind t.call.settled → IsSendingTo c number index t None
+none_sent {c = c} {number = number} {index = index} {t = t} f none = go (pieces_due (state_of c).object (pred number) t.call) refl
+  where
+    go : (to : Option ℕ) → pieces_due (state_of c).object (pred number) t.call ≡ to → IsSendingTo c number index t None
+    go None is = record { found = f; due = is }
+    go (Some position) is = absurd (sent_value_there (record { found = f; due = is }) none)

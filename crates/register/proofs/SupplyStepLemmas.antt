@@ -17,7 +17,6 @@ use Rattle.record.specs.Records.{Object, layout_at}
 use Rattle.record.specs.Steps.{Step, stepped}
 use Rattle.record.specs.Sending.{sent_pieces}
 use Rattle.record.specs.Wants.{current_phase}
-use Rattle.record.specs.declared.stage.Stage.{Stage}
 use Rattle.record.specs.declared.stage.Want.TheVariants as want
 use Rattle.soundness.proofs.Sound.WantPreconditionLemmas.{waiting_of, supply_ready}
 use Rattle.register.specs.Causes.{supply_cause, new_phase_cause, is_replied, if_step}
@@ -72,7 +71,7 @@ module _ {c : Contents} {number index : ℕ} {t : Tracked} {coded : Coding} {pos
       begun_due t.stage c.base (λ p e. not_first sends.tag sends.position p (sym sends.is_due ∙ sym (due_kept found) ∙ e)) ∙ due_kept found
 
   -- and there is one
-  pub some_due : is_replied (current_phase t.call.phases) ≡ true → due t.stage ≡ None → ⊥
+  some_due : is_replied (current_phase t.call.phases) ≡ true → due t.stage ≡ None → ⊥
   some_due replied none =
       let wants = wants_pieces replied in
       let sends = (supply_ready object (pred number) t.call wants.0 wants.1 wants.2.1).1 in
@@ -157,24 +156,31 @@ module _ {c : Contents} {number index : ℕ} {t : Tracked} {coded : Coding} {pos
           (if_step now (mail_cause (stepped fragment (Step.Supply (pred number)) now object).mail))) lacks;
     }
 
-  module _ {phase : Option Phase} {replied : Bool} {old : Tracked} (current_is : phase ≡ current_phase t.call.phases)
-      (tested : replied ≡ is_replied phase)
-      (read : old ≡ get_or c.calls index old) where
-    -- what was read of the call, at its second reading
-    pub beginning : {stage : Stage} {next : Option (Kind × ℕ)} {kind : Kind} {target : ℕ} → replied ≡ true → stage ≡ t.stage
-        → next ≡ due stage
-        → next ≡ Some (kind, target)
+  -- what was read of the call, at its second reading
+  module _ {next : Option (Kind × ℕ)} {old : Tracked}
+      (told : next ≡ cond (is_replied (current_phase t.call.phases)) (due t.stage) None) (read : old ≡ get_or c.calls index old) where
+    pub beginning : {kind : Kind} {target : ℕ} → next ≡ Some (kind, target)
         → IsBeginning c number index old (Step.Supply (pred number)) (λ now. supply_cause now object number coded)
         (Some coded) kind target layout
-    beginning {kind = kind} {target = target} passed stage_is next_is is =
+    beginning {kind = kind} {target = target} is =
         subst (λ (u : Tracked). IsBeginning c number index u (Step.Supply (pred number)) (λ now. supply_cause now object number coded)
         (Some coded) kind target layout)
-        (same found read)
-        (begins (ap is_replied (sym current_is) ∙ sym tested ∙ passed) (ap due (sym stage_is) ∙ sym next_is ∙ is))
+        (same found read) (go (is_replied (current_phase t.call.phases)) refl (sym told ∙ is))
+      where
+        go : (b : Bool) → is_replied (current_phase t.call.phases) ≡ b → cond b (due t.stage) None ≡ Some (kind, target)
+            → IsBeginning c number index t (Step.Supply (pred number)) (λ now. supply_cause now object number coded)
+            (Some coded) kind target layout
+        go true replied e = begins replied e
+        go false lacks e = absurd (cc)
 
-    pub asking : replied ≡ false → IsAsking c number index old (Step.Supply (pred number)) (λ now. supply_cause now object number coded)
+    pub asking : next ≡ None → IsAsking c number index old (Step.Supply (pred number)) (λ now. supply_cause now object number coded)
         (Some coded)
-    asking failed =
+    asking none =
         subst (λ (u : Tracked). IsAsking c number index u (Step.Supply (pred number)) (λ now. supply_cause now object number coded)
         (Some coded))
-        (same found read) (asks (ap is_replied (sym current_is) ∙ sym tested ∙ failed))
+        (same found read) (go (is_replied (current_phase t.call.phases)) refl (sym told ∙ none))
+      where
+        go : (b : Bool) → is_replied (current_phase t.call.phases) ≡ b → cond b (due t.stage) None ≡ None
+            → IsAsking c number index t (Step.Supply (pred number)) (λ now. supply_cause now object number coded) (Some coded)
+        go true replied e = absurd (some_due replied e)
+        go false lacks e = asks lacks

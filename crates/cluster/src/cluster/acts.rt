@@ -1,39 +1,21 @@
 //! Any step of one object, by the act that asks for it.
 
 ghost use Rattle.std.specs.Prelude.{◌≡◌, ◌≤◌, suc, length, Some, IfOk, OnOk, OnErr};
-ghost use Rattle.register.specs.Act.{IsActCause, act_cause, answered_by, step_of};
+ghost use Rattle.register.specs.Act.{IsActCause, act_cause, step_of};
 ghost use Rattle.cluster.specs.Acts.{ServersAllow, begun_by};
 ghost use Rattle.cluster.specs.Causes.{next, object_cause};
-ghost use Rattle.cluster.specs.Cluster.{next_call_id, if_named, place_of};
+ghost use Rattle.cluster.specs.Cluster.{next_call_id, if_named};
 ghost use Rattle.cluster.specs.Places.{IsObjectAt};
 ghost use Rattle.cluster.specs.Preconditions.{MayMake};
 ghost use Rattle.cluster.specs.Steps.{with_step};
 
 use crate::cluster::Cluster;
 use crate::cluster::mailing::{exchanged, waiting};
-use register::{Act, Answered};
+use register::Act;
 use tag::{CallId, Refusal};
 
 impl Cluster {
     // Makes the step that an act asks for, of the object of this name.
-    pub(crate) fn act(&mut self, name: &str, act: Act) -> Result<Answered, Refusal>
-        requires ready { ServersAllow (length self.old.servers) act }
-        ensures step { OnOk result (self.new
-            ≡ with_step self.old name.entry.now (step_of (next_call_id self.old name.entry.now) act)) }
-        ensures may { OnOk result
-            (MayMake self.old name.entry.now (step_of (next_call_id self.old name.entry.now) act)) }
-        ensures answered { IfOk result (λ a. if_named self.old name.entry.now
-            (answered_by act (place_of self.old.objects name.entry.now) (next self.old)) ≡ Some a) }
-        ensures cause { IsActCause act (object_cause self.old name.entry.now (act_cause act (next self.old))) result }
-        ensures unchanged { OnErr result (self.new ≡ self.old) }
-    {
-        let Some(object) = self.find(name) else {
-            return Err(Refusal::NoObject);
-        };
-        self.act_at(name, object, act)
-    }
-
-    // Makes the step that an act asks for, as `act` does, and returns nothing.
     pub(crate) fn make(&mut self, name: &str, act: Act) -> Result<(), Refusal>
         requires ready { ServersAllow (length self.old.servers) act }
         ensures step { OnOk result (self.new
@@ -43,23 +25,10 @@ impl Cluster {
         ensures cause { IsActCause act (object_cause self.old name.entry.now (act_cause act (next self.old))) result }
         ensures unchanged { OnErr result (self.new ≡ self.old) }
     {
-        self.act(name, act)?;
-        Ok(())
-    }
-
-    // Makes the step that an act asks for, as `act_at` does, and returns nothing.
-    pub(crate) fn make_at(&mut self, name: &str, object: u32, act: Act) -> Result<(), Refusal>
-        requires ready { ServersAllow (length self.old.servers) act }
-        requires placed { IsObjectAt self.old name.now object }
-        ensures step { OnOk result (self.new
-            ≡ with_step self.old name.entry.now (step_of (next_call_id self.old name.entry.now) act)) }
-        ensures may { OnOk result
-            (MayMake self.old name.entry.now (step_of (next_call_id self.old name.entry.now) act)) }
-        ensures cause { IsActCause act (object_cause self.old name.entry.now (act_cause act (next self.old))) result }
-        ensures unchanged { OnErr result (self.new ≡ self.old) }
-    {
-        self.act_at(name, object, act)?;
-        Ok(())
+        let Some(object) = self.find(name) else {
+            return Err(Refusal::NoObject);
+        };
+        self.make_at(name, object, act)
     }
 
     // Makes the step of an act that begins a call. Returns the call's number.
@@ -75,22 +44,22 @@ impl Cluster {
         ensures cause { IsActCause act (object_cause self.old name.entry.now (act_cause act (next self.old))) result }
         ensures unchanged { OnErr result (self.new ≡ self.old) }
     {
-        let Answered::Call(number) = self.act(name, act)? else {
-            unreachable!();
+        let Some(object) = self.find(name) else {
+            return Err(Refusal::NoObject);
         };
+        let number = self.register_at(name, object).next_call();
+        self.make_at(name, object, act)?;
         Ok(number)
     }
 
     // Makes the step that an act asks for, of the object of this name, which is at this index.
-    pub(crate) fn act_at(&mut self, name: &str, object: u32, act: Act) -> Result<Answered, Refusal>
+    pub(crate) fn make_at(&mut self, name: &str, object: u32, act: Act) -> Result<(), Refusal>
         requires ready { ServersAllow (length self.old.servers) act }
         requires placed { IsObjectAt self.old name.now object }
         ensures step { OnOk result (self.new
             ≡ with_step self.old name.entry.now (step_of (next_call_id self.old name.entry.now) act)) }
         ensures may { OnOk result
             (MayMake self.old name.entry.now (step_of (next_call_id self.old name.entry.now) act)) }
-        ensures answered { IfOk result (λ a. if_named self.old name.entry.now
-            (answered_by act (place_of self.old.objects name.entry.now) (next self.old)) ≡ Some a) }
         ensures cause { IsActCause act (object_cause self.old name.entry.now (act_cause act (next self.old))) result }
         ensures unchanged { OnErr result (self.new ≡ self.old) }
     {
@@ -100,11 +69,11 @@ impl Cluster {
         let register = &mut self.objects[object as usize];
         register.allowed_steps_may_be_made();
         let waited = waiting(register);
-        let answered = register.act(act, object, now)?;
+        register.act(act, object, now)?;
         self.mailed = exchanged(self.mailed, waited, waiting(register));
         self.counter = now;
         self.called += begun;
-        Ok(answered)
+        Ok(())
     }
 }
 

@@ -10,7 +10,7 @@ ghost use Rattle.cluster.specs.Cluster.{Cluster as Store, if_named, is_reached};
 ghost use Rattle.cluster.specs.Places.{IsObjectAt};
 ghost use Rattle.cluster.specs.Preconditions.{MayMake};
 ghost use Rattle.cluster.specs.Steps.{with_step};
-ghost use Rattle.cluster.specs.Serving.{GoesTo, IsOf};
+ghost use Rattle.cluster.specs.Serving.{GoesTo, HasServersAndCounts};
 ghost use Rattle.cluster.specs.Causes.{next, object_cause, serving_cause, can_handle, handled_at, place_cause};
 
 use crate::cluster::Cluster;
@@ -164,7 +164,7 @@ fn room_to_serve(
 ) -> Result<u8, Refusal>
     requires { stored ≤ MOST_BYTES }
     ensures server { IfOk result (λ server. GoesTo register.now.object place server) }
-    ensures cause { (cluster : Store) → IsOf cluster servers.now counter stored
+    ensures cause { (cluster : Store) → HasServersAndCounts cluster servers.now counter stored
         → IsExactlyByCause (serving_cause cluster place register.now.object) result }
 {
     let mail = register.mail_view();

@@ -17,12 +17,13 @@ ghost use Rattle.cluster.specs.Preconditions.{MayMake};
 ghost use Rattle.cluster.specs.Steps.{with_step};
 
 use crate::cluster::Cluster;
+use crate::cluster::mailing::{exchanged, waiting};
 use bytes::Bytes;
 use decoder::Decoded;
 use encoder::Coded;
 use piece::Piece;
 use record::Want;
-use register::{Act, Answered, Receipt, Register};
+use register::{Act, Receipt, Register};
 use tag::{CallId, Refusal};
 
 impl Cluster {
@@ -185,9 +186,13 @@ impl Cluster {
             (object_cause self.old name.entry.now (λ object. answer_cause (next self.old) object call)) result }
         ensures unchanged { OnErr result (self.new ≡ self.old) }
     {
-        let Answered::Receipt(receipt) = self.act_at(name, object, Act::Answer(call))? else {
-            unreachable!();
-        };
+        let now = self.counter + 1;
+        let register = &mut self.objects[object as usize];
+        register.allowed_steps_may_be_made();
+        let waited = waiting(register);
+        let receipt = register.answer(call, object, now)?;
+        self.mailed = exchanged(self.mailed, waited, waiting(register));
+        self.counter = now;
         Ok(receipt)
     }
 }

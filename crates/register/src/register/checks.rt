@@ -43,15 +43,15 @@ impl Register {
     {
         let index = index_of(&self.calls, call)?;
         let tracked = &self.calls[index];
+        let Some((kind, position)) = due(begun_at(tracked.stage(), self.base)) else {
+            return Err(Refusal::NotNow);
+        };
         if !wants_due(anew, want_of(&self.positions, tracked)) {
             return Err(Refusal::NotNow);
         }
         if now > MOST_STEPS {
             return Err(Refusal::Full);
         }
-        let Some((kind, position)) = due(begun_at(tracked.stage(), self.base)) else {
-            unreachable!();
-        };
         Ok((index, kind, position))
     }
 
@@ -74,11 +74,11 @@ impl Register {
     {
         let index = index_of(&self.calls, call)?;
         let tracked = &self.calls[index];
-        let Some(position) = pieces_position(&self.positions, tracked) else {
+        let Some(value) = tracked.value() else {
             return Err(Refusal::NotNow);
         };
-        let Some(value) = tracked.value() else {
-            unreachable!();
+        let Some(position) = pieces_position(&self.positions, tracked) else {
+            return Err(Refusal::NotNow);
         };
         let layout = self.positions[position as usize].layout();
         if !is_coded_for(layout, value, coded) {
@@ -107,9 +107,7 @@ impl Register {
             Want::Again => return Err(Refusal::Collected),
             _ => return Err(Refusal::NotNow),
         };
-        let Some(phase) = self.calls[index].current() else {
-            unreachable!();
-        };
+        let phase = self.calls[index].current();
         if !is_decoded_from(k, phase.replies(), decoded) {
             return Err(Refusal::WrongCode);
         }

@@ -1,6 +1,6 @@
 //! The values that calls encode, and those that they settle.
 
-ghost use Rattle.std.specs.Prelude.{◌≡◌, ◌⊎◌, ◌≤◌, ◌<◌, pred, [], length, option_copied, Some, None};
+ghost use Rattle.std.specs.Prelude.{◌≡◌, ◌⊎◌, ◌≤◌, ◌<◌, pred, [], length, Some, None, if◌then◌else◌};
 ghost use Rattle.std.specs.Prelude.{OnOk, OnErr, IfOk};
 ghost use Rattle.tag.specs.Refusal.{IsByCause, IsExactlyByCause};
 ghost use Rattle.tag.specs.declared.refusal.Refusal.TheVariants.{Full, WrongCode};
@@ -8,19 +8,21 @@ ghost use Rattle.encoder.specs.Coded.{Coding};
 ghost use Rattle.record.specs.Steps.{Step};
 ghost use Rattle.record.specs.PhaseOrder.{due};
 ghost use Rattle.record.specs.Wants.{current_phase};
+ghost use Rattle.call.specs.StageLimits.{IsBelowLimit};
 ghost use Rattle.register.specs.State.{made, object_of};
 ghost use Rattle.tag.specs.declared.limits.TheConstants.{MOST_POSITIONS, MOST_STEPS};
 ghost use Rattle.register.specs.Tracked.{HasPositionsBelow, tracked_want};
 ghost use Rattle.register.specs.Coding.{pieces_position, sending_position};
 ghost use Rattle.register.specs.Causes.{unless, value_cause, supply_cause, supplying_cause, pieces_cause};
-ghost use Rattle.register.specs.Causes.{settle_cause};
+ghost use Rattle.register.specs.Causes.{settle_cause, is_replied};
 ghost use Rattle.register.specs.View.{coding_at, fetched_pieces};
 
 use crate::pieces::piece_by;
 use crate::position::Position;
 use crate::register::Register;
-use crate::register::phases::{index_of, is_pre_write, is_replied, want_of};
+use crate::register::phases::{index_of, is_pre_write, want_of};
 use crate::tracked_call::TrackedCall;
+use bank::Kind;
 use bytes::Bytes;
 use call::due;
 use decoder::Decoded;
@@ -42,11 +44,11 @@ impl Register {
     {
         let index = index_of(&self.calls, call)?;
         let tracked = &self.calls[index];
-        let Some(position) = pieces_position(&self.positions, tracked) else {
+        let Some(value) = tracked.value() else {
             return Err(Refusal::NotNow);
         };
-        let Some(value) = tracked.value() else {
-            unreachable!();
+        let Some(position) = pieces_position(&self.positions, tracked) else {
+            return Err(Refusal::NotNow);
         };
         let layout = self.positions[position as usize].layout();
         Ok((value.clone()?, layout.k(), layout.n()))
@@ -74,7 +76,7 @@ impl Register {
             return Err(Refusal::Full);
         }
         let members = self.positions[position as usize].layout().n();
-        if is_replied(tracked.current()) {
+        if tracked.current().complete() {
             full_unless(tracked.can_begin(members, &self.mail))
         } else {
             full_unless(tracked.can_ask_again(call, &self.mail))
@@ -105,10 +107,7 @@ impl Register {
     {
         let (index, position) = self.supplied_call(call, coded, now)?;
         let tracked = &self.calls[index];
-        if is_replied(tracked.current()) {
-            let Some((kind, to)) = due(tracked.stage()) else {
-                unreachable!();
-            };
+        if let Some((kind, to)) = due_next(tracked) {
             let layout = self.positions[position as usize].layout();
             self.calls[index].begin_next(kind, to, layout, Some(coded), &mut self.mail, now)?;
             self.last = now;
@@ -135,9 +134,7 @@ impl Register {
             Want::Again => return Err(Refusal::Collected),
             _ => return Err(Refusal::NotNow),
         };
-        let Some(phase) = self.calls[index].current() else {
-            unreachable!();
-        };
+        let phase = self.calls[index].current();
         let mut pieces = Vec::with_capacity(*self.calls.allocator(), usize::from(k))?;
         for member in 0..phase.members() {
             let Some(piece) = piece_by(phase.replies(), member) else {
@@ -185,19 +182,26 @@ pub fn pieces_position(positions: &[Position], call: &TrackedCall) -> Option<u32
     }
 }
 
-// The position of the phase, if there is a phase and it sends pieces.
-fn sending_position(phase: Option<&Phase>) -> Option<u32>
-    ensures { result ≡ sending_position (option_copied phase.entry) }
+// The position of the phase, if it sends pieces.
+fn sending_position(phase: &Phase) -> Option<u32>
+    ensures { result ≡ sending_position (Some phase.now) }
 {
-    match phase {
-        Some(phase) => {
-            if is_pre_write(phase.kind()) {
-                Some(phase.position())
-            } else {
-                None
-            }
-        }
-        None => None,
+    if is_pre_write(phase.kind()) {
+        Some(phase.position())
+    } else {
+        None
+    }
+}
+
+// The phase that is due, with its position, once the current phase of a call is complete.
+fn due_next(call: &TrackedCall) -> Option<(Kind, u32)>
+    requires { IsBelowLimit call.now.stage }
+    ensures { result ≡ (if is_replied (current_phase call.now.call.phases) then due call.now.stage else None) }
+{
+    if call.current().complete() {
+        due(call.stage())
+    } else {
+        None
     }
 }
 

@@ -1,6 +1,6 @@
 //! What calls want, and how they continue.
 
-ghost use Rattle.std.specs.Prelude.{◌≡◌, ◌≤◌, ◌⊎◌, ◌<◌, suc, pred, [], length, option_copied, OnOk, OnErr, IfOk, IfErr};
+ghost use Rattle.std.specs.Prelude.{◌≡◌, ◌≤◌, ◌⊎◌, ◌<◌, suc, pred, [], length, OnOk, OnErr, IfOk, IfErr};
 ghost use Rattle.std.specs.Prelude.{Some, None, true};
 ghost use Rattle.tag.specs.Refusal.{IsByCause, IsExactlyByCause};
 ghost use Rattle.tag.specs.declared.refusal.Refusal.TheVariants.{NoCall};
@@ -10,8 +10,8 @@ ghost use Rattle.register.specs.Coding.{is_pre_write};
 ghost use Rattle.tag.specs.declared.limits.TheConstants.{MOST_POSITIONS, MOST_STEPS};
 ghost use Rattle.register.specs.Tracked.{HasPositionsBelow, tracked_want};
 ghost use Rattle.register.specs.State.{made, object_of};
-ghost use Rattle.register.specs.Causes.{number_cause, advance_cause, again_cause, post_cause, is_plain};
-ghost use Rattle.register.specs.Causes.{due_step, due_cause, wants_due, is_replied};
+ghost use Rattle.register.specs.Causes.{number_cause, advance_cause, again_cause, post_cause};
+ghost use Rattle.register.specs.Causes.{due_step, due_cause, wants_due};
 ghost use Rattle.register.specs.View.{want_at};
 
 use crate::position::Position;
@@ -19,7 +19,7 @@ use crate::register::Register;
 use crate::tracked_call::TrackedCall;
 use bank::{Answer, Kind};
 use call::due;
-use mail::{Phase, Taken};
+use mail::Taken;
 use record::Want;
 use tag::{CallId, MOST_STEPS, Refusal, Stamp};
 
@@ -100,7 +100,7 @@ impl Register {
         let Want::Replies = want_of(&self.positions, &self.calls[index]) else {
             return Err(Refusal::NotNow);
         };
-        if !is_plain(self.calls[index].current()) {
+        if is_pre_write(self.calls[index].current().kind()) {
             return Err(Refusal::NotNow);
         }
         if now > MOST_STEPS {
@@ -132,9 +132,7 @@ pub fn want_of(positions: &[Position], call: &TrackedCall) -> Want
     if call.is_answered() {
         return Want::Done;
     }
-    let Some(phase) = call.current() else {
-        return Want::Replies;
-    };
+    let phase = call.current();
     if !phase.complete() {
         return Want::Replies;
     }
@@ -200,25 +198,5 @@ pub fn is_pre_write(kind: Kind) -> bool
     match kind {
         Kind::PreWrite(_) => true,
         _ => false,
-    }
-}
-
-// Whether there is a phase, and it sends no pieces.
-fn is_plain(phase: Option<&Phase>) -> bool
-    ensures { result ≡ is_plain (option_copied phase.entry) }
-{
-    match phase {
-        Some(phase) => !is_pre_write(phase.kind()),
-        None => false,
-    }
-}
-
-// Whether there is a phase, and a quorum has replied to it.
-pub fn is_replied(phase: Option<&Phase>) -> bool
-    ensures { result ≡ is_replied (option_copied phase.entry) }
-{
-    match phase {
-        Some(phase) => phase.complete(),
-        None => false,
     }
 }

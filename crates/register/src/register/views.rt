@@ -11,6 +11,7 @@ ghost use Rattle.record.specs.Wants.{fetched_or};
 ghost use Rattle.register.specs.Kept.{has_open_move};
 ghost use Rattle.register.specs.Causes.{call_at, number_cause};
 ghost use Rattle.register.specs.Position.{all_bytes};
+ghost use Rattle.register.specs.State.{next_id};
 ghost use Rattle.register.specs.View.{view_at, value_at, phases_at, tag_at, bank_there};
 
 use crate::register::Register;
@@ -29,6 +30,13 @@ impl Register {
         ensures { result ≡ has_open_move self.now.object.calls }
     {
         self.is_moving
+    }
+
+    /// Returns the number of the call that begins next: one more than the object has calls.
+    pub fn next_call(&self) -> CallId
+        ensures { result ≡ next_id self.now.object }
+    {
+        self.calls.len() as u64 + 1
     }
 
     /// Returns one entry for each call, in the order of their numbers. `NoMemory` is the only refusal.
@@ -91,9 +99,7 @@ impl Register {
     {
         let index = index_of(&self.calls, call)?;
         let tracked = &self.calls[index];
-        let Some(phase) = tracked.current() else {
-            unreachable!();
-        };
+        let phase = tracked.current();
         Ok(CallView {
             kind: tracked.operation(),
             number: phase.number(),

@@ -1,6 +1,7 @@
 //! Read access to a call.
 
-ghost use Rattle.std.specs.Prelude.{◌≡◌, ℕ, Option, is_some, length, option_copied, slice_get, IfOk, IfErr};
+ghost use Rattle.std.specs.Prelude.{◌≡◌, ℕ, Option, is_some, length, option_copied, slice_get, Some, IfOk};
+ghost use Rattle.std.specs.Prelude.{IfErr};
 ghost use Rattle.tag.specs.declared.refusal.Refusal.TheVariants.{NoMemory};
 ghost use Rattle.record.specs.Journals.{operation_of, entry_of, entry_value};
 ghost use Rattle.record.specs.Sending.{sent_value};
@@ -92,10 +93,10 @@ impl TrackedCall {
     }
 
     /// Returns the current phase: the one that began last.
-    pub(crate) fn current(&self) -> Option<&Phase>
-        ensures { option_copied result ≡ current_phase self.now.call.phases }
+    pub(crate) fn current(&self) -> &Phase
+        ensures { Some result.now ≡ current_phase self.now.call.phases }
     {
-        Some(self.call.phase())
+        self.call.phase()
     }
 
     /// Returns the stage to which the phases lead.

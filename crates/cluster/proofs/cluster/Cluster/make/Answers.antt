@@ -1,14 +1,9 @@
-use Rattle.cluster.proofs.ActLemmas.{act_ok, act_err}
+use Rattle.std.proofs.Common.{ap}
+use Rattle.register.specs.Act.{act_cause}
+use Rattle.cluster.specs.Causes.{next, if_object}
+use Rattle.cluster.proofs.ActLemmas.{act_some}
 use Rattle.cluster.proofs.cluster.Cluster.make.Goals as goal
 
-pub returns : goal.returns
-returns c = record {
-  step = c.in_ok-act.ensures.step;
-  may = c.in_ok-act.ensures.may;
-  cause = act_ok _ c.in_ok-act.field-0 tt c.args.act c.in_ok-act.ensures.cause;
-  unchanged = tt;
-}
-
-pub returns-in_err-act-clause-cause : goal.returns-in_err-act-clause-cause
-returns-in_err-act-clause-cause c =
-    act_err _ _ _ c.args.act c.from_residual.result c.from_residual.ensures.1 c.in_err-act.ensures.cause
+pub returns-in_default-clause-cause : goal.returns-in_default-clause-cause
+returns-in_default-clause-cause c =
+    act_some _ c.args.act (ap (λ o. if_object o (act_cause c.args.act (next c.args.self.now))) c.in_default.ensures)

@@ -1,6 +1,6 @@
 use Rattle.std.proofs.lemmas.Grind.{elements}
 use Rattle.std.proofs.Common.{refl, sym, ◌∙◌, arith}
-use Rattle.register.proofs.AdvanceLemmas.{stage_below, due_read, due_refused, due_past, some_due, tell_wants, tell_due}
+use Rattle.register.proofs.AdvanceLemmas.{stage_below, due_read, due_refused, due_past, due_nothing, tell_wants, tell_due}
 use Rattle.register.proofs.FoundCallLemmas.{is_found, again, wanting, below_those, few_those, seen_at}
 use Rattle.register.proofs.register.Register.due_phase.Goals as goal
 
@@ -22,12 +22,11 @@ returns-then-now-gt-MOST_STEPS-clause-cause c =
     rw (← c.self.view_is)
     (due_past c.args.anew w c.args.now (sym c.wants_due.ensures ∙ c.if-not-wants_due.false) c.if-now-gt-MOST_STEPS.true)
 
-pub unreachable-requires : goal.unreachable-requires
-unreachable-requires c =
+pub returns-in_default-clause-cause : goal.returns-in_default-clause-cause
+returns-in_default-clause-cause c =
     let f = is_found c.self.invariant c.in_ok-index.ensures.place c.deref.ensures.value c.index-tracked.ensures in
-    let w = wanting f c.want_of.ensures c.deref-2.ensures.value refl in
-    let is = sym c.wants_due.ensures ∙ c.if-not-wants_due.false in
-    some_due c.args.anew w is (due_read f c.index-tracked.ensures c.stage.ensures c.begun_at.ensures c.in_default.ensures refl)
+    let none = due_read f c.index-tracked.ensures c.stage.ensures c.begun_at.ensures c.in_default.ensures refl in
+    rw (← c.self.view_is) (due_nothing c.args.anew f c.args.now none)
 
 pub due-requires : goal.due-requires
 due-requires c =

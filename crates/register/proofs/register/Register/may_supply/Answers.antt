@@ -37,28 +37,28 @@ returns-then-now-gt-MOST_STEPS c =
       coded = or_wrong c.args.now c.args.self.now.object c.args.call;
     }
 
-pub returns-then-is_replied : goal.returns-then-is_replied
-returns-then-is_replied c =
+pub returns-then-complete : goal.returns-then-complete
+returns-then-complete c =
     let f = is_found c.self.invariant c.in_ok-index.ensures.place c.deref.ensures.value c.index-tracked.ensures in
     let s = sending f c.pieces_position.ensures c.deref-2.ensures.value c.in-Some.is in
     let is = permits_begin s c.index.ensures c.layout.ensures c.args.now c.if-now-gt-MOST_STEPS.false c.self.view_is c.requires.after
-    c.can_begin.result c.current.ensures c.is_replied.ensures c.if-is_replied.true c.n-members.ensures.value c.can_begin.ensures in
+    c.can_begin.result c.current.ensures c.complete.ensures.value c.if-complete.true c.n-members.ensures.value c.can_begin.ensures in
     record {
       cause = rw (← c.self.view_is)
           (subst (λ (cause : Option Refusal). IsExactlyByCause cause c.full_unless.result) (sym is) c.full_unless.ensures);
       coded = or_wrong c.args.now c.args.self.now.object c.args.call;
     }
 
-pub returns-else-is_replied : goal.returns-else-is_replied
-returns-else-is_replied c =
+pub returns-else-complete : goal.returns-else-complete
+returns-else-complete c =
     let f = is_found c.self.invariant c.in_ok-index.ensures.place c.deref.ensures.value c.index-tracked.ensures in
     let s = sending f c.pieces_position.ensures c.deref-2.ensures.value c.in-Some.is in
     let is = permits_asking s c.index.ensures c.layout.ensures c.args.now c.if-now-gt-MOST_STEPS.false c.self.view_is c.requires.after
-    c.can_ask_again.result c.current.ensures c.is_replied.ensures c.if-is_replied.false c.can_ask_again.ensures in
+    c.can_ask_again.result c.current.ensures c.complete.ensures.value c.if-complete.false c.can_ask_again.ensures in
     record {
       cause = rw (← c.self.view_is)
-          (subst (λ (cause : Option Refusal). IsExactlyByCause cause c.full_unless-else-is_replied.result) (sym is)
-          c.full_unless-else-is_replied.ensures);
+          (subst (λ (cause : Option Refusal). IsExactlyByCause cause c.full_unless-else-complete.result) (sym is)
+          c.full_unless-else-complete.ensures);
       coded = or_wrong c.args.now c.args.self.now.object c.args.call;
     }
 

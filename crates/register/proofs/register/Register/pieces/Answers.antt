@@ -59,7 +59,7 @@ pub loop-member-preserved : goal.loop-member-preserved
 loop-member-preserved c =
     let member = c.loop-member.member in
     let k = c.in-Settle.k in
-    let replies = c.in-Some.phase.now.replies in
+    let replies = c.current-phase.result.now.replies in
     let old = c.loop-member.pieces in
     let one : suc member ≡ member + 1 = omega arith in
     let Kept : Vec Piece Global → ℕ → Type 0 = λ v m. (v.items ≡ take k (pieces_below replies m)) × (vec_len v ≡ length v.items) in
@@ -75,7 +75,7 @@ loop-member-preserved c =
                   len = w.in_ok-clone.ensures.cases.1.0 j;
                   bytes = w.in_ok-clone.ensures.cases.1.1 j;
                 }))
-                ∙ c.in-Some-piece_by.ensures ∙ ap (λ rs. piece_by rs member) c.replies.ensures),
+                ∙ c.in-Some.ensures ∙ ap (λ rs. piece_by rs member) c.replies.ensures),
             (let pushed : length w.push.new.self.items ≡ suc (length old.items) =
                 ap length w.in_ok-push.ensures.items ∙ length_push old.items w.in_ok-clone.field-0 in
                 omega (arith, pushed, w.in_ok-push.ensures.len, c.loop-member.invariant.1)),
@@ -92,12 +92,12 @@ pub returns : goal.returns
 returns c =
     let f = is_found c.self.invariant c.in_ok-index.ensures.place c.deref.ensures.value c.index.ensures in
     let w = wanting f c.want_of.ensures c.deref-2.ensures.value c.in-Settle.is in
-    let members = c.in-Some.phase.now.members in
+    let members = c.current-phase.result.now.members in
     let end : c.loop-member.member ≡ members =
     omega (arith, c.loop-member-test.false, c.loop-member.auto.member-end, c.members-member-end.ensures) in
     record {
       pieces = rw (← c.self.view_is)
-          (c.loop-member.invariant.0 ∙ ap (λ n. take c.in-Settle.k (pieces_below c.in-Some.phase.now.replies n)) end
-          ∙ sym (pieces_are w (current_again f c.index-2.ensures c.in-Some.ensures)));
+          (c.loop-member.invariant.0 ∙ ap (λ n. take c.in-Settle.k (pieces_below c.current-phase.result.now.replies n)) end
+          ∙ sym (pieces_are w (current_again f c.index-2.ensures c.current-phase.ensures)));
       cause = rw (← c.self.view_is) (pieces_cause_is (wanting f c.want_of.ensures c.deref-2.ensures.value c.in-Settle.is));
     }

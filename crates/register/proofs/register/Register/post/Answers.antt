@@ -1,7 +1,8 @@
 use Rattle.std.proofs.lemmas.Grind.{common_steps, elements}
-use Rattle.std.proofs.Common.{inl, refl, ◌≡◌, Option, None, arith}
+use Rattle.std.proofs.Common.{ap, ◌∙◌, inl, refl, ◌≡◌, Option, None, arith}
 use Rattle.tag.specs.Cause.{IsRefusalBy}
 use Rattle.tag.specs.declared.refusal.Refusal.{Refusal}
+use Rattle.register.specs.Coding.{is_pre_write}
 use Rattle.register.proofs.AskAgainLemmas.{again_room, again_by, again_step, again_kept}
 use Rattle.register.proofs.FoundCallLemmas.{is_found, wanting, below_those, few_those, current_again}
 use Rattle.register.proofs.PostLemmas.{post_refused, post_pieces, post_past, posting}
@@ -23,27 +24,30 @@ returns-in_default c =
       unchanged = refl;
     }
 
-pub returns-then-not-is_plain-clause-cause : goal.returns-then-not-is_plain-clause-cause
-returns-then-not-is_plain-clause-cause c =
+pub returns-then-is_pre_write-clause-cause : goal.returns-then-is_pre_write-clause-cause
+returns-then-is_pre_write-clause-cause c =
     let f = is_found c.self.invariant c.in_ok-index.ensures.place c.deref.ensures.value c.index.ensures in
     let w = wanting f c.want_of.ensures c.deref-2.ensures.value c.in-Replies.is in
     let p = current_again f c.index-2.ensures c.current.ensures in
-    inl (rw (← c.self.view_is) (post_pieces w p c.is_plain.ensures c.args.now c.if-not-is_plain.true))
+    let tested = c.is_pre_write.ensures ∙ ap is_pre_write c.kind.ensures in
+    inl (rw (← c.self.view_is) (post_pieces w p tested c.args.now c.if-is_pre_write.true))
 
 pub returns-then-now-gt-MOST_STEPS-clause-cause : goal.returns-then-now-gt-MOST_STEPS-clause-cause
 returns-then-now-gt-MOST_STEPS-clause-cause c =
     let f = is_found c.self.invariant c.in_ok-index.ensures.place c.deref.ensures.value c.index.ensures in
     let w = wanting f c.want_of.ensures c.deref-2.ensures.value c.in-Replies.is in
     let p = current_again f c.index-2.ensures c.current.ensures in
+    let tested = c.is_pre_write.ensures ∙ ap is_pre_write c.kind.ensures in
     inl (rw (← c.self.view_is)
-    (post_past w p c.is_plain.ensures c.if-not-is_plain.false c.args.now c.if-now-gt-MOST_STEPS.true))
+    (post_past w p tested c.if-is_pre_write.false c.args.now c.if-now-gt-MOST_STEPS.true))
 
 pub ask_again-requires-clause-room : goal.ask_again-requires-clause-room
 ask_again-requires-clause-room c =
     let f = is_found c.self.invariant c.in_ok-index.ensures.place c.deref.ensures.value c.index.ensures in
     let w = wanting f c.want_of.ensures c.deref-2.ensures.value c.in-Replies.is in
     let p = current_again f c.index-2.ensures c.current.ensures in
-    let a = posting w p c.is_plain.ensures c.if-not-is_plain.false c.index-3.ensures in
+    let tested = c.is_pre_write.ensures ∙ ap is_pre_write c.kind.ensures in
+    let a = posting w p tested c.if-is_pre_write.false c.index-3.ensures in
     again_room a c.args.now c.self.view_is c.requires.after
 
 pub invariant_of-self-2 : goal.invariant_of-self-2
@@ -51,7 +55,8 @@ invariant_of-self-2 c =
     let f = is_found c.self.invariant c.in_ok-index.ensures.place c.deref.ensures.value c.index.ensures in
     let w = wanting f c.want_of.ensures c.deref-2.ensures.value c.in-Replies.is in
     let p = current_again f c.index-2.ensures c.current.ensures in
-    let a = posting w p c.is_plain.ensures c.if-not-is_plain.false c.index-3.ensures in
+    let tested = c.is_pre_write.ensures ∙ ap is_pre_write c.kind.ensures in
+    let a = posting w p tested c.if-is_pre_write.false c.index-3.ensures in
     again_kept a c.args.now c.in_ok-ask_again.ensures.mail c.self.view_is c.requires.after
 
 pub returns : goal.returns
@@ -59,7 +64,8 @@ returns c =
     let f = is_found c.self.invariant c.in_ok-index.ensures.place c.deref.ensures.value c.index.ensures in
     let w = wanting f c.want_of.ensures c.deref-2.ensures.value c.in-Replies.is in
     let p = current_again f c.index-2.ensures c.current.ensures in
-    let a = posting w p c.is_plain.ensures c.if-not-is_plain.false c.index-3.ensures in
+    let tested = c.is_pre_write.ensures ∙ ap is_pre_write c.kind.ensures in
+    let a = posting w p tested c.if-is_pre_write.false c.index-3.ensures in
     record {
       step = rw (← c.self.view_is) (again_step a c.args.now c.in_ok-ask_again.ensures.mail);
       cause = rw (← c.self.view_is)
@@ -72,7 +78,8 @@ returns-in_err-ask_again-clause-cause c =
     let f = is_found c.self.invariant c.in_ok-index.ensures.place c.deref.ensures.value c.index.ensures in
     let w = wanting f c.want_of.ensures c.deref-2.ensures.value c.in-Replies.is in
     let p = current_again f c.index-2.ensures c.current.ensures in
-    let a = posting w p c.is_plain.ensures c.if-not-is_plain.false c.index-3.ensures in
+    let tested = c.is_pre_write.ensures ∙ ap is_pre_write c.kind.ensures in
+    let a = posting w p tested c.if-is_pre_write.false c.index-3.ensures in
     let r = c.in_err-ask_again.field-0.0 in
     same_cause _ c.from_residual-in_err-ask_again.result _ c.from_residual-in_err-ask_again.ensures.1
     (rw (← c.self.view_is) (again_by a c.args.now c.if-now-gt-MOST_STEPS.false

@@ -36,7 +36,7 @@ returns-then-not-is_decoded_from-clause-cause c =
     let w = wanting f c.want_of.ensures c.deref-2.ensures.value c.in-Settle.is in
     let wrong = sym (told c.in-Settle.k c.args.decoded.now c.is_decoded_from.ensures.value c.replies.ensures)
     ∙ c.if-not-is_decoded_from.true in
-    rw (← c.self.view_is) (settle_wrong w (current_again f c.index-2.ensures c.in-Some.ensures) c.args.decoded.now c.args.now wrong)
+    rw (← c.self.view_is) (settle_wrong w (current_again f c.index-2.ensures c.current-phase.ensures) c.args.decoded.now c.args.now wrong)
 
 pub returns-then-now-gt-MOST_STEPS-clause-cause : goal.returns-then-now-gt-MOST_STEPS-clause-cause
 returns-then-now-gt-MOST_STEPS-clause-cause c =
@@ -45,7 +45,8 @@ returns-then-now-gt-MOST_STEPS-clause-cause c =
     let right = sym (told c.in-Settle.k c.args.decoded.now c.is_decoded_from.ensures.value c.replies.ensures)
     ∙ c.if-not-is_decoded_from.false in
     rw (← c.self.view_is)
-    (settle_past w (current_again f c.index-2.ensures c.in-Some.ensures) c.args.decoded.now c.args.now right c.if-now-gt-MOST_STEPS.true)
+    (settle_past w (current_again f c.index-2.ensures c.current-phase.ensures) c.args.decoded.now c.args.now right
+    c.if-now-gt-MOST_STEPS.true)
 
 pub returns-clause-cause : goal.returns-clause-cause
 returns-clause-cause c =
@@ -54,7 +55,7 @@ returns-clause-cause c =
     let right = sym (told c.in-Settle.k c.args.decoded.now c.is_decoded_from.ensures.value c.replies.ensures)
     ∙ c.if-not-is_decoded_from.false in
     rw (← c.self.view_is)
-    (settle_none w (current_again f c.index-2.ensures c.in-Some.ensures) c.args.decoded.now c.args.now right
+    (settle_none w (current_again f c.index-2.ensures c.current-phase.ensures) c.args.decoded.now c.args.now right
     c.if-now-gt-MOST_STEPS.false)
 
 pub returns-clause-place : goal.returns-clause-place
