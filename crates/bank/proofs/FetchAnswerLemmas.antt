@@ -33,7 +33,7 @@ module _ (es : Rows) (p : Pointer) (w : Option Window) (r : Option ℕ) (t : Tag
       either false e (inl is) = absurd (cc)
       either false e (inr is) = is
 
-  -- else what is there
+  -- otherwise a fetch answers the piece in the row of the tag, if there is one
   pub fetched_row : is_some r ≡ false → is_excluded w t ≡ false → (b : Bank) → bank_of es p w r ≡ b
       → piece_of_row (map.get b.rows t) ≡ fetched_piece b t
   fetched_row here inside b view =

@@ -21,7 +21,7 @@ use Rattle.bank.proofs.PieceRetentionLemmas.{dropped_itself}
 up_to : (o : Option ℕ) (now : ℕ) → IsEarlier o (suc now) → came_by o now ≡ is_some o
 up_to o now earlier = grind arith
 
--- what is dropped after this step is dropped
+-- if all that a bank recorded happened by step `now`, it was to drop a piece just after `now` exactly if it is to drop it
 pub dropped_now : (u : Bank) (now : ℕ) → IsBefore u (suc now) → (t : Tag) → is_dropped_at u t now ≡ is_dropped u t
 dropped_now u now before t =
     ap (λ c. c || (came_by (finalized_at u t) now && exceeds u.delta (finals_above_at u t now))) (up_to u.retired now before.retired)

@@ -19,3 +19,10 @@ pub mod BankRequestLemmas
 pub mod OpenedOrRetiredLemmas
 pub mod NextTagSearchLemmas
 pub mod FetchAnswerLemmas
+pub mod ForgottenRowLemmas
+pub mod ForgottenTagLemmas
+pub mod ForgottenCountLemmas
+pub mod RememberedReplyLemmas
+pub mod RememberedBankLemmas
+pub mod WindowFloorLemmas
+pub mod RememberedStepLemmas

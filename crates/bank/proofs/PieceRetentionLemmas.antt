@@ -49,7 +49,7 @@ module _ (b : Bank) (tag : Tag) (now : ℕ) where
   pub stays : (t : Tag) → is_some (finalized_at b t) ≡ true → is_some (finalized_at (finalized b tag now) t) ≡ true
   stays t final = grind (arith, finalized_at-finalized)
 
-  -- what was dropped stays so
+  -- a tag that was to be dropped is still to be dropped after `tag` is finalized
   pub dropped-finalized : (t : Tag) → is_dropped b t ≡ true → is_dropped (finalized b tag now) t ≡ true
   dropped-finalized t = grind (arith, exceeds_more, finals_more, stays)
 
@@ -76,7 +76,7 @@ HasKept b t o = is_dropped b t ≡ false → is_some (piece_of_row o) ≡ is_som
 has_kept : (b : Bank) → IsCollected b → (t : Tag) → HasKept b t (map.get b.rows t)
 has_kept b is t kept = is t ∙ ap (λ d. is_some (arrived_at b t) && not d) kept ∙ always (is_some (arrived_at b t))
 
--- so it is once the others are dropped
+-- if `HasKept` holds of each tag, the bank is collected once it has dropped every piece that it is not to keep
 collected_has : (u : Bank) → ((t : Tag) → HasKept u t (map.get u.rows t)) → IsCollected (collected u)
 collected_has u has t = grind (arith, always, arrived_at-collected, is_dropped-collected, and_right, piece_of-collected)
 

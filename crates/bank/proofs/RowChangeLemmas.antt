@@ -18,7 +18,7 @@ use Rattle.bank.proofs.EntryCountLemmas.{one_if, changed_count, same_count}
 pub earlier_by : (o : Option ℕ) (now : ℕ) → IsEarlier o now → came_by o now ≡ is_some o
 earlier_by o now earlier = grind arith
 
--- what came first, or else comes now, is there now
+-- an event that happened before, or else happens at step `now`, has happened by step `now`
 pub since_by : (o : Option ℕ) (now : ℕ) → IsEarlier o now → came_by (since o now) now ≡ true
 since_by o now earlier = grind arith
 

@@ -32,7 +32,7 @@ use Rattle.bank.proofs.RowChangeLemmas.{get-with_row}
 same_pointer : (old new : Bank) (now : ℕ) → Grows now old new → (step : ℕ) → step < now → pointer_at new step ≡ pointer_at old step
 same_pointer old new now grows step past = grind arith
 
--- what only grows now was the same before
+-- a bank that grew from another only by events of step `now` says the same as that one about each step before `now`
 pub grows_past : (old new : Bank) (now : ℕ) → Grows now old new → SameBefore old new now
 grows_past old new now grows = record {
   finalized = λ tag step past. comes_past now (finalized_at old tag) (finalized_at new tag) (grows.finalized tag) step past;

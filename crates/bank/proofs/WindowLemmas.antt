@@ -21,7 +21,7 @@ use Rattle.bank.proofs.FinalizedAboveLemmas.{above_least_final}
 
 -- The next finalized tag
 
--- it is above, and stands at a place
+-- the tag that `final_after` finds above x is greater than x, and has a place among the entries
 pub after_above : (x n : Tag) (es : Rows) → final_after x es ≡ Some n → tag_lt x n ≡ true
 after_above x n [] is = absurd (cc)
 after_above x n (e ∷ es) is = pick (λ is. after_above x n es is) (tag_lt x e.0) (is_finalized e.1.label) refl is
@@ -58,7 +58,7 @@ after_final_in x n es rise is =
     let d : Tag × Row = (n, record { label = PreWritten 0; arrival = None }) in
     ap (is_final_in es) (sym (p.at d)) ∙ ap (λ o. is_some (row_finalized o)) (found_at es rise p.place p.within d) ∙ p.final d
 
--- above it there is one less
+-- there is one finalized tag fewer above the tag that is found than above x
 pub after_count : (x n : Tag) (es : Rows) → map.is_sorted tag_cmp es ≡ true → final_after x es ≡ Some n → above x es ≡ above n es + 1
 after_count x n [] sorted is = absurd (cc)
 after_count x n (e ∷ es) sorted is =
@@ -93,7 +93,7 @@ after_count x n (e ∷ es) sorted is =
         later (rest is) is (ap (λ c. one_if (c && is_finalized e.1.label)) less ∙ ap (λ c. one_if c) final)
     pick rest false less f final is = later (rest is) is (ap (λ c. one_if (c && is_finalized e.1.label)) less)
 
--- where there is none, none is finalized above
+-- if no tag is found, no tag above x is finalized
 pub after_none : (x : Tag) (es : Rows) → final_after x es ≡ None → above x es ≡ 0
 after_none x [] is = refl
 after_none x (e ∷ es) is = pick (λ is. after_none x es is) (tag_lt x e.0 && is_finalized e.1.label) refl is

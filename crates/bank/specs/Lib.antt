@@ -3,6 +3,7 @@ pub mod Bank
 pub mod Bytes
 pub mod Collect
 pub mod Facts
+pub mod Floor
 pub mod Kept
 pub mod Knowledge
 pub mod Pointer

@@ -11,6 +11,7 @@ use std::collections::BTreeMap;
 use std::marker::Model;
 use tag::{Refusal, Stamp, Tag};
 
+mod forgetting;
 mod reading;
 
 /// A bank: the state that one server keeps for one position of an object.

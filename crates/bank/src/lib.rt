@@ -4,15 +4,18 @@
 //! 2019).
 #![tactic(auto)]
 
-ghost use Rattle.std.specs.Prelude.{◌≡◌, ℕ, ◌+◌, ◌<◌, ◌≤◌, ◌↔◌, Option, Some, None, IsSome};
+ghost use Rattle.std.specs.Prelude.{◌≡◌, ℕ, ◌+◌, ◌<◌, ◌≤◌, ◌↔◌, Option, Some, None, IsSome, true, if◌then◌else◌};
+ghost use Rattle.std.specs.FinMap as map;
 ghost use Rattle.tag.specs.Tag.{opening_tag};
 ghost use Rattle.tag.specs.declared.tag.Tag.{Tag as Version};
 ghost use Rattle.bank.specs.Bank.{Bank as Table, opened_bank, piece_of};
 ghost use Rattle.bank.specs.Bytes.{bank_bytes, added_bytes};
-ghost use Rattle.bank.specs.Collect.{IsCollected, KeepsAll, fetched_piece, final_pieces, retired_bank};
-ghost use Rattle.bank.specs.Knowledge.{finalized_at, HadPiece, HoldsPiece, IsTrueAnswer};
+ghost use Rattle.bank.specs.Collect.{IsCollected, KeepsAll, collected, fetched_piece, final_pieces, retired_bank};
+ghost use Rattle.bank.specs.Floor.{is_forgotten, remembered, names_forgotten};
+ghost use Rattle.bank.specs.Knowledge.{finalized_at, finals_above, HadPiece, HoldsPiece, IsTrueAnswer};
 ghost use Rattle.bank.specs.Facts.{IsBefore, SameBefore};
-ghost use Rattle.bank.specs.Serve.{served_bank, uncollected_bank, freed_bytes, answer_to, kind_of};
+ghost use Rattle.bank.specs.Serve.{served_bank, uncollected_bank, freed_bytes, answer_to, reply_to, kind_of};
+ghost use Rattle.piece.specs.declared.piece.Piece.{Piece as Fragment};
 ghost use Rattle.bank.specs.declared.request.Request.{Request as Asked};
 
 pub use bank::Bank;
@@ -88,4 +91,57 @@ pub fn serving_keeps_all()
     ensures stays { (b : Table) (q : Asked) (now : ℕ) → KeepsAll b → KeepsAll (served_bank b q now) }
     ensures fetched { (b : Table) (tag : Version) → KeepsAll b → fetched_piece b tag ≡ piece_of b tag }
     ensures holds { (b : Table) (tag : Version) (step : ℕ) → KeepsAll b → HoldsPiece b tag step ↔ HadPiece b tag step }
+{}
+
+/// A law: what a bank remembers once it has forgotten the tags below its floor. It keeps the row of each other tag as
+/// it was, with its piece. So it has no more bytes than before, and if everything that it had recorded happened before
+/// `now`, so did everything that it remembers. It makes no difference whether it drops pieces before it forgets or
+/// after.
+pub fn remembered_banks_leave_out_rows()
+    ensures rows { (b : Table) (tag : Version)
+        → map.get (remembered b).rows tag ≡ (if is_forgotten b tag then None else map.get b.rows tag) }
+
+    ensures pieces { (b : Table) (tag : Version) (piece : Fragment)
+        → piece_of (remembered b) tag ≡ Some piece → piece_of b tag ≡ Some piece }
+
+    ensures bytes { (b : Table) → bank_bytes (remembered b) ≤ bank_bytes b }
+    ensures order { (b : Table) (now : ℕ) → IsBefore b now → IsBefore (remembered b) now }
+    ensures dropped { (b : Table) → remembered (collected b) ≡ collected (remembered b) }
+    ensures kept { (b : Table) → IsCollected b → IsCollected (remembered b) }
+{}
+
+/// A law: a bank with `delta` remembers at most `delta` + 1 finalized tags besides the opening tag.
+pub fn few_are_remembered()
+    ensures { (b : Table) (delta : ℕ) → b.delta ≡ Some delta → finals_above (remembered b) opening_tag ≤ delta + 1 }
+{}
+
+/// A law: a bank that has forgotten the tags below its floor answers each request as the whole bank does.
+pub fn remembered_banks_answer_the_same()
+    ensures answers { (b : Table) (q : Asked) → answer_to (remembered b) q ≡ answer_to b q }
+    ensures replies { (b : Table) (q : Asked) (now : ℕ) → reply_to (remembered b) q now ≡ reply_to b q now }
+{}
+
+/// A law: a bank that forgets after each request comes to remember exactly what the whole bank would remember if it
+/// served the same requests and forgot only then. The same is true if both are retired. A bank that was just opened has
+/// nothing to forget, and neither has a bank that has just forgotten.
+pub fn remembered_banks_go_on_the_same()
+    ensures opened { (point : ℕ) (delta : Option ℕ) (now : ℕ)
+        → remembered (opened_bank point delta now) ≡ opened_bank point delta now }
+
+    ensures again { (b : Table) → remembered (remembered b) ≡ remembered b }
+    ensures served { (b : Table) (q : Asked) (now : ℕ)
+        → remembered (served_bank (remembered b) q now) ≡ remembered (served_bank b q now) }
+
+    ensures retired { (b : Table) (now : ℕ) → remembered (retired_bank b now) ≡ retired_bank (remembered b) now }
+{}
+
+/// A law: a request that names a tag below the floor changes nothing of what a bank remembers, if the bank has exactly
+/// the pieces that it is to keep. A fetch of such a tag returns no piece, and the tag stays below the floor.
+pub fn forgotten_tags_change_nothing()
+    ensures unchanged { (b : Table) (q : Asked) (now : ℕ) → IsCollected b → names_forgotten b q ≡ true
+        → remembered (served_bank (remembered b) q now) ≡ remembered b }
+
+    ensures fetched { (b : Table) (tag : Version) → is_forgotten b tag ≡ true → fetched_piece b tag ≡ None }
+    ensures stays { (b : Table) (q : Asked) (now : ℕ) (tag : Version)
+        → is_forgotten b tag ≡ true → is_forgotten (served_bank b q now) tag ≡ true }
 {}

@@ -1,4 +1,5 @@
 ghost use Rattle.std.specs.Prelude.{◌≡◌};
+ghost use Rattle.bank.specs.Floor.{floor_of};
 ghost use Rattle.bank.specs.Window.{excludes, is_excluded, admitted, after_final, late_tag, opened_window};
 ghost use Rattle.bank.specs.Window.{opened_windows};
 
@@ -79,6 +80,16 @@ pub fn is_excluded(window: Option<Window>, tag: Tag) -> bool
     match window {
         Some(window) => window.excludes(tag),
         None => false,
+    }
+}
+
+// The floor: the least tag of the window, if there is a window and it is full.
+pub fn floor(window: Option<Window>) -> Option<Tag>
+    ensures { result ≡ floor_of window }
+{
+    match window {
+        Some(window) if window.above == window.delta => Some(window.least),
+        _ => None,
     }
 }
 

@@ -10,6 +10,8 @@ const FIRST: Tag = Tag { number: 1, call: 1 };
 
 const SECOND: Tag = Tag { number: 2, call: 2 };
 
+const THIRD: Tag = Tag { number: 3, call: 3 };
+
 // What a bank answers, where each piece is the one that is always pre-written.
 enum Said {
     Done,
@@ -24,6 +26,7 @@ enum Deed {
     // The step, the request, where what is pre-written is always the same piece, and what is said to it.
     Serve(Stamp, Kind, Said),
     Retire(Stamp),
+    Forget,
     Bytes(u64),
     Pointer(Pointer),
     // How many tags there are.
@@ -102,6 +105,10 @@ fn is_done(bank: &mut Bank, deed: &Deed) -> bool {
         Deed::Serve(step, kind, said) => serves(bank, *step, *kind, said),
         Deed::Retire(step) => {
             bank.retire(*step);
+            true
+        }
+        Deed::Forget => {
+            bank.forget();
             true
         }
         Deed::Bytes(bytes) => bank.bytes_anew() == *bytes,
@@ -231,4 +238,43 @@ static TWO_AND_THEN_NONE: [Deed; 10] = [
 #[test]
 fn keeps_two_and_then_none(rt: HostRuntime) {
     assert_story(&rt, rt.alloc(), Some(1), &TWO_AND_THEN_NONE);
+}
+
+// With delta 0 nothing below the newest final tag is remembered, but for the opening tag: not a final tag, and not one
+// that is only pre-written, whose piece was still there. A late piece for a forgotten tag is forgotten too.
+static ONE_REMEMBERED: [Deed; 16] = [
+    Deed::Serve(2, Kind::PreWrite(FIRST), Said::Done),
+    Deed::Forget,
+    Deed::Count(2),
+    Deed::Serve(3, Kind::Finalize(SECOND), Said::Done),
+    Deed::Serve(4, Kind::PreWrite(THIRD), Said::Done),
+    Deed::Bytes(6),
+    Deed::Forget,
+    Deed::Count(3),
+    Deed::Kept(0, Tag::OPENING, Label::Finalized { since: 1 }, Some(1)),
+    Deed::Kept(1, SECOND, Label::Finalized { since: 3 }, None),
+    Deed::Kept(2, THIRD, Label::PreWritten { since: 4 }, Some(4)),
+    Deed::Bytes(3),
+    Deed::Serve(5, Kind::PreWrite(FIRST), Said::Done),
+    Deed::Serve(6, Kind::Fetch(FIRST), Said::NoPiece),
+    Deed::Forget,
+    Deed::Count(3),
+];
+
+#[test]
+fn forgets_what_is_below_the_floor(rt: HostRuntime) {
+    assert_story(&rt, rt.alloc(), Some(0), &ONE_REMEMBERED);
+}
+
+// Without delta nothing is forgotten.
+static ALL_REMEMBERED: [Deed; 4] = [
+    Deed::Serve(2, Kind::Finalize(FIRST), Said::Done),
+    Deed::Serve(3, Kind::Finalize(SECOND), Said::Done),
+    Deed::Forget,
+    Deed::Count(3),
+];
+
+#[test]
+fn forgets_nothing_without_delta(rt: HostRuntime) {
+    assert_story(&rt, rt.alloc(), None, &ALL_REMEMBERED);
 }

@@ -11,6 +11,7 @@ impl Bank {
     ghost use Rattle.std.specs.FinMap as map;
     ghost use Rattle.bank.specs.Bytes.{bank_bytes};
     ghost use Rattle.bank.specs.Collect.{IsCollected, fetched_piece};
+    ghost use Rattle.bank.specs.Floor.{is_forgotten};
 
     /// Returns the pointer to the next position.
     pub fn pointer(&self) -> Pointer
@@ -76,6 +77,14 @@ impl Bank {
         ensures { result ≡ min (bank_bytes self.now) (2 ^ 64 - 1) }
     {
         rows::bytes(&self.rows)
+    }
+
+    /// Returns whether the bank may forget the tag, because no answer depends on it any more. It may if the tag is not
+    /// the opening tag, the bank has a `delta`, and it has finalized `delta` + 1 or more greater tags.
+    pub fn is_forgotten(&self, tag: Tag) -> bool
+        ensures { result ≡ is_forgotten self.now tag }
+    {
+        !tag.is(Tag::OPENING) && window::is_excluded(self.window, tag)
     }
 
     /// A copy of the piece that a fetch of the tag returns, if there is one.
