@@ -1,8 +1,10 @@
 pub mod CutEntryLemmas
 pub mod EntryLemmas
+pub mod FoldLemmas
 pub mod HeadLemmas
 pub mod MovedLemmas
 pub mod ReadEntryLemmas
+pub mod RunLemmas
 pub mod ShiftLemmas
 pub mod StateLemmas
 pub mod TableLemmas

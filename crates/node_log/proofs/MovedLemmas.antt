@@ -7,11 +7,12 @@ use Rattle.std.proofs.lemmas.Nat.{xor_lt, from_be_bytes-to_be_bytes_4}
 use Rattle.gf256.proofs.AdditiveFunctionLemmas.{xor_cancel, eq-xor_zero}
 use Rattle.frames.specs.Frame.{frame_bytes}
 use Rattle.node_log.specs.Crc32c.{after_byte, after_bytes, all_bits}
+use Rattle.node_log.specs.Folding.{by_bytes}
 use Rattle.node_log.specs.Entry.{IsHead, chain_after, described, digest_behind, digest_of, log_entry_bytes}
 use Rattle.node_log.specs.Reading.{body_length}
 use Rattle.node_log.specs.Laws.{MovedIsDamaged}
 use Rattle.node_log.proofs.ShiftLemmas.{shifted_by_lt}
-use Rattle.node_log.proofs.StateLemmas.{added_is_zero, after_sum, by_bytes, by_bytes_zero, same_terms}
+use Rattle.node_log.proofs.StateLemmas.{added_is_zero, after_sum, by_bytes_zero, same_terms}
 use Rattle.node_log.proofs.HeadLemmas.{last_of_head, number_of, says_of_head}
 use Rattle.node_log.proofs.EntryLemmas.{parts}
 use Rattle.node_log.proofs.CutEntryLemmas.{last_byte}

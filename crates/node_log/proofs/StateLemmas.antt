@@ -2,16 +2,12 @@
 use Rattle.std.proofs.Common.{◌≡◌, ℕ, zero, suc, ◌/◌, ◌%◌, ◌^◌, ◌<◌, List, [], ◌∷◌, ◌++◌, length, bit_xor}
 use Rattle.std.proofs.Common.{refl, sym, ap, ◌∙◌, arith}
 use Rattle.std.specs.Int.Bits.{xor_assoc, xor_comm, xor_self}
-use Rattle.std.proofs.lemmas.Nat.{xor_lt}
+use Rattle.std.proofs.lemmas.Nat.{xor_lt, xor_mod, xor_shr}
 use Rattle.std.proofs.lemmas.List.Sums.{fold-append}
 use Rattle.gf256.proofs.AdditiveFunctionLemmas.{xor_cancel, eq-xor_zero}
 use Rattle.node_log.specs.Crc32c.{shifted_by, after_byte, after_bytes, crc32c, all_bits, ChangesAreNoticed}
+use Rattle.node_log.specs.Folding.{by_bytes}
 use Rattle.node_log.proofs.ShiftLemmas.{zero_xor, IsAdditive-shifted_by, after_byte_split, shifted_by_lt, shifted_by_zero}
-
--- a state that is shifted by n bytes
-abbrev pub by_bytes : ℕ → ℕ → ℕ
-by_bytes zero state = state
-by_bytes (suc n) state = by_bytes n (shifted_by 8 state)
 
 -- the last of three terms goes between the others
 pub xor_swap : (a b c : ℕ) → bit_xor (bit_xor a b) c ≡ bit_xor (bit_xor a c) b
@@ -24,6 +20,7 @@ after_byte_sum u v b = ap (shifted_by 8) (xor_swap u v b) ∙ (IsAdditive-shifte
 -- what is added to a state is shifted by all bytes that follow
 pub after_sum : (bytes : List ℕ) (u v : ℕ)
     → after_bytes (bit_xor u v) bytes ≡ bit_xor (after_bytes u bytes) (by_bytes (length bytes) v)
+unfolding by_bytes
 after_sum [] u v = refl
 after_sum (b ∷ bytes) u v =
     ap (λ (t : ℕ). after_bytes t bytes) (after_byte_sum u v b) ∙ after_sum bytes (after_byte u b) (shifted_by 8 v)
@@ -36,7 +33,7 @@ peel s b bytes =
     ∙ after_sum bytes (s / 256) (shifted_by 8 (bit_xor (s % 256) b))
 
 -- the same where the state is zero
-peel_zero : (b : ℕ) (bytes : List ℕ)
+pub peel_zero : (b : ℕ) (bytes : List ℕ)
     → after_bytes 0 (b ∷ bytes) ≡ bit_xor (after_bytes 0 bytes) (by_bytes (length bytes) (shifted_by 8 b))
 peel_zero b bytes =
     peel 0 b bytes
@@ -48,11 +45,17 @@ term n b = by_bytes n (shifted_by 8 b)
 
 four : (b c d e : ℕ) → after_bytes 0 (b ∷ c ∷ d ∷ e ∷ [])
     ≡ bit_xor (bit_xor (bit_xor (term 0 e) (term 1 d)) (term 2 c)) (term 3 b)
+unfolding by_bytes
 four b c d e =
     peel_zero b (c ∷ d ∷ e ∷ [])
     ∙ ap (λ (t : ℕ). bit_xor t (term 3 b)) (peel_zero c (d ∷ e ∷ [])
     ∙ ap (λ (t : ℕ). bit_xor t (term 2 c)) (peel_zero d (e ∷ [])
     ∙ ap (λ (t : ℕ). bit_xor t (term 1 d)) (peel_zero e [] ∙ zero_xor (term 0 e))))
+
+-- a byte of a sum
+pub byte_of_sum : (a b k x : ℕ) → b / 2 ^ k % 2 ^ 8 ≡ x → bit_xor a b / 2 ^ k % 2 ^ 8 ≡ bit_xor (a / 2 ^ k % 2 ^ 8) x
+byte_of_sum a b k x is =
+    ap (λ (t : ℕ). t % 2 ^ 8) (xor_shr a b k) ∙ xor_mod (a / 2 ^ k) (b / 2 ^ k) 8 ∙ ap (bit_xor (a / 2 ^ k % 2 ^ 8)) is
 
 -- eight bytes
 pub eight : (s s1 s2 s3 a b c d e f g h : ℕ) → s1 ≡ s / 256 → s2 ≡ s1 / 256 → s3 ≡ s2 / 256 → s3 / 256 ≡ 0
@@ -78,6 +81,7 @@ eight s s1 s2 s3 a b c d e f g h is1 is2 is3 is4 =
 -- ---- a changed byte
 
 pub by_bytes_zero : (n s : ℕ) → s < 2 ^ 32 → by_bytes n s ≡ 0 → s ≡ 0
+unfolding by_bytes
 by_bytes_zero zero s h e = e
 by_bytes_zero (suc n) s h e =
     shifted_by_zero 8 s h (by_bytes_zero n (shifted_by 8 s) (shifted_by_lt 8 s h) e)

@@ -72,7 +72,7 @@ zeros_behind_part place xs ys within zeros i h =
 abbrev zeros_of : ℕ → List ℕ
 zeros_of n = replicate n 0
 
-replicated : (n i : ℕ) → get_or (zeros_of n) i 0 ≡ 0
+pub replicated : (n i : ℕ) → get_or (zeros_of n) i 0 ≡ 0
 replicated n i =
     let none : ℕ = 0 in
     ⊎_elim (λ low. get_or-replicate n i none none low) (λ high. get_or_past (zeros_of n) i 0 (omega (arith, length-replicate n none)))

@@ -1,9 +1,9 @@
-//! The state of the check after bytes, of which eight are taken at a time.
+//! The state of the check after bytes.
 ghost use Rattle.std.specs.Prelude.{◌≡◌, length, slice_index};
 ghost use Rattle.node_log.specs.Crc32c.{after_byte, after_bytes, crc32c};
 
-use crate::far_tables::{BY_EIGHT, BY_FIVE, BY_SEVEN, BY_SIX};
-use crate::near_tables::{BY_FOUR, BY_ONE, BY_THREE, BY_TWO};
+use crate::folding::{MANY, after_many};
+use crate::tables::{FAR, NEAR};
 
 /// The CRC-32C of bytes.
 pub fn checksum(bytes: &[u8]) -> u32
@@ -14,6 +14,17 @@ pub fn checksum(bytes: &[u8]) -> u32
 
 /// The state after bytes.
 pub(crate) fn after_bytes(state: u32, bytes: &[u8]) -> u32
+    ensures { result ≡ after_bytes state bytes.now }
+{
+    if bytes.len() < MANY {
+        after_few(state, bytes)
+    } else {
+        after_many(state, bytes)
+    }
+}
+
+/// The state after bytes, of which eight are taken at a time.
+pub(crate) fn after_few(state: u32, bytes: &[u8]) -> u32
     ensures { result ≡ after_bytes state bytes.now }
 {
     let mut state = state;
@@ -41,23 +52,24 @@ fn after_byte(state: u32, byte: u8) -> u32
     ensures { result ≡ after_byte state byte }
 {
     let low = state.to_le_bytes();
-    (state >> 8) ^ shifted(&BY_ONE, low[0] ^ byte)
+    (state >> 8) ^ shifted(&NEAR[0], low[0] ^ byte)
 }
 
 // The state after eight bytes. Each byte, and each of the state's own, is shifted by itself, as far as the bytes
-// behind it shift it, and the sum of all is the new state.
+// behind it shift it, and the sum of all is the new state. The state is added to the first four bytes at once.
 fn after_eight(state: u32, bytes: &[u8; 8]) -> u32
     ensures { result ≡ after_bytes state bytes.now }
 {
-    let low = state.to_le_bytes();
-    shifted(&BY_ONE, bytes[7])
-        ^ shifted(&BY_TWO, bytes[6])
-        ^ shifted(&BY_THREE, bytes[5])
-        ^ shifted(&BY_FOUR, bytes[4])
-        ^ shifted(&BY_FIVE, low[3] ^ bytes[3])
-        ^ shifted(&BY_SIX, low[2] ^ bytes[2])
-        ^ shifted(&BY_SEVEN, low[1] ^ bytes[1])
-        ^ shifted(&BY_EIGHT, low[0] ^ bytes[0])
+    let first = u32::from_le_bytes([bytes[0], bytes[1], bytes[2], bytes[3]]);
+    let sums = (state ^ first).to_le_bytes();
+    shifted(&NEAR[0], bytes[7])
+        ^ shifted(&NEAR[1], bytes[6])
+        ^ shifted(&NEAR[2], bytes[5])
+        ^ shifted(&NEAR[3], bytes[4])
+        ^ shifted(&FAR[0], sums[3])
+        ^ shifted(&FAR[1], sums[2])
+        ^ shifted(&FAR[2], sums[1])
+        ^ shifted(&FAR[3], sums[0])
 }
 
 // The entry of a table of shifted states.
