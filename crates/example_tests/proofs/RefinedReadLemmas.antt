@@ -5,10 +5,9 @@ use Rattle.tag.specs.Tag.{opening_tag}
 use Rattle.layout.specs.Layout.{Layout}
 use Rattle.bank.specs.Bank.{opened_bank}
 use Rattle.bank.specs.Pointer.{status_of}
-use Rattle.bank.specs.Serve.{served_bank}
 use Rattle.bank.specs.declared.request.Request.TheVariants as request
 use Rattle.bank.specs.declared.status.Status.TheVariants.{Unset}
-use Rattle.local_object.specs.ChangedBanks.{changes_bank}
+use Rattle.local_object.specs.ChangedBanks.{bank_after, changes_bank}
 use Rattle.local_object.specs.Local.{bank_or_opened}
 use Rattle.refinement.specs.Systems.{MayRunIn, System, system_run}
 use Rattle.example_tests.specs.RecordExamples.{whole}
@@ -90,7 +89,7 @@ settles = (
 
 -- whether or not node 0 keeps a bank after the fetch, the bank's pointer is unset
 still_unset : (keeps : Bool) →
-    status_of (bank_or_opened (cond keeps (Some (served_bank (opened_bank 0 None 0) (request.Fetch opening_tag) 0)) None) 0 None).pointer
+    status_of (bank_or_opened (cond keeps (Some (bank_after (opened_bank 0 None 0) (request.Fetch opening_tag))) None) 0 None).pointer
     ≡ Unset
 still_unset true = refl
 still_unset false = refl

@@ -57,7 +57,7 @@ begins_phase call = SystemEvent.Acts 1 (LocalEvent.Advance call)
 abbrev pub write_begun : List SystemEvent
 write_begun = SystemEvent.Acts 1 (LocalEvent.BeginWrite 7 letter) ∷ exchanged 7 1 request.Next (Pointer Unset)
 
--- and of no tag but the opening tag
+-- node 1 begins to write: node 0 knows of no later position and, when asked next, of no tag but the opening tag
 abbrev pub write_asked : List SystemEvent
 write_asked = write_begun ++ (begins_phase 7 ∷ exchanged 7 2 request.Query (Greatest opening_tag))
 
@@ -83,7 +83,7 @@ restarted system = SystemEvent.Restarts 0 (system.objects 0) ∷ []
 abbrev pub read_begun : List SystemEvent
 read_begun = SystemEvent.Acts 1 (LocalEvent.BeginRead 3) ∷ exchanged 3 1 request.Next (Pointer Unset)
 
--- and of no tag but the opening tag
+-- node 1 begins to read: node 0 knows of no later position and, when asked next, of no tag but the opening tag
 abbrev pub read_asked : List SystemEvent
 read_asked = read_begun ++ (begins_phase 3 ∷ exchanged 3 2 request.Query (Greatest opening_tag))
 

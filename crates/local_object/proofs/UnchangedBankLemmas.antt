@@ -1,11 +1,11 @@
 -- Banks that are in order, and requests that do not change them.
-use Rattle.std.proofs.Common.{◌≡◌, ℕ, Bool, true, false, cond, not, Option, Some, None, IsSome, option_map, inl, inr}
-use Rattle.std.proofs.Common.{Result, Ok, Err, OnOk, OnErr, refl, sym, subst, ap, ◌∙◌}
+use Rattle.std.proofs.Common.{◌≡◌, ℕ, Bool, true, false, cond, not, ◌&&◌, ◌||◌, Option, Some, None, IsSome, inl, inr}
+use Rattle.std.proofs.Common.{Result, Ok, Err, OnOk, OnErr, refl, sym, subst, ap, ◌∙◌, arith}
 use Rattle.std.specs.FinMap as map
 use Rattle.std.proofs.lemmas.Bool.{false≢true}
 use Rattle.tag.specs.declared.tag.Tag.{Tag}
 use Rattle.tag.specs.Tag.{opening_tag, tag_eq}
-use Rattle.tag.proofs.TagOrderLemmas.{tag_cmp_total, tag_cmp-IsAntisymmetric, tag_eq-true}
+use Rattle.tag.proofs.TagOrderLemmas.{opening_least, tag_cmp_total, tag_cmp-IsAntisymmetric, tag_eq-true}
 use Rattle.bank.specs.declared.request.Request.{Request}
 use Rattle.bank.specs.declared.request.Request.TheVariants as request
 use Rattle.bank.specs.declared.row.Label.{Label}
@@ -16,16 +16,19 @@ use Rattle.bank.specs.declared.status.Pointer.TheVariants as pointer
 use Rattle.bank.specs.declared.status.Status.{Status}
 use Rattle.bank.specs.declared.status.Status.TheVariants as status
 use Rattle.bank.specs.Bank.{Bank, finalized, finalized_label, opened_bank, row_after_finalize, with_pointer, with_rows}
-use Rattle.bank.specs.Collect.{IsCollected, collected, emptied_row}
-use Rattle.bank.specs.Knowledge.{final_step, finalized_at, is_dropped, row_finalized, since, status_le}
+use Rattle.bank.specs.Collect.{collected}
+use Rattle.bank.specs.Floor.{is_forgotten, names_forgotten, remembered}
+use Rattle.bank.specs.Knowledge.{exceeds, final_step, finalized_at, finals_above, row_finalized, since, status_le}
 use Rattle.bank.specs.Pointer.{raised, status_of}
 use Rattle.bank.specs.Serve.{greatest_final, served_bank}
-use Rattle.bank.proofs.CollectedBankLemmas.{collected_is, empty-emptied}
 use Rattle.bank.proofs.GreatestTagLemmas.{greatest_final_is, opening-opened}
 use Rattle.bank.proofs.MonotoneLemmas.{served_grows}
-use Rattle.bank.proofs.PieceRetentionLemmas.{no_piece, opened_collected, served_collected}
+use Rattle.bank.proofs.FinalizedAboveLemmas.{above_less}
+use Rattle.bank.proofs.PieceRetentionLemmas.{alone, opened_collected, served_collected}
+use Rattle.bank.proofs.RememberedStepLemmas.{forgotten_unchanged}
+use Rattle.bank.proofs.RememberedBankLemmas.{collected_left, collected_same, opening-remembered, remembered_again, remembered-opened}
 use Rattle.bank.proofs.RowChangeLemmas.{Comes, get-with_row}
-use Rattle.local_object.specs.ChangedBanks.{changes_bank, kept_bank}
+use Rattle.local_object.specs.ChangedBanks.{bank_after, changes_bank, kept_bank}
 use Rattle.local_object.specs.Distinct.{IsBankInOrder, IsBankInOrderIfOpen}
 use Rattle.local_object.specs.Local.{bank_or_opened}
 
@@ -35,6 +38,7 @@ pub opened_in_order : (member : ℕ) (delta : Option ℕ) → IsBankInOrder (ope
 opened_in_order member delta = record {
   collected = opened_collected member delta 0;
   opening = opening-opened member delta 0;
+  remembered = remembered-opened member delta 0;
 }
 
 pub either_in_order : (bank : Option Bank) (member : ℕ) (delta : Option ℕ) → IsBankInOrderIfOpen bank
@@ -47,12 +51,26 @@ still_there None new comes some = absurd (false≢true some)
 still_there (Some step) new (inl same) some = subst IsSome (sym same) refl
 still_there (Some step) new (inr same) some = subst IsSome (sym same) refl
 
-pub served_in_order : (bank : Bank) (asked : Request) → IsBankInOrder bank → IsBankInOrder (served_bank bank asked 0)
-served_in_order bank asked order = record {
-  collected = served_collected bank asked 0 order.collected;
-  opening = still_there (finalized_at bank opening_tag) (finalized_at (served_bank bank asked 0) opening_tag)
-      ((served_grows bank asked 0).finalized opening_tag) order.opening;
-}
+pub served_in_order : (bank : Bank) (asked : Request) → IsBankInOrder bank → IsBankInOrder (bank_after bank asked)
+served_in_order bank asked order =
+    let served = served_bank bank asked 0 in record {
+      collected = collected_left served (served_collected bank asked 0 order.collected);
+      opening = subst IsSome (sym (opening-remembered served))
+          (still_there (finalized_at bank opening_tag) (finalized_at served opening_tag)
+          ((served_grows bank asked 0).finalized opening_tag) order.opening);
+      remembered = remembered_again served;
+    }
+
+-- a newly opened bank may forget no tag: no tag is finalized above another
+pub opened_forgets_none : (member : ℕ) (delta : Option ℕ) (tag : Tag) → is_forgotten (opened_bank member delta 0) tag ≡ false
+opened_forgets_none member delta tag =
+    let none = alone member delta 0 in
+    let less = above_less opening_tag tag (opening_least tag) (map.entries (opened_bank member delta 0).rows) in
+    let zero : finals_above (opened_bank member delta 0) tag ≡ 0 = omega (arith, none, less) in
+    ap (λ n. not (tag_eq tag opening_tag) && exceeds delta n) zero ∙ never delta (not (tag_eq tag opening_tag))
+  where
+    never : (o : Option ℕ) (b : Bool) → (b && exceeds o 0) ≡ false
+    never o b = grind arith
 
 -- What does not change a bank
 
@@ -90,44 +108,52 @@ finalized_again bank tag final =
         final_row (map.get bank.rows tag) final ∙ ap (map.get bank.rows) (sym (tag_eq-true t tag same))
     go t false other = refl
 
--- a bank that has exactly the pieces that it is to keep drops none
-collected_again : (bank : Bank) → IsCollected bank → collected bank ≡ bank
-collected_again bank is = sym (collected_is bank bank.rows (λ t. go t (is_dropped bank t) refl))
-  where
-    same : (o : Option Row) → o ≡ option_map (λ r. r) o
-    same None = refl
-    same (Some r) = refl
-
-    go : (t : Tag) (b : Bool) → is_dropped bank t ≡ b
-        → map.get bank.rows t ≡ option_map (λ (r : Row). cond b (emptied_row r) r) (map.get bank.rows t)
-    go t true drops = sym (empty-emptied (map.get bank.rows t) (no_piece bank is t drops))
-    go t false keeps = same (map.get bank.rows t)
-
 not_false : (b : Bool) → not b ≡ false → b ≡ true
 not_false true e = refl
 not_false false e = absurd (cc)
 
-finalize_again : (bank : Bank) (tag : Tag) → IsBankInOrder bank → not (tag_eq (greatest_final bank) tag) ≡ false
+finalize_again : (bank : Bank) (tag : Tag) → IsBankInOrder bank → tag_eq (greatest_final bank) tag ≡ true
     → collected (finalized bank tag 0) ≡ bank
 finalize_again bank tag order e =
-    let same = tag_eq-true (greatest_final bank) tag (not_false (tag_eq (greatest_final bank) tag) e) in
+    let same = tag_eq-true (greatest_final bank) tag e in
     let final = subst (λ t. IsSome (finalized_at bank t)) same (greatest_final_is bank order.opening).final in
-    ap collected (finalized_again bank tag final) ∙ collected_again bank order.collected
+    ap collected (finalized_again bank tag final) ∙ collected_same bank order.collected
+
+-- a bank that has no row to forget, and served a request that names a tag which it may forget
+forgets_again : (bank : Bank) (asked : Request) → IsBankInOrder bank → names_forgotten bank asked ≡ true
+    → bank_after bank asked ≡ bank
+forgets_again bank asked order forgotten =
+    ap (λ b. bank_after b asked) (sym order.remembered) ∙ forgotten_unchanged bank asked 0 order.collected forgotten
+    ∙ order.remembered
+
+-- either the tag is the greatest final one, or it is forgotten
+final_again : (bank : Bank) (asked : Request) (tag : Tag) → IsBankInOrder bank
+    → served_bank bank asked 0 ≡ collected (finalized bank tag 0)
+    → (final forgotten : Bool) → tag_eq (greatest_final bank) tag ≡ final → names_forgotten bank asked ≡ forgotten
+    → not (final || forgotten) ≡ false → bank_after bank asked ≡ bank
+final_again bank asked tag order is true forgotten e f n =
+    ap remembered (is ∙ finalize_again bank tag order e) ∙ order.remembered
+final_again bank asked tag order is false true e f n = forgets_again bank asked order f
+final_again bank asked tag order is false false e f n = absurd (cc)
 
 pub unchanged_bank : (bank : Bank) (asked : Request) → IsBankInOrder bank → changes_bank bank asked ≡ false
-    → served_bank bank asked 0 ≡ bank
-unchanged_bank bank request.Next order e = refl
-unchanged_bank bank (request.Spread status) order e = ap (with_pointer bank) (unraised bank.pointer status e)
-unchanged_bank bank request.Query order e = refl
-unchanged_bank bank (request.PreWrite tag piece) order e = absurd (cc)
-unchanged_bank bank (request.Finalize tag) order e = finalize_again bank tag order e
-unchanged_bank bank (request.Fetch tag) order e = finalize_again bank tag order e
+    → bank_after bank asked ≡ bank
+unchanged_bank bank request.Next order e = order.remembered
+unchanged_bank bank (request.Spread status) order e =
+    ap (λ p. remembered (with_pointer bank p)) (unraised bank.pointer status e) ∙ order.remembered
+unchanged_bank bank request.Query order e = order.remembered
+unchanged_bank bank (request.PreWrite tag piece) order e =
+    forgets_again bank (request.PreWrite tag piece) order (not_false (is_forgotten bank tag) e)
+unchanged_bank bank (request.Finalize tag) order e =
+    final_again bank (request.Finalize tag) tag order refl (tag_eq (greatest_final bank) tag) (is_forgotten bank tag) refl refl e
+unchanged_bank bank (request.Fetch tag) order e =
+    final_again bank (request.Fetch tag) tag order refl (tag_eq (greatest_final bank) tag) (is_forgotten bank tag) refl refl e
 
 -- The bank that is kept after a request
 
 -- it is the bank that served the request, also where it is not there, and counts as a newly opened one
 pub kept_served : (bank : Option Bank) (member : ℕ) (delta : Option ℕ) (asked : Request)
-    → bank_or_opened (kept_bank bank member delta asked) member delta ≡ served_bank (bank_or_opened bank member delta) asked 0
+    → bank_or_opened (kept_bank bank member delta asked) member delta ≡ bank_after (bank_or_opened bank member delta) asked
 kept_served (Some bank) member delta asked = refl
 kept_served None member delta asked = go (changes_bank opened asked) refl
   where
@@ -135,7 +161,7 @@ kept_served None member delta asked = go (changes_bank opened asked) refl
     opened = opened_bank member delta 0
 
     go : (b : Bool) → changes_bank opened asked ≡ b
-        → bank_or_opened (cond b (Some (served_bank opened asked 0)) None) member delta ≡ served_bank opened asked 0
+        → bank_or_opened (cond b (Some (bank_after opened asked)) None) member delta ≡ bank_after opened asked
     go true e = refl
     go false e = sym (unchanged_bank opened asked (opened_in_order member delta) e)
 
@@ -143,11 +169,19 @@ kept_served None member delta asked = go (changes_bank opened asked) refl
 pub kept_unchanged : (bank : Option Bank) (member : ℕ) (delta : Option ℕ) (asked : Request) → IsBankInOrderIfOpen bank
     → changes_bank (bank_or_opened bank member delta) asked ≡ false → kept_bank bank member delta asked ≡ bank
 kept_unchanged None member delta asked order e =
-    ap (λ b. cond b (Some (served_bank (opened_bank member delta 0) asked 0)) None) e
+    ap (λ b. cond b (Some (bank_after (opened_bank member delta 0) asked)) None) e
 kept_unchanged (Some bank) member delta asked order e = ap Some (unchanged_bank bank asked order e)
+
+-- a bank that a request opened is in order, if it is kept
+pub kept_opened_in_order : (member : ℕ) (delta : Option ℕ) (asked : Request) → IsBankInOrderIfOpen (kept_bank None member delta asked)
+kept_opened_in_order member delta asked = go (changes_bank (opened_bank member delta 0) asked)
+  where
+    go : (b : Bool) → IsBankInOrderIfOpen (cond b (Some (bank_after (opened_bank member delta 0) asked)) None)
+    go true = served_in_order (opened_bank member delta 0) asked (opened_in_order member delta)
+    go false = tt
 
 -- a bank that served a request, or was refused
 pub kept_in_order : {X E : Type 0} (r : Result X E) (old new : Bank) (asked : Request) → IsBankInOrder old
-    → OnOk r (new ≡ served_bank old asked 0) → OnErr r (new ≡ old) → IsBankInOrder new
+    → OnOk r (new ≡ bank_after old asked) → OnErr r (new ≡ old) → IsBankInOrder new
 kept_in_order (Ok x) old new asked order served same = subst IsBankInOrder (sym served) (served_in_order old asked order)
 kept_in_order (Err e) old new asked order served same = subst IsBankInOrder (sym same) order

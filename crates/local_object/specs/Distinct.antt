@@ -4,6 +4,7 @@ use Rattle.std.specs.Prelude.{◌≡◌, ◌≢◌, ℕ, List, [], ◌∷◌, Op
 use Rattle.tag.specs.Tag.{opening_tag}
 use Rattle.bank.specs.Bank.{Bank}
 use Rattle.bank.specs.Collect.{IsCollected}
+use Rattle.bank.specs.Floor.{remembered}
 use Rattle.bank.specs.Knowledge.{finalized_at}
 use Rattle.call.specs.Call.{OpenCall as Machine}
 use Rattle.local_object.specs.Local.{Place, heard_place, with_bank_here}
@@ -36,10 +37,11 @@ pub record IsPlaceAt (places : List Place) (number index : ℕ) : Type 0 where
   pub changed : (bank : Option Bank) →
       with_bank_here places number bank ≡ slice_set places index (record place { bank = bank })
 
--- a bank has exactly the pieces that it has to keep, and has finalized the opening tag
+-- a bank has exactly the pieces that it has to keep, has finalized the opening tag, and has no row that it may forget
 pub record IsBankInOrder (bank : Bank) : Type 0 where
   pub collected : IsCollected bank
   pub opening : IsSome (finalized_at bank opening_tag)
+  pub remembered : remembered bank ≡ bank
 
 -- the bank is in order, if there is one
 abbrev pub IsBankInOrderIfOpen : Option Bank → Type 0

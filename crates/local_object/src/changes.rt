@@ -1,6 +1,7 @@
 //! Which requests may change a bank.
 
 ghost use Rattle.std.specs.Prelude.{◌≡◌, ℕ, not, Option, option_copied};
+ghost use Rattle.bank.specs.Floor.{is_forgotten};
 ghost use Rattle.bank.specs.Knowledge.{status_le};
 ghost use Rattle.bank.specs.Pointer.{status_of};
 ghost use Rattle.bank.specs.Serve.{greatest_final};
@@ -32,8 +33,10 @@ pub(crate) fn is_changed(bank: Option<&Bank>, request: &Request) -> bool
     match request {
         Request::Next | Request::Query => false,
         Request::Spread(status) => rises(status_of(bank), *status),
-        Request::PreWrite(_, _) => true,
-        Request::Finalize(tag) | Request::Fetch(tag) => !greatest_of(bank).is(*tag),
+        Request::PreWrite(tag, _) => !forgets(bank, *tag),
+        Request::Finalize(tag) | Request::Fetch(tag) => {
+            !(greatest_of(bank).is(*tag) || forgets(bank, *tag))
+        }
     }
 }
 
@@ -62,6 +65,17 @@ fn status_of(bank: Option<&Bank>) -> Status
     match bank {
         Some(bank) => bank.pointer().status(),
         None => Status::Unset,
+    }
+}
+
+// Whether the bank may forget the tag.
+fn forgets(bank: Option<&Bank>, tag: Tag) -> bool
+    ensures { (member : ℕ) (delta : Option ℕ)
+        → result ≡ is_forgotten (bank_or_opened (option_copied bank.entry) member delta) tag }
+{
+    match bank {
+        Some(bank) => bank.is_forgotten(tag),
+        None => false,
     }
 }
 

@@ -1,6 +1,6 @@
 ghost use Rattle.std.specs.Prelude.{◌≡◌, ◌+◌, ◌<◌, ◌^◌, IfOk, IfErr, OnOk, IsSome, nat_lt, option_to_list};
 ghost use Rattle.tag.specs.declared.refusal.Refusal.TheVariants.{NoMemory};
-ghost use Rattle.local_object.specs.Local.{new_local, heard_place};
+ghost use Rattle.local_object.specs.Local.{new_local, heard_place, with_heard};
 ghost use Rattle.local_object.specs.Events.{learnt_from, served_here};
 ghost use Rattle.local_object.specs.Doing.{IsOutcome, has_member, is_served, serve_events};
 
@@ -8,7 +8,7 @@ use crate::calls::Calls;
 use crate::letters::letter_of;
 use crate::places::Places;
 use layout::Layout;
-use letter::Letter;
+use letter::{Letter, SharedLayout};
 use mail::{Body, Message};
 use std::alloc::Global;
 use std::marker::Model;
@@ -102,6 +102,18 @@ impl LocalObject {
         }
         self.learn(&letter)?;
         self.handle(letter)
+    }
+
+    /// The node hears of a position and its layout. Nothing changes if it had heard of the position before.
+    ///
+    /// `NoMemory` is the only refusal.
+    pub fn hear(&mut self, position: u32, layout: Layout) -> Result<(), Refusal>
+        ensures heard { OnOk result (self.new ≡ with_heard self.old position layout) }
+        ensures refused { IfErr result (λ e. e ≡ NoMemory) }
+    {
+        let layout = SharedLayout::new(self.alloc, layout)?;
+        self.places.learn(position, &layout)?;
+        Ok(())
     }
 
     // Whether the node serves the letter.

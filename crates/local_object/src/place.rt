@@ -1,10 +1,10 @@
 //! What a node keeps for one position.
 
-ghost use Rattle.std.specs.Prelude.{◌≡◌, ◌-◌, ◌^◌, min, IfOk, IfErr, OnOk, None, option_copied};
+ghost use Rattle.std.specs.Prelude.{◌≡◌, ◌-◌, ◌^◌, min, IfOk, IfErr, OnErr, OnOk, None, option_copied};
 ghost use Rattle.tag.specs.declared.refusal.Refusal.TheVariants.{NoMemory};
 ghost use Rattle.bank.specs.Bank.{opened_bank};
 ghost use Rattle.bank.specs.Serve.{reply_to};
-ghost use Rattle.local_object.specs.ChangedBanks.{kept_bank};
+ghost use Rattle.local_object.specs.ChangedBanks.{bank_after, kept_bank};
 
 use crate::changes::is_changed;
 use bank::{Bank, Reply, Request};
@@ -123,7 +123,7 @@ impl Place {
         ensures same { self.new.position ≡ self.old.position }
     {
         match &mut self.bank {
-            Some(bank) => bank.serve(request, 0),
+            Some(bank) => serve_short(bank, request),
             None => {
                 let (reply, bank) = serve_opened(alloc, member, delta, request)?;
                 self.bank = bank;
@@ -131,6 +131,18 @@ impl Place {
             }
         }
     }
+}
+
+// The bank serves a request, and then forgets the tags on which no answer depends any more.
+fn serve_short(bank: &mut Bank, request: &Request) -> Result<Reply, Refusal>
+    ensures bank { OnOk result (bank.new ≡ bank_after bank.old request.now) }
+    ensures reply { IfOk result (λ r. r ≡ reply_to bank.old request.now 0) }
+    ensures refused { IfErr result (λ e. e ≡ NoMemory) }
+    ensures unchanged { OnErr result (bank.new ≡ bank.old) }
+{
+    let reply = bank.serve(request, 0)?;
+    bank.forget();
+    Ok(reply)
 }
 
 // A newly opened bank serves a request as this member. Returns the reply, and the bank if the request may change it.
@@ -145,7 +157,7 @@ fn serve_opened(
     ensures refused { IfErr result (λ e. e ≡ NoMemory) }
 {
     let mut bank = Bank::new(alloc, member, delta, 0)?;
-    let reply = bank.serve(request, 0)?;
+    let reply = serve_short(&mut bank, request)?;
     if is_changed(None, request) {
         Ok((reply, Some(bank)))
     } else {

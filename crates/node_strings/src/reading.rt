@@ -2,7 +2,7 @@
 ghost use Rattle.std.specs.Prelude.{◌≡◌, IfSome, Some};
 ghost use Rattle.node_strings.specs.declared.record.Record.{Record as Kept};
 ghost use Rattle.node_strings.specs.Record.{HasPartsInRange, record_strings, record_at, record_from, start_record};
-ghost use Rattle.node_strings.specs.Record.{cluster_record, move_record};
+ghost use Rattle.node_strings.specs.Record.{cluster_record, hear_record, move_record};
 
 use crate::is_text;
 use crate::parts::{digest_of, layout_of, number_of, split, string_of};
@@ -48,6 +48,8 @@ fn read_behind(word: &[u8], rest: Frame) -> Option<Record>
         cluster_of(rest.strings())
     } else if is_text(word, b"move") {
         move_of(rest.into_strings())
+    } else if is_text(word, b"hear") {
+        hear_of(rest.into_strings())
     } else {
         None
     }
@@ -90,4 +92,21 @@ fn move_of(mut strings: Vec<Bytes>) -> Option<Record>
     let layout = layout_of(&strings[2])?;
     let name = strings.swap_remove(1);
     Some(Record::Move { id, name, layout })
+}
+
+#[tactic(auto, unfolding(crate::specs::Record::hear_record))]
+fn hear_of(mut strings: Vec<Bytes>) -> Option<Record>
+    ensures { result ≡ hear_record strings.items }
+{
+    if strings.len() != 3 {
+        return None;
+    }
+    let position = number_of(&strings[0], u64::from(u32::MAX))?;
+    let layout = layout_of(&strings[2])?;
+    let name = strings.swap_remove(1);
+    Some(Record::Hear {
+        position: position as u32,
+        name,
+        layout,
+    })
 }

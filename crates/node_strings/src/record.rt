@@ -25,4 +25,11 @@ pub enum Record {
         name: Bytes,
         layout: Layout,
     },
+    /// The node had heard of this position of the object of this name, with this layout. Only a log that was rewritten
+    /// has entries of this kind.
+    Hear {
+        position: u32,
+        name: Bytes,
+        layout: Layout,
+    },
 }

@@ -42,6 +42,16 @@ fn push_record(alloc: Global, strings: &mut Vec<Bytes>, it: &Record) -> Result<(
             push_shared(strings, name)?;
             push_layout(alloc, strings, layout)
         }
+        Record::Hear {
+            position,
+            name,
+            layout,
+        } => {
+            push_word(strings, b"hear")?;
+            push_number(alloc, strings, u64::from(*position))?;
+            push_shared(strings, name)?;
+            push_layout(alloc, strings, layout)
+        }
     }
 }
 

@@ -1,4 +1,5 @@
--- A bank that drops pieces once, after all requests, keeps the same as a bank that drops them after each request.
+-- A bank that drops pieces once, after all requests, keeps the same as a bank that drops them after each request; and a
+-- bank that forgets once remembers the same as a bank that forgets after each request.
 use Rattle.std.proofs.Common.{◌≡◌, ℕ, Bool, true, false, cond, ◌&&◌, ◌||◌, List, [], ◌∷◌, ◌++◌, Option, Some, is_some, option_map}
 use Rattle.std.proofs.Common.{sym, ap, ◌∙◌, refl, arith}
 use Rattle.std.specs.FinMap as map
@@ -10,12 +11,15 @@ use Rattle.bank.specs.declared.request.Request.{Request}
 use Rattle.bank.specs.declared.row.Row.{Row}
 use Rattle.bank.specs.Bank.{Bank, with_rows, row_after_pre_write, row_after_finalize, pre_written, finalized}
 use Rattle.bank.specs.Collect.{emptied_row, collected}
+use Rattle.bank.specs.Floor.{remembered}
 use Rattle.bank.specs.Knowledge.{since, final_step, finalized_at, exceeds, finals_above, is_dropped}
 use Rattle.bank.specs.Serve.{served_bank, uncollected_bank}
 use Rattle.bank.proofs.CollectedBankLemmas.{get-collected, collected_is, finalized_at-collected, is_dropped-collected, count-collected}
 use Rattle.bank.proofs.EntryCountLemmas.{one_if}
 use Rattle.bank.proofs.PieceRetentionLemmas.{dropped-finalized, dropped-pre_written}
+use Rattle.bank.proofs.RememberedStepLemmas.{remembered-served}
 use Rattle.bank.proofs.RowChangeLemmas.{with_row, get-with_row, finalized_at-finalized, finals-finalized}
+use Rattle.local_object.specs.ChangedBanks.{bank_after}
 use Rattle.object_letters.specs.Reached.{after_requests}
 
 -- a row without its piece where it is to be dropped
@@ -106,10 +110,15 @@ abbrev pub uncollected_after : Bank → List Request → Bank
 uncollected_after b [] = b
 uncollected_after b (q ∷ qs) = uncollected_after (uncollected_bank b q 0) qs
 
+-- the bank after these requests, each at step 0, if it forgets nothing
+abbrev pub whole_after : Bank → List Request → Bank
+whole_after b [] = b
+whole_after b (q ∷ qs) = whole_after (served_bank b q 0) qs
+
 -- all requests
-pub after_late : (u : Bank) (qs : List Request) → after_requests (collected u) qs ≡ collected (uncollected_after u qs)
+pub after_late : (u : Bank) (qs : List Request) → whole_after (collected u) qs ≡ collected (uncollected_after u qs)
 after_late u [] = refl
-after_late u (q ∷ qs) = ap (λ b. after_requests b qs) (served_late u q 0) ∙ after_late (uncollected_bank u q 0) qs
+after_late u (q ∷ qs) = ap (λ b. whole_after b qs) (served_late u q 0) ∙ after_late (uncollected_bank u q 0) qs
 
 pub uncollected_append : (u : Bank) (xs ys : List Request)
     → uncollected_after u (xs ++ ys) ≡ uncollected_after (uncollected_after u xs) ys
@@ -118,4 +127,10 @@ uncollected_append u (x ∷ xs) ys = uncollected_append (uncollected_bank u x 0)
 
 pub after_append : (b : Bank) (xs ys : List Request) → after_requests b (xs ++ ys) ≡ after_requests (after_requests b xs) ys
 after_append b [] ys = refl
-after_append b (x ∷ xs) ys = after_append (served_bank b x 0) xs ys
+after_append b (x ∷ xs) ys = after_append (bank_after b x) xs ys
+
+-- to forget after each request comes to the same as to forget once, after all of them
+pub after_remembered : (b : Bank) (qs : List Request) → after_requests (remembered b) qs ≡ remembered (whole_after b qs)
+after_remembered b [] = refl
+after_remembered b (q ∷ qs) =
+    ap (λ c. after_requests c qs) (remembered-served b q 0) ∙ after_remembered (served_bank b q 0) qs

@@ -11,17 +11,21 @@ use Rattle.bank.specs.declared.row.Row.{Row}
 use Rattle.bank.specs.declared.status.Pointer.TheVariants.{Unset}
 use Rattle.bank.specs.declared.status.Status.{Status}
 use Rattle.bank.specs.Bank.{Bank, opening_row, opened_bank, with_pointer}
-use Rattle.bank.specs.Collect.{emptied_row, kept_row, collected, IsCollected}
+use Rattle.bank.specs.Collect.{emptied_row, collected}
+use Rattle.bank.specs.Floor.{is_forgotten, remembered}
 use Rattle.bank.specs.Knowledge.{final_step, row_finalized, finalized_at, count_above, exceeds, finals_above, is_dropped}
 use Rattle.bank.specs.Pointer.{raised}
-use Rattle.bank.specs.Serve.{served_bank}
-use Rattle.bank.proofs.CollectedBankLemmas.{get-collected, collected_is, count-collected, empty-emptied}
+use Rattle.bank.proofs.CollectedBankLemmas.{get-collected, collected_is, count-collected}
 use Rattle.bank.proofs.EntryOrderLemmas.{t_true}
-use Rattle.bank.proofs.PieceRetentionLemmas.{opened_collected, no_piece}
+use Rattle.bank.proofs.ForgottenCountLemmas.{get-remembered}
+use Rattle.bank.proofs.PieceRetentionLemmas.{opened_collected}
+use Rattle.bank.proofs.RememberedBankLemmas.{collected_same, remembered_again, remembered-collected, remembered-opened}
 use Rattle.bank.proofs.RowChangeLemmas.{Table}
+use Rattle.local_object.specs.ChangedBanks.{bank_after}
 use Rattle.object_letters.specs.Reached.{IsReachedBank, after_requests}
 use Rattle.object_letters.specs.Requests.{pointer_requests, requests_to}
 use Rattle.object_letters.proofs.LateDroppingLemmas.{rest, uncollected_after, uncollected_append, after_late, after_append}
+use Rattle.object_letters.proofs.LateDroppingLemmas.{after_remembered, whole_after}
 use Rattle.object_letters.proofs.ReachedBankLemmas.{IsRecorded, plain_bank}
 use Rattle.object_letters.proofs.ReachedBankLemmas.{get-opened, opened_opening, reached_plain}
 use Rattle.object_letters.proofs.RowsOfRequestsLemmas.{restored_if, entry_rows, rows_led, get-entry_rows}
@@ -122,49 +126,65 @@ module _ (point : ℕ) (delta : Option ℕ) (rows : Table) (s : Status) (recorde
       ∙ ap (λ d. option_map (rest d) (map.get led.rows t)) (dropped_alike t)
       ∙ row_alike t (is_dropped whole t) (λ dropped. dropped))
 
--- a bank that has exactly the pieces that it is to keep drops none
-collected_once : (b : Bank) → IsCollected b → b ≡ collected b
-collected_once b is = collected_is b b.rows (λ t. each t (is_dropped b t) refl)
-  where
-    each : (t : Tag) (d : Bool) → is_dropped b t ≡ d → map.get b.rows t ≡ option_map (kept_row b t) (map.get b.rows t)
-    each t true dropped = sym (ap (λ d. option_map (rest d) (map.get b.rows t)) dropped
-        ∙ empty-emptied (map.get b.rows t) (no_piece b is t dropped))
-    each t false kept = all (map.get b.rows t) ∙ sym (ap (λ d. option_map (rest d) (map.get b.rows t)) kept)
-      where
-        all : (o : Option Row) → o ≡ option_map (rest false) o
-        all None = refl
-        all (Some r) = refl
-
+-- a newly opened bank after these requests: it drops pieces, and then forgets, once at the end
 fresh_late : (point : ℕ) (delta : Option ℕ) (qs : List Request)
-    → after_requests (opened_bank point delta 0) qs ≡ collected (uncollected_after (opened_bank point delta 0) qs)
+    → after_requests (opened_bank point delta 0) qs ≡ remembered (collected (uncollected_after (opened_bank point delta 0) qs))
 fresh_late point delta qs =
-    ap (λ (b : Bank). after_requests b qs) (collected_once (opened_bank point delta 0) (opened_collected point delta 0))
-    ∙ after_late (opened_bank point delta 0) qs
+    let fresh = opened_bank point delta 0 in
+    ap (λ (b : Bank). after_requests b qs) (sym (remembered-opened point delta 0))
+    ∙ after_remembered fresh qs
+    ∙ ap (λ (b : Bank). remembered (whole_after b qs)) (sym (collected_same fresh (opened_collected point delta 0)))
+    ∙ ap remembered (after_late fresh qs)
+
+-- the rows that a bank of recorded rows may not forget are recorded, and that of the opening tag is among them
+module _ (point : ℕ) (delta : Option ℕ) (rows : Table) (s : Status) (recorded : (t : Tag) → IsRecorded (map.get rows t))
+    (opening : map.get rows opening_tag ≡ Some (opening_row point 0)) where
+  abbrev left_rows : Table
+  left_rows = (remembered (plain_bank delta rows s)).rows
+
+  left_recorded : (t : Tag) → IsRecorded (map.get left_rows t)
+  left_recorded t = subst IsRecorded (sym (get-remembered (plain_bank delta rows s) t)) (go (is_forgotten (plain_bank delta rows s) t))
+    where
+      go : (c : Bool) → IsRecorded (cond c None (map.get rows t))
+      go true = tt
+      go false = recorded t
+
+  left_opening : map.get left_rows opening_tag ≡ Some (opening_row point 0)
+  left_opening =
+      get-remembered (plain_bank delta rows s) opening_tag ∙ opening
 
 -- where the bank is reached, the requests to it lead there
 pub requests_lead : (point : ℕ) (b : Bank) → IsReachedBank point b → after_requests (opened_bank point b.delta 0) (requests_to b) ≡ b
 requests_lead point b reached =
     let o = opened_bank point b.delta 0 in
     let plain = reached_plain point b.delta reached.0 in
-    let is : collected (plain_bank b.delta plain.rows plain.status) ≡ b =
-    ap collected (sym plain.is) ∙ sym (fresh_late point b.delta reached.0) ∙ reached.1 in
+    let whole = plain_bank b.delta plain.rows plain.status in
+    let rows = left_rows point b.delta plain.rows plain.status plain.recorded plain.opening in
+    let recorded = left_recorded point b.delta plain.rows plain.status plain.recorded plain.opening in
+    let opening = left_opening point b.delta plain.rows plain.status plain.recorded plain.opening in
+    let left = collected (plain_bank b.delta rows plain.status) in
+    let kept : remembered (collected whole) ≡ left = remembered-collected whole in
+    let is : left ≡ b =
+    sym kept ∙ ap (λ (x : Bank). remembered (collected x)) (sym plain.is) ∙ sym (fresh_late point b.delta reached.0) ∙ reached.1 in
     subst (λ (x : Bank). after_requests o (requests_to x) ≡ x) is (
-    fresh_late point b.delta (requests_to (collected (plain_bank b.delta plain.rows plain.status)))
-    ∙ ap collected (led_is point b.delta plain.rows plain.status plain.recorded plain.opening)
-    ∙ led_back point b.delta plain.rows plain.status plain.recorded plain.opening)
+    fresh_late point b.delta (requests_to left)
+    ∙ ap (λ (x : Bank). remembered (collected x)) (led_is point b.delta rows plain.status recorded opening)
+    ∙ ap remembered (led_back point b.delta rows plain.status recorded opening)
+    ∙ ap remembered (sym kept) ∙ remembered_again (collected whole) ∙ kept)
 
 -- Which banks are reached
 
 pub fresh_reached : (point : ℕ) (delta : Option ℕ) → IsReachedBank point (opened_bank point delta 0)
 fresh_reached point delta = ([], refl)
 
-delta_stays : (b : Bank) (q : Request) → (served_bank b q 0).delta ≡ b.delta
+-- a request changes no delta
+pub delta_stays : (b : Bank) (q : Request) → (bank_after b q).delta ≡ b.delta
 delta_stays b q = grind arith
 
-pub served_reached : (point : ℕ) (b : Bank) (q : Request) → IsReachedBank point b → IsReachedBank point (served_bank b q 0)
+pub served_reached : (point : ℕ) (b : Bank) (q : Request) → IsReachedBank point b → IsReachedBank point (bank_after b q)
 served_reached point b q reached = (
   reached.0 ++ q ∷ [],
   ap (λ d. after_requests (opened_bank point d 0) (reached.0 ++ q ∷ [])) (delta_stays b q)
       ∙ after_append (opened_bank point b.delta 0) reached.0 (q ∷ [])
-      ∙ ap (λ (b : Bank). served_bank b q 0) reached.1,
+      ∙ ap (λ (b : Bank). bank_after b q) reached.1,
 )

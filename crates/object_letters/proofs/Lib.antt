@@ -1,3 +1,4 @@
+pub mod HearingLemmas
 pub mod LateDroppingLemmas
 pub mod LeadableLemmas
 pub mod LeadingLemmas

@@ -55,7 +55,7 @@ found_among first places (other ∷ others) elsewhere found = (
   found_among first places others elsewhere.1 found.1,
 )
 
-all_found : (places : List Place) → HaveApartPositions places
+pub all_found : (places : List Place) → HaveApartPositions places
     → AllByRecursion (λ place. heard_place places place.position ≡ Some place) places
 all_found [] apart = tt
 all_found (first ∷ places) apart = (

@@ -6,19 +6,17 @@ use Rattle.std.proofs.lemmas.Option.{same_Some}
 use Rattle.layout.specs.Layout.{Layout, IsLawful}
 use Rattle.encoder.specs.Fragment.{fragment}
 use Rattle.bank.specs.Bank.{Bank, opened_bank}
-use Rattle.bank.specs.Serve.{served_bank}
 use Rattle.bank.specs.declared.kind.Kind.{Kind}
 use Rattle.bank.specs.declared.request.Request.{Request}
-use Rattle.bank.specs.declared.request.Request.TheVariants as request
 use Rattle.object_letters.specs.Reached.{IsReachedBank}
-use Rattle.object_letters.proofs.LeadingLemmas.{fresh_reached, served_reached}
+use Rattle.object_letters.proofs.LeadingLemmas.{delta_stays, fresh_reached, served_reached}
 use Rattle.mail.specs.declared.message.Body.{Body}
 use Rattle.mail.specs.declared.message.Body.TheVariants as body
 use Rattle.record.specs.declared.call.CallKind.{CallKind}
 use Rattle.record.specs.declared.stage.Stage.{Stage}
 use Rattle.open_calls.specs.OpenCalls.{NodeCall, due_phase, open_call, with_open, taking_open}
 use Rattle.letter.specs.declared.letter.Letter.{Letter}
-use Rattle.local_object.specs.ChangedBanks.{changes_bank, kept_bank}
+use Rattle.local_object.specs.ChangedBanks.{bank_after, changes_bank, kept_bank}
 use Rattle.local_object.specs.Local.{LocalObject, Place, added_place, bank_in, bank_or_opened, last_position}
 use Rattle.local_object.specs.Local.{layout_here, layout_in, with_heard, learnt_if, new_local, heard_place, with_bank_here}
 use Rattle.local_object.specs.Events.{LocalEvent, Outcome, advanced_at, advanced_here, begun_here, done_here, learnt_from, on_open_call}
@@ -119,19 +117,11 @@ all_with P p bank (place ∷ places) found e here all =
     go true e rest = (subst (λ (o : Place). P (record o { bank = bank })) (sym (same_Some place found e)) here, all.1)
     go false e rest = (all.0, rest e)
 
-delta_stays : (b : Bank) (q : Request) → (served_bank b q 0).delta ≡ b.delta
-delta_stays b request.Next = refl
-delta_stays b (request.Spread s) = refl
-delta_stays b request.Query = refl
-delta_stays b (request.PreWrite tag p) = refl
-delta_stays b (request.Finalize tag) = refl
-delta_stays b (request.Fetch tag) = refl
-
 -- the bank of a place served one request more
 served_own : (node : ℕ) (delta : Option ℕ) (place : Place) (member : ℕ) (asked : Request) → IsLawful place.layout
     → slice_get place.layout.members member ≡ Some node
     → (o : Option Bank) → IsOwnIfOpen node delta place o
-    → IsOwnBank node delta place (served_bank (bank_or_opened o member delta) asked 0)
+    → IsOwnBank node delta place (bank_after (bank_or_opened o member delta) asked)
 served_own node delta place member asked lawful named None own = record {
   member = member;
   named = named;
@@ -161,7 +151,7 @@ kept_own node delta place member asked lawful named (Some bank) own =
     served_own node delta place member asked lawful named (Some bank) own
 kept_own node delta place member asked lawful named None own = go (changes_bank (opened_bank member delta 0) asked)
   where
-    go : (b : Bool) → IsOwnIfOpen node delta place (cond b (Some (served_bank (opened_bank member delta 0) asked 0)) None)
+    go : (b : Bool) → IsOwnIfOpen node delta place (cond b (Some (bank_after (opened_bank member delta 0) asked)) None)
     go true = served_own node delta place member asked lawful named None tt
     go false = tt
 

@@ -7,14 +7,13 @@ use Rattle.std.proofs.lemmas.Option.{same_Some}
 use Rattle.layout.specs.Layout.{Layout}
 use Rattle.encoder.specs.Fragment.{fragment}
 use Rattle.bank.specs.Bank.{Bank}
-use Rattle.bank.specs.Serve.{served_bank}
 use Rattle.bank.specs.declared.request.Request.{Request}
 use Rattle.bank.specs.declared.request.Request.TheVariants as request
 use Rattle.bank.specs.declared.status.Status.TheVariants.{Unset, Pending, Final}
 use Rattle.object_letters.specs.Reached.{after_requests}
 use Rattle.record.specs.Legal.{is_move}
 use Rattle.letter.specs.declared.letter.Letter.{Letter}
-use Rattle.local_object.specs.ChangedBanks.{kept_bank}
+use Rattle.local_object.specs.ChangedBanks.{bank_after, kept_bank}
 use Rattle.local_object.specs.Doing.{is_member, is_served, names_node}
 use Rattle.local_object.specs.Events.{LocalEvent, all_done, learnt_from, next_in_request, served_here}
 use Rattle.local_object.specs.Local.{LocalObject, Place, bank_here, bank_in, heard_place, layout_here, with_heard, learnt_if}
@@ -147,12 +146,12 @@ module _ (moves : Type 0) (local : LocalObject) (place : Place) (member : ℕ)
     step_towards : IsTowards moves local (after_letter copy letter)
     step_towards = subst (IsTowards moves local) (sym after_is) (put moves local told p served told_towards)
 
-    step_bank : bank_here (after_letter copy letter) p member ≡ served_bank (bank_here copy p member) asked 0
+    step_bank : bank_here (after_letter copy letter) p member ≡ bank_after (bank_here copy p member) asked
     step_bank =
         ap (λ (c : LocalObject). bank_here c p member) after_is
         ∙ bank_with_here told p served member (ap is_some told_known)
         ∙ kept_served (bank_in (heard_place told.places p)) member told.delta asked
-        ∙ ap (λ (b : Bank). served_bank b asked 0) (told_bank p member)
+        ∙ ap (λ (b : Bank). bank_after b asked) (told_bank p member)
 
     step_others : (q other : ℕ) → (p ≡ q → ⊥) → bank_here (after_letter copy letter) q other ≡ bank_here copy q other
     step_others q other apart =

@@ -11,6 +11,7 @@ use Rattle.local_object.specs.Events.{LocalEvent, done_here}
 use Rattle.local_object.specs.Doing.{is_moving}
 use Rattle.local_object.specs.May.{MayHappenHere}
 use Rattle.local_object.specs.Restarts.{IsKeptHere}
+use Rattle.object_letters.specs.Hearing.{after_places}
 use Rattle.object_letters.specs.Leading.{HasNextPosition}
 use Rattle.object_letters.specs.Letters.{after_letters, letters_to}
 use Rattle.object_letters.specs.Rebuildable.{IsFit, IsRebuildable}
@@ -39,6 +40,12 @@ NewIsBlank = (mover : ℕ) (local : LocalObject) (first : Layout) → layout_her
     is_moving local ≡ false →
     (local.node ≡ mover → (position : ℕ) (layout : Layout) → layout_here local position ≡ Some layout → position ≡ 0) →
     IsBlankOf (local.node ≡ mover) local (new_local local.node local.delta first)
+
+-- a new object that has heard of all positions, where no move is open
+abbrev pub HeardIsBlank : Type 0
+HeardIsBlank = (mover : ℕ) (local : LocalObject) (first : Layout) → layout_here local 0 ≡ Some first →
+    is_moving local ≡ false → IsRebuildable local →
+    IsBlankOf (local.node ≡ mover) local (after_places (new_local local.node local.delta first) local.places)
 
 -- a new object is rebuildable
 abbrev pub NewIsRebuildable : Type 0

@@ -1,3 +1,4 @@
+pub mod Hearing
 pub mod Laws
 pub mod Leading
 pub mod Letters

@@ -1,5 +1,6 @@
 //! That letters lead back to an object, and of which objects this holds.
-ghost use Rattle.object_letters.specs.Laws.{LettersLeadBack, NewIsBlank, NewIsRebuildable, StaysRebuildable};
+ghost use Rattle.object_letters.specs.Laws.{HeardIsBlank, LettersLeadBack, NewIsBlank, NewIsRebuildable};
+ghost use Rattle.object_letters.specs.Laws.{StaysRebuildable};
 
 /// A law: if a copy of a rebuildable object is as a restart has to keep it, but for its banks, which have served
 /// nothing, and the node serves the letters to the object, then the copy is as a restart has to keep it.
@@ -11,6 +12,12 @@ pub fn letters_lead_back()
 /// position but the first.
 pub fn new_is_blank()
     ensures { NewIsBlank }
+{}
+
+/// A law: where no move is open, a new object is such a copy once it has heard of all positions of the object, also at
+/// a node that moves objects.
+pub fn heard_is_blank()
+    ensures { HeardIsBlank }
 {}
 
 /// A law: an object of which the node has not heard is rebuildable.

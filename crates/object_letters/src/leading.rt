@@ -5,27 +5,26 @@ ghost use Rattle.object_letters.specs.Leading.{can_be_led_to, is_place_led_to};
 
 use local_object::{LocalObject, Place};
 
-/// Whether the letters of `letters_of` lead a new object back to this one, by whether the node is the one that moves
-/// objects: no move is open, each position has a next one, and the node that moves objects has heard of no position but
-/// the first.
-pub fn can_be_led_to(local: &LocalObject, is_mover: bool) -> bool
-    ensures { result ≡ can_be_led_to is_mover local.now }
+/// Whether the letters of `letters_of` lead back to this object, from a new one that hears of its positions first: no
+/// move is open, and each position has a next one.
+pub fn can_be_led_to(local: &LocalObject) -> bool
+    ensures { result ≡ can_be_led_to local.now }
 {
-    !local.is_moving() && are_led_to(local.places(), is_mover)
+    !local.is_moving() && are_led_to(local.places())
 }
 
 // Whether letters can lead to each of these places.
-fn are_led_to(places: &[Place], is_mover: bool) -> bool
-    ensures { result ≡ list_all (is_place_led_to is_mover) places.now }
+fn are_led_to(places: &[Place]) -> bool
+    ensures { result ≡ list_all is_place_led_to places.now }
 {
-    places.iter().all(|place| is_led_to(place, is_mover))
+    places.iter().all(|place| is_led_to(place))
 }
 
-// Whether letters can lead to what the node keeps in a place.
-fn is_led_to(place: &Place, is_mover: bool) -> bool
-    ensures { result ≡ is_place_led_to is_mover place.now }
+// Whether letters can lead to what the node keeps in a place: there is a number for the position after this one.
+fn is_led_to(place: &Place) -> bool
+    ensures { result ≡ is_place_led_to place.now }
 {
-    has_next(place.position()) && (place.position() == 0 || !is_mover)
+    has_next(place.position())
 }
 
 // Whether there is a number for the position after this one.

@@ -6,7 +6,9 @@
 #![tactic(auto)]
 
 pub use bank_laws::{newly_opened_is_reached, requests_lead_there, serving_reaches};
-pub use laws::{letters_lead_back, new_is_blank, new_is_rebuildable, stays_rebuildable};
+pub use laws::{
+    heard_is_blank, letters_lead_back, new_is_blank, new_is_rebuildable, stays_rebuildable,
+};
 pub use leading::can_be_led_to;
 pub use letters::letters_of;
 pub use requests::requests_of;

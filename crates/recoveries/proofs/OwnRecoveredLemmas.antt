@@ -12,15 +12,18 @@ use Rattle.local_object.specs.declared.progress.Ended.{Ended}
 use Rattle.local_object.specs.Doing.{is_served, is_taken, serve_events}
 use Rattle.local_object.specs.Events.{LocalEvent, all_done}
 use Rattle.local_object.specs.Going.{next_if}
-use Rattle.local_object.specs.Local.{LocalObject, Place}
+use Rattle.layout.specs.Layout.{Layout}
+use Rattle.local_object.specs.Local.{LocalObject, Place, with_heard}
+use Rattle.local_object.proofs.HeardPlaceLemmas.{layout_stays}
+use Rattle.object_letters.proofs.RebuildableLemmas.{heard_rebuildable}
 use Rattle.local_object.specs.Taking.{AreSettling, IsReplyOutcome, call_events, can_begin, lead_events, machine_of, repeats}
 use Rattle.local_object.specs.Taking.{step_events}
 use Rattle.open_calls.specs.OpenCalls.{NodeCall, open_call}
 use Rattle.object_letters.specs.Rebuildable.{HasLawfulLayouts, IsFit}
-use Rattle.recoveries.specs.Records.{IsKeptUnder, LogRecord, RecoversOne}
+use Rattle.recoveries.specs.Records.{IsKeptUnder, IsNamedHearing, LogRecord, RecoversOne}
 use Rattle.recoveries.specs.RewrittenLaws.{HasLawfulLetter, RecoveringKeepsOwn}
 use Rattle.recoveries.specs.RewritingNodes.{HasOwnObjects}
-use Rattle.recoveries.proofs.OwnObjectLemmas.{done_own, same_own, starts_own}
+use Rattle.recoveries.proofs.OwnObjectLemmas.{done_own, put_own, same_own, starts_own}
 
 serve_fit : (local : LocalObject) (letter : Letter) → HasLawfulLayouts letter → AllByRecursion IsFit (serve_events local letter)
 serve_fit local letter lawful = go (is_served local letter)
@@ -71,6 +74,20 @@ take_own old new name letter local sent ended lawful put own true taken =
     )
     taken.leads.done put own
 
+-- a position that the node hears of
+hear_own : (old new : KeptNode) (name : List ℕ) (position : ℕ) (layout : Layout) → IsNamedHearing old name position layout new →
+    HasOwnObjects old → HasOwnObjects new
+hear_own old new name position layout heard own =
+    let local = old.objects name in
+    let is = own name in
+    put_own old new name (with_heard local position layout) heard.put (record {
+      node = is.node;
+      limit = is.limit;
+      first = layout_stays local position layout 0 (old.file.first name) is.first;
+      rebuildable = heard_rebuildable local position layout heard.lawful is.rebuildable;
+    }) own
+
+-- any record
 one_own : (old new : KeptNode) (it : LogRecord) → HasLawfulLetter it → RecoversOne it old new → HasOwnObjects old → HasOwnObjects new
 one_own old new LogRecord.Starts lawful started own = (starts_own old new own).1 started
 one_own old new (LogRecord.Serves name letter) lawful done own =
@@ -80,6 +97,7 @@ one_own old new (LogRecord.Takes name letter) lawful done own =
     take_own old new name letter done.local done.sent done.ended lawful done.put own (is_taken (old.objects name) letter) done.taken
 one_own old new (LogRecord.Moves name id layout) lawful done own =
     done_own old new name done.local (LocalEvent.BeginMove id layout ∷ []) done.sent (tt, tt) done.done done.put own
+one_own old new (LogRecord.Hears name position layout) lawful heard own = hear_own old new name position layout heard own
 
 pub recovered_own : RecoveringKeepsOwn
 recovered_own old new [] lawful same own = same_own old new own same.file same.node same.objects

@@ -3,7 +3,7 @@ use Rattle.std.proofs.Common.{ℕ, suc, ◌<◌, ◌^◌, cond, List, [], ◌∷
 use Rattle.deeds.specs.CallId.{CallIds}
 use Rattle.local_object.specs.Doing.{IsOutcome, is_taken, serve_events}
 use Rattle.local_object.specs.Events.{LocalEvent}
-use Rattle.local_object.specs.Local.{LocalObject}
+use Rattle.local_object.specs.Local.{LocalObject, with_heard}
 use Rattle.local_object.specs.Taking.{IsReplyOutcome}
 use Rattle.deeds.specs.Kept.{KeptNode}
 use Rattle.deeds.specs.Named.{is_same_name}
@@ -47,6 +47,11 @@ module _ (a b c : KeptNode) (same : IsSame a b) where
       }
   one_from (LogRecord.Serves name letter) done = done_from name (λ local. serve_events local letter) done
   one_from (LogRecord.Moves name id layout) done = done_from name (λ local. LocalEvent.BeginMove id layout ∷ []) done
+  one_from (LogRecord.Hears name position layout) heard = record {
+    lawful = heard.lawful;
+    put = put_from name (with_heard (a.objects name) position layout)
+        (subst (λ (l : LocalObject). IsKeptUnder b name (with_heard l position layout) c) (same.objects name) heard.put);
+  }
   one_from (LogRecord.Takes name letter) taken = record {
     local = taken.local;
     sent = taken.sent;

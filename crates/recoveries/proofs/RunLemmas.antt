@@ -6,7 +6,7 @@ use Rattle.letter.specs.declared.letter.Letter.{Letter}
 use Rattle.local_object.specs.declared.progress.Ended.{Ended}
 use Rattle.local_object.specs.Doing.{is_taken, serve_events}
 use Rattle.local_object.specs.Events.{LocalEvent, all_done, done_here}
-use Rattle.local_object.specs.Local.{LocalObject}
+use Rattle.local_object.specs.Local.{LocalObject, with_heard}
 use Rattle.local_object.specs.Taking.{IsReplyOutcome, repeats}
 use Rattle.local_object.specs.Restarts.{IsKeptHere}
 use Rattle.deeds.specs.Kept.{KeptNode, new_node}
@@ -84,6 +84,9 @@ module _ (a b c d : KeptNode) (same : IsSame a b) where
       one_done name (λ local. serve_events local letter) first second
   one_recovered (LogRecord.Moves name id layout) first second =
       one_done name (λ local. LocalEvent.BeginMove id layout ∷ []) first second
+  one_recovered (LogRecord.Hears name position layout) first second =
+      one_put a b c d name (with_heard (a.objects name) position layout) (with_heard (b.objects name) position layout) same
+      first.put second.put (ap (λ (l : LocalObject). with_heard l position layout) (same.objects name))
   one_recovered (LogRecord.Takes name letter) first second =
       one_put a b c d name first.local second.local same first.put second.put
       (one_taken (is_taken (a.objects name) letter) (a.objects name) letter first.local second.local first.sent second.sent

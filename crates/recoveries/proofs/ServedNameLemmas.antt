@@ -1,15 +1,17 @@
 -- What comes of the records of a log that is written anew, name by name.
-use Rattle.std.proofs.Common.{◌≡◌, ℕ, zero, suc, ◌+◌, Bool, true, false, cond, List, [], ◌∷◌, ◌++◌, map, refl, subst, ap, ◌∙◌, arith}
+use Rattle.std.proofs.Common.{◌≡◌, ℕ, zero, suc, ◌+◌, ◌==◌, Bool, true, false, cond, List, [], ◌∷◌, ◌++◌, map}
+use Rattle.std.proofs.Common.{refl, subst, ap, ◌∙◌, arith}
 use Rattle.letter.specs.declared.letter.Letter.{Letter}
-use Rattle.local_object.specs.Local.{LocalObject}
+use Rattle.local_object.specs.Local.{LocalObject, Place, with_heard}
 use Rattle.deeds.specs.Kept.{KeptNode}
 use Rattle.deeds.specs.Named.{is_same_name, with_named}
 use Rattle.deeds.proofs.NameLemmas.{names_decided, other_named, own_named, same_named, twice_named}
-use Rattle.recoveries.specs.Records.{LogRecord, Recovers}
+use Rattle.recoveries.specs.Records.{IsKeptUnder, IsSame, LogRecord, Recovers}
 use Rattle.recoveries.proofs.LoggedLemmas.{started_epoch, started_number}
 use Rattle.recoveries.proofs.NodeCopyLemmas.{same_self}
+use Rattle.object_letters.specs.Hearing.{after_place, after_places}
 use Rattle.object_letters.specs.Letters.{after_letter, after_letters, letters_as}
-use Rattle.recoveries.specs.RewrittenRecords.{epoch_records, is_among, object_records}
+use Rattle.recoveries.specs.RewrittenRecords.{epoch_records, is_among, records_of_name, object_records, place_records, places_records}
 use Rattle.recoveries.specs.RewritingNodes.{AreDistinctNames}
 
 -- records that follow others
@@ -44,65 +46,120 @@ all_started (suc count) old new recovers =
       objects = λ name. rest.objects name ∙ recovers.1.objects name;
     }
 
+-- What is kept under a name
+
+-- the node keeps the same under the name
+same_under : (old new : KeptNode) (name : List ℕ) → IsSame old new → IsKeptUnder old name (old.objects name) new
+same_under old new name same = record {
+  file = same.file;
+  node = same.node;
+  epoch = same.epoch;
+  objects = λ other. same.objects other ∙ same_named old.objects name other;
+}
+
+-- one thing is kept under the name, and then another
+then_under : (old middle new : KeptNode) (name : List ℕ) (first last : LocalObject) → IsKeptUnder old name first middle
+    → IsKeptUnder middle name last new → IsKeptUnder old name last new
+then_under old middle new name first last one rest = record {
+  file = rest.file ∙ one.file;
+  node = rest.node ∙ one.node;
+  epoch = rest.epoch ∙ one.epoch;
+  objects = λ other. rest.objects other
+      ∙ ap (λ (l : LocalObject). cond (is_same_name name other) last l) (one.objects other)
+      ∙ twice_named old.objects name first last other;
+}
+
+-- what is now the object of the name
+under_now : (old new : KeptNode) (name : List ℕ) (local : LocalObject) → IsKeptUnder old name local new
+    → new.objects name ≡ local
+under_now old new name local put = put.objects name ∙ own_named old.objects name local
+
+-- what is done to the object after the first change, said of the old object
+changed_under : (old middle new : KeptNode) (name : List ℕ) (first : LocalObject) (change : LocalObject → LocalObject)
+    → IsKeptUnder old name first middle → IsKeptUnder middle name (change (middle.objects name)) new
+    → IsKeptUnder old name (change first) new
+changed_under old middle new name first change one rest =
+    then_under old middle new name first (change first) one
+    (subst (λ (l : LocalObject). IsKeptUnder middle name (change l) new) (under_now old middle name first one) rest)
+
+-- Positions that the object of a name hears of
+
+-- one position, or none if it is position 0
+place_heard : (name : List ℕ) (place : Place) (old new : KeptNode) → Recovers (place_records name place) old new
+    → IsKeptUnder old name (after_place (old.objects name) place) new
+place_heard name place old new recovers = go (place.position == 0) recovers
+  where
+    go : (b : Bool) → Recovers (cond b [] (LogRecord.Hears name place.position place.layout ∷ [])) old new
+        → IsKeptUnder old name (cond b (old.objects name) (with_heard (old.objects name) place.position place.layout)) new
+    go true same = same_under old new name same
+    go false heard =
+        changed_under old heard.0 new name (with_heard (old.objects name) place.position place.layout) (λ local. local)
+        heard.1.put (same_under heard.0 new name heard.2)
+
+-- the positions of some places
+all_heard_at : (name : List ℕ) (places : List Place) (old new : KeptNode) → Recovers (places_records name places) old new
+    → IsKeptUnder old name (after_places (old.objects name) places) new
+all_heard_at name [] old new recovers = same_under old new name recovers
+all_heard_at name (place ∷ places) old new recovers =
+    let parts = parted (place_records name place) (places_records name places) old new recovers in
+    changed_under old parts.0 new name (after_place (old.objects name) place) (λ local. after_places local places)
+    (place_heard name place old parts.0 parts.1) (all_heard_at name places parts.0 new parts.2)
+
 -- Letters to the object of a name
 
-pub record HasServed (name : List ℕ) (letters : List Letter) (old new : KeptNode) : Type 0 where
-  pub file : new.file ≡ old.file
-  pub node : new.ids.node ≡ old.ids.node
-  pub epoch : new.ids.epoch ≡ old.ids.epoch
-  pub objects : (other : List ℕ)
-      → new.objects other ≡ with_named old.objects name (after_letters (old.objects name) letters) other
-
-pub all_served_to : (name : List ℕ) (letters : List Letter) (old new : KeptNode)
-    → Recovers (map (LogRecord.Serves name) letters) old new → HasServed name letters old new
-all_served_to name [] old new recovers = record {
-  file = recovers.file;
-  node = recovers.node;
-  epoch = recovers.epoch;
-  objects = λ other. recovers.objects other ∙ same_named old.objects name other;
-}
+-- the letters are served one after another
+all_served_to : (name : List ℕ) (letters : List Letter) (old new : KeptNode)
+    → Recovers (map (LogRecord.Serves name) letters) old new
+    → IsKeptUnder old name (after_letters (old.objects name) letters) new
+all_served_to name [] old new recovers = same_under old new name recovers
 all_served_to name (letter ∷ letters) old new recovers =
     let middle = recovers.0 in
-    let one = recovers.1 in
-    let rest = all_served_to name letters middle new recovers.2 in
-    let own : middle.objects name ≡ after_letter (old.objects name) letter =
-    one.put.objects name ∙ own_named old.objects name one.local ∙ one.done.local in record {
-      file = rest.file ∙ one.put.file;
-      node = rest.node ∙ one.put.node;
-      epoch = rest.epoch ∙ one.put.epoch;
-      objects = λ other.
-          let last = after_letters (after_letter (old.objects name) letter) letters in
-          rest.objects other
-          ∙ ap (λ (l : LocalObject). cond (is_same_name name other) (after_letters l letters) (middle.objects other)) own
-          ∙ ap (λ (l : LocalObject). cond (is_same_name name other) last l) (one.put.objects other)
-          ∙ twice_named old.objects name one.local last other;
-    }
+    let one : IsKeptUnder old name (after_letter (old.objects name) letter) middle =
+    subst (λ (l : LocalObject). IsKeptUnder old name l middle) recovers.1.done.local recovers.1.put in
+    changed_under old middle new name (after_letter (old.objects name) letter) (λ local. after_letters local letters)
+    one (all_served_to name letters middle new recovers.2)
 
--- Letters to the objects of all names
+-- All records of the object of a name
 
-pub record HaveServed (node : KeptNode) (names : List (List ℕ)) (old new : KeptNode) : Type 0 where
+-- what a copy of an object is after it hears of its positions, and then serves the letters to its banks
+abbrev pub rebuilt : (node : ℕ) → (local copy : LocalObject) → LocalObject
+rebuilt node local copy = after_letters (after_places copy local.places) (letters_as node local)
+
+-- the records make the object of the name that
+name_rebuilt : (node : ℕ) (name : List ℕ) (local : LocalObject) (old new : KeptNode)
+    → Recovers (records_of_name node name local) old new → IsKeptUnder old name (rebuilt node local (old.objects name)) new
+name_rebuilt node name local old new recovers =
+    let parts = parted (places_records name local.places) (map (LogRecord.Serves name) (letters_as node local)) old new recovers in
+    changed_under old parts.0 new name (after_places (old.objects name) local.places)
+    (λ copy. after_letters copy (letters_as node local)) (all_heard_at name local.places old parts.0 parts.1)
+    (all_served_to name (letters_as node local) parts.0 new parts.2)
+
+-- The records of all names
+
+-- what the new node keeps: of the objects of these names what the records say, and otherwise the same as before
+pub record AreRebuilt (node : KeptNode) (names : List (List ℕ)) (old new : KeptNode) : Type 0 where
   pub file : new.file ≡ old.file
   pub number : new.ids.node ≡ old.ids.node
   pub epoch : new.ids.epoch ≡ old.ids.epoch
   pub others : (name : List ℕ) → is_among names name ≡ false → new.objects name ≡ old.objects name
   pub own : (name : List ℕ) → is_among names name ≡ true
-      → new.objects name ≡ after_letters (old.objects name) (letters_as node.ids.node (node.objects name))
+      → new.objects name ≡ rebuilt node.ids.node (node.objects name) (old.objects name)
 
-pub all_names_served : (node : KeptNode) (names : List (List ℕ)) → AreDistinctNames names → (old new : KeptNode)
-    → Recovers (object_records node names) old new → HaveServed node names old new
-all_names_served node [] distinct old new recovers = record {
+-- the records of all objects are carried out
+pub all_rebuilt : (node : KeptNode) (names : List (List ℕ)) → AreDistinctNames names → (old new : KeptNode)
+    → Recovers (object_records node names) old new → AreRebuilt node names old new
+all_rebuilt node [] distinct old new recovers = record {
   file = recovers.file;
   number = recovers.node;
   epoch = recovers.epoch;
   others = λ name none. recovers.objects name;
   own = λ name there. absurd (cc);
 }
-all_names_served node (first ∷ names) distinct old new recovers =
-    let parts = parted (map (LogRecord.Serves first) (letters_as node.ids.node (node.objects first))) (object_records node names) old new
-    recovers in
+all_rebuilt node (first ∷ names) distinct old new recovers =
+    let parts = parted (records_of_name node.ids.node first (node.objects first)) (object_records node names) old new recovers in
     let middle = parts.0 in
-    let one = all_served_to first (letters_as node.ids.node (node.objects first)) old middle parts.1 in
-    let rest = all_names_served node names distinct.1 middle new parts.2 in record {
+    let one = name_rebuilt node.ids.node first (node.objects first) old middle parts.1 in
+    let rest = all_rebuilt node names distinct.1 middle new parts.2 in record {
       file = rest.file ∙ one.file;
       number = rest.number ∙ one.node;
       epoch = rest.epoch ∙ one.epoch;
@@ -110,31 +167,28 @@ all_names_served node (first ∷ names) distinct old new recovers =
       own = λ name there. go_own middle one.objects rest.others rest.own name (is_same_name first name) refl there;
     }
   where
+    made : LocalObject
+    made = rebuilt node.ids.node (node.objects first) (old.objects first)
+
     go_other : (middle : KeptNode)
-        → ((other : List ℕ) → middle.objects other
-        ≡ with_named old.objects first (after_letters (old.objects first) (letters_as node.ids.node (node.objects first))) other)
+        → ((other : List ℕ) → middle.objects other ≡ with_named old.objects first made other)
         → ((name : List ℕ) → is_among names name ≡ false → new.objects name ≡ middle.objects name)
         → (name : List ℕ) (b : Bool) → is_same_name first name ≡ b → cond b true (is_among names name) ≡ false
         → new.objects name ≡ old.objects name
     go_other middle one rest name true e none = absurd (cc)
-    go_other middle one rest name false e none =
-        rest name none ∙ one name
-        ∙ other_named old.objects first (after_letters (old.objects first) (letters_as node.ids.node (node.objects first))) name e
+    go_other middle one rest name false e none = rest name none ∙ one name ∙ other_named old.objects first made name e
 
     go_own : (middle : KeptNode)
-        → ((other : List ℕ) → middle.objects other
-        ≡ with_named old.objects first (after_letters (old.objects first) (letters_as node.ids.node (node.objects first))) other)
+        → ((other : List ℕ) → middle.objects other ≡ with_named old.objects first made other)
         → ((name : List ℕ) → is_among names name ≡ false → new.objects name ≡ middle.objects name)
         → ((name : List ℕ) → is_among names name ≡ true
-        → new.objects name ≡ after_letters (middle.objects name) (letters_as node.ids.node (node.objects name)))
+        → new.objects name ≡ rebuilt node.ids.node (node.objects name) (middle.objects name))
         → (name : List ℕ) (b : Bool) → is_same_name first name ≡ b → cond b true (is_among names name) ≡ true
-        → new.objects name ≡ after_letters (old.objects name) (letters_as node.ids.node (node.objects name))
+        → new.objects name ≡ rebuilt node.ids.node (node.objects name) (old.objects name)
     go_own middle one none own name true e there =
         let same : first ≡ name = (names_decided first name).0 e in
-        subst (λ (n : List ℕ). new.objects n ≡ after_letters (old.objects n) (letters_as node.ids.node (node.objects n))) same (
-        none first distinct.0 ∙ one first
-        ∙ own_named old.objects first (after_letters (old.objects first) (letters_as node.ids.node (node.objects first))))
+        subst (λ (n : List ℕ). new.objects n ≡ rebuilt node.ids.node (node.objects n) (old.objects n)) same
+        (none first distinct.0 ∙ one first ∙ own_named old.objects first made)
     go_own middle one none own name false e there =
         own name there
-        ∙ ap (λ (l : LocalObject). after_letters l (letters_as node.ids.node (node.objects name))) (one name
-        ∙ other_named old.objects first (after_letters (old.objects first) (letters_as node.ids.node (node.objects first))) name e)
+        ∙ ap (rebuilt node.ids.node (node.objects name)) (one name ∙ other_named old.objects first made name e)

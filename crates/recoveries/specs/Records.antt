@@ -1,24 +1,25 @@
 -- The contracts that docs/trusted.md lists do not depend on this file; other contracts and proofs do.
 -- What the log of a node records, and what the node keeps after it has carried the records out again.
 use Rattle.std.specs.Prelude.{◌≡◌, ◌<◌, ◌^◌, ℕ, suc, List, [], ◌∷◌}
-use Rattle.layout.specs.Layout.{Layout}
+use Rattle.layout.specs.Layout.{IsLawful, Layout}
 use Rattle.deeds.specs.CallId.{with_next_epoch}
 use Rattle.letter.specs.declared.letter.Letter.{Letter}
 use Rattle.local_object.specs.declared.progress.Ended.{Ended}
 use Rattle.local_object.specs.Doing.{IsOutcome, is_taken, serve_events}
 use Rattle.local_object.specs.Events.{LocalEvent}
-use Rattle.local_object.specs.Local.{LocalObject}
+use Rattle.local_object.specs.Local.{LocalObject, with_heard}
 use Rattle.local_object.specs.Taking.{IsReplyOutcome}
 use Rattle.deeds.specs.Kept.{KeptNode}
 use Rattle.deeds.specs.Named.{with_named}
 
 -- what a log records: an epoch of ids began, or an object, which the record names, served a letter, took one, or began
--- a move
+-- a move; or, in a log that was rewritten, the node had heard of a position of the object, with this layout
 pub data LogRecord : Type 0 where
   Starts : LogRecord
   Serves : (name : List ℕ) → Letter → LogRecord
   Takes : (name : List ℕ) → Letter → LogRecord
   Moves : (name : List ℕ) → (id : ℕ) → Layout → LogRecord
+  Hears : (name : List ℕ) → (position : ℕ) → Layout → LogRecord
 
 -- a node keeps the same of all objects as before, with the same cluster file and number, in the same epoch
 pub record IsSame (old new : KeptNode) : Type 0 where
@@ -49,6 +50,12 @@ pub record IsNamedReplyOutcome (old : KeptNode) (name : List ℕ) (letter : Lett
   pub taken : IsReplyOutcome (is_taken (old.objects name) letter) (old.objects name) letter local sent ended
   pub put : IsKeptUnder old name local new
 
+-- the node heard of a position of the object of a name, with this lawful layout, and then keeps this
+pub record IsNamedHearing (old : KeptNode) (name : List ℕ) (position : ℕ) (layout : Layout)
+    (new : KeptNode) : Type 0 where
+  pub lawful : IsLawful layout
+  pub put : IsKeptUnder old name (with_heard (old.objects name) position layout) new
+
 -- the node began the next epoch, since there was one
 pub record IsStarted (old new : KeptNode) : Type 0 where
   pub file : new.file ≡ old.file
@@ -63,6 +70,7 @@ RecoversOne (LogRecord.Serves name letter) old new =
     IsNamedOutcome old name (serve_events (old.objects name) letter) new
 RecoversOne (LogRecord.Takes name letter) old new = IsNamedReplyOutcome old name letter new
 RecoversOne (LogRecord.Moves name id layout) old new = IsNamedOutcome old name (LocalEvent.BeginMove id layout ∷ []) new
+RecoversOne (LogRecord.Hears name position layout) old new = IsNamedHearing old name position layout new
 
 -- the node carried out these records again, one after another
 abbrev pub Recovers : List LogRecord → (old new : KeptNode) → Type 0

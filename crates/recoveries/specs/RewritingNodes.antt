@@ -1,6 +1,6 @@
 -- The contracts that docs/trusted.md lists do not depend on this file; other contracts and proofs do.
 -- Which nodes may write their log anew.
-use Rattle.std.specs.Prelude.{◌≡◌, ◌==◌, ℕ, true, false, List, [], ◌∷◌, Some}
+use Rattle.std.specs.Prelude.{◌≡◌, ℕ, true, false, List, [], ◌∷◌, Some}
 use Rattle.local_object.specs.Local.{LocalObject, layout_here, new_local}
 use Rattle.open_calls.specs.OpenCalls.{NodeCallsDiffer}
 use Rattle.deeds.specs.Kept.{FileOfNames, KeptNode}
@@ -35,8 +35,6 @@ HasOwnObjects node = (name : List ℕ) → IsObjectOf node.file node.ids.node na
 abbrev pub HasDistinctCalls : KeptNode → Type 0
 HasDistinctCalls node = (name : List ℕ) → NodeCallsDiffer (node.objects name).calls
 
--- letters can lead back to all objects of a node: no move is open, and if it is the node that moves objects, it has
--- heard of no position but the first ones
+-- a rewritten log can lead back to all objects of a node: no move is open, and each position has a next one
 abbrev pub CanBeWrittenAnew : KeptNode → Type 0
-CanBeWrittenAnew node =
-    (name : List ℕ) → can_be_led_to (node.ids.node == node.file.mover) (node.objects name) ≡ true
+CanBeWrittenAnew node = (name : List ℕ) → can_be_led_to (node.objects name) ≡ true

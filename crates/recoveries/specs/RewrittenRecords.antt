@@ -1,8 +1,9 @@
 -- The contracts that docs/trusted.md lists do not depend on this file; other contracts and proofs do.
 -- The records of a log that is written anew.
-use Rattle.std.specs.Prelude.{ℕ, zero, suc, Bool, true, false, if◌then◌else◌, List, [], ◌∷◌, ◌++◌, map}
+use Rattle.std.specs.Prelude.{ℕ, zero, suc, ◌==◌, Bool, true, false, if◌then◌else◌, List, [], ◌∷◌, ◌++◌, map}
 use Rattle.deeds.specs.Kept.{KeptNode}
 use Rattle.deeds.specs.Named.{is_same_name}
+use Rattle.local_object.specs.Local.{LocalObject, Place}
 use Rattle.object_letters.specs.Letters.{letters_as}
 use Rattle.recoveries.specs.Records.{LogRecord}
 
@@ -16,11 +17,26 @@ abbrev pub epoch_records : (count : ℕ) → List LogRecord
 epoch_records zero = []
 epoch_records (suc count) = LogRecord.Starts ∷ epoch_records count
 
--- the letters that lead to the banks of the objects of these names are served
+-- the node hears of the position of a place of the object of this name, unless it is position 0
+abbrev pub place_records : (name : List ℕ) → Place → List LogRecord
+place_records name place =
+    if place.position == 0 then [] else LogRecord.Hears name place.position place.layout ∷ []
+
+-- the node hears of the positions of these places
+abbrev pub places_records : (name : List ℕ) → List Place → List LogRecord
+places_records name [] = []
+places_records name (place ∷ places) = place_records name place ++ places_records name places
+
+-- the node of this number hears of the positions of an object, and then serves the letters that lead to its banks
+abbrev pub records_of_name : (node : ℕ) → (name : List ℕ) → LocalObject → List LogRecord
+records_of_name node name local =
+    places_records name local.places ++ map (LogRecord.Serves name) (letters_as node local)
+
+-- the records of the objects of these names
 abbrev pub object_records : KeptNode → (names : List (List ℕ)) → List LogRecord
 object_records node [] = []
 object_records node (name ∷ names) =
-    map (LogRecord.Serves name) (letters_as node.ids.node (node.objects name)) ++ object_records node names
+    records_of_name node.ids.node name (node.objects name) ++ object_records node names
 
 -- the records of what a node keeps, where it has heard of the objects of these names
 abbrev pub rewritten_records : KeptNode → (names : List (List ℕ)) → List LogRecord

@@ -6,6 +6,8 @@ use Rattle.std.proofs.lemmas.Option.{same_Some, slice_get-get_or, slice_get_past
 use Rattle.std.proofs.Math.Seq.{get_or-append_seam}
 use Rattle.layout.specs.Layout.{Layout, IsLawful}
 use Rattle.bank.specs.Bank.{opened_bank}
+use Rattle.bank.specs.Floor.{remembered}
+use Rattle.bank.proofs.RememberedBankLemmas.{remembered-opened}
 use Rattle.record.specs.Records.{no_bank, no_layout}
 use Rattle.soundness.proofs.ListLemmas.{all_push, all_weaker}
 use Rattle.record.specs.Fragments.{Code}
@@ -124,16 +126,17 @@ module _ (fragment : Code) (world : World) (layout : Layout) (formed : IsWellFor
   -- the banks that a node keeps are those of the grown world too
   banks_grown : (other : LocalObject) → IsPartOf world other → (q member : ℕ) (known : Layout) →
       slice_get (known_layouts grown other.node) q ≡ Some known → slice_get known.members member ≡ Some other.node →
-      member_bank grown q member ≡ bank_here other q member
+      remembered (member_bank grown q member) ≡ bank_here other q member
   banks_grown other part q member known at is = go (known_or_new other.node q known at)
     where
       go : (slice_get (known_layouts world other.node) q ≡ Some known) ⊎ ((q ≡ new_position) × (layout ≡ known)) →
-          member_bank grown q member ≡ bank_here other q member
-      go (inl old) = bank_still other.node q member known old ∙ part.banks q member known old is
+          remembered (member_bank grown q member) ≡ bank_here other q member
+      go (inl old) = ap remembered (bank_still other.node q member known old) ∙ part.banks q member known old is
       go (inr new) =
-          ap (λ n. member_bank grown n member) new.0
-          ∙ bank_new member other.node (ap (λ (l : Layout). slice_get l.members member) new.1 ∙ is)
-          ∙ ap (λ d. opened_bank member d 0) (sym part.delta)
+          ap (λ n. remembered (member_bank grown n member)) new.0
+          ∙ ap remembered (bank_new member other.node (ap (λ (l : Layout). slice_get l.members member) new.1 ∙ is))
+          ∙ ap (λ d. remembered (opened_bank member d 0)) (sym part.delta)
+          ∙ remembered-opened member other.delta 0
           ∙ ap (λ o. bank_or_opened o member other.delta) (sym (no_bank_here other new_position (unheard other part)))
           ∙ ap (λ n. bank_here other n member) (sym new.0)
 

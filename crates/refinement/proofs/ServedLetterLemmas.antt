@@ -4,7 +4,10 @@ use Rattle.std.proofs.Common.{IsSome, is_some, get_or, slice_get, refl, sym, sub
 use Rattle.std.proofs.lemmas.Option.{same_Some}
 use Rattle.layout.specs.Layout.{Layout, IsLawful}
 use Rattle.bank.specs.Bank.{Bank}
+use Rattle.bank.specs.Floor.{remembered}
 use Rattle.bank.specs.Serve.{served_bank, reply_to}
+use Rattle.bank.proofs.RememberedReplyLemmas.{reply-remembered}
+use Rattle.bank.proofs.RememberedStepLemmas.{remembered-served}
 use Rattle.bank.specs.declared.request.Request.{Request}
 use Rattle.mail.specs.Message.{answered}
 use Rattle.mail.specs.declared.message.Message.{Message}
@@ -13,7 +16,7 @@ use Rattle.record.specs.Fragments.{Code}
 use Rattle.network.specs.Worlds.{World, member_bank, known_layouts}
 use Rattle.network.specs.Events.{Event, handled_world, served_world}
 use Rattle.letter.specs.declared.letter.Letter.{Letter}
-use Rattle.local_object.specs.ChangedBanks.{kept_bank}
+use Rattle.local_object.specs.ChangedBanks.{bank_after, kept_bank}
 use Rattle.local_object.specs.Local.{LocalObject, bank_here, bank_in, heard_place, with_bank_here}
 use Rattle.local_object.specs.Events.{LocalEvent, handled_here, learnt_from, letter_of, served_here}
 use Rattle.local_object.specs.May.{IsAddressed}
@@ -74,37 +77,53 @@ module _ (fragment : Code) (world : World) (local : LocalObject) (letter : Lette
   abbrev bank : Bank
   bank = bank_here local letter.message.position letter.message.member
 
+  -- the world's bank, of which the node keeps what may not be forgotten
+  abbrev whole : Bank
+  whole = member_bank world letter.message.position letter.message.member
+
+  kept_of_whole : remembered whole ≡ bank
+  kept_of_whole =
+      part.banks letter.message.position letter.message.member addressed.0
+      (part.layouts letter.message.position addressed.0 addressed.1) addressed.2
+
+  same_reply : reply_to whole asked 0 ≡ reply_to bank asked 0
+  same_reply = sym (reply-remembered whole asked 0) ∙ ap (λ b. reply_to b asked 0) kept_of_whole
+
   -- the node's own bank is the one that changed
   own_bank : (q other : ℕ) (layout : Layout) → slice_get (known_layouts world local.node) q ≡ Some layout →
       slice_get layout.members other ≡ Some local.node →
-      member_bank (served_to bank) q other ≡ bank_here served_local q other
+      remembered (member_bank (served_to whole) q other) ≡ bank_here served_local q other
   own_bank q other layout at is = go (eqb letter.message.position q) refl
     where
-      here : letter.message.position ≡ q → member_bank (served_to bank) q other ≡ bank_here served_local q other
+      here : letter.message.position ≡ q → remembered (member_bank (served_to whole) q other) ≡ bank_here served_local q other
       here same =
           let member : letter.message.member ≡ other =
           one_member addressed.0 letter.message.member other local.node lawful_there addressed.2
           (ap (λ (l : Layout). slice_get l.members other) (same_layout local.node q layout at same) ∙ is) in
-          ap (λ n. member_bank (served_to bank) n other) (sym same)
-          ∙ ap (member_bank (served_to bank) letter.message.position) (sym member)
-          ∙ bank_set_here world.banks letter.message.position letter.message.member (served_bank bank asked 0) within
+          ap (λ n. remembered (member_bank (served_to whole) n other)) (sym same)
+          ∙ ap (λ m. remembered (member_bank (served_to whole) letter.message.position m)) (sym member)
+          ∙ ap remembered (bank_set_here world.banks letter.message.position letter.message.member (served_bank whole asked 0) within)
+          ∙ sym (remembered-served whole asked 0)
+          ∙ ap (λ b. bank_after b asked) kept_of_whole
           ∙ sym (kept_served (bank_in (heard_place local.places letter.message.position)) letter.message.member local.delta asked)
           ∙ sym (bank_with_here local letter.message.position kept letter.message.member (ap is_some addressed.1))
           ∙ ap (bank_here served_local letter.message.position) member
           ∙ ap (λ n. bank_here served_local n other) same
 
-      there : (letter.message.position ≡ q → ⊥) → member_bank (served_to bank) q other ≡ bank_here served_local q other
+      there : (letter.message.position ≡ q → ⊥) →
+          remembered (member_bank (served_to whole) q other) ≡ bank_here served_local q other
       there apart =
-          bank_set_there world.banks letter.message.position letter.message.member (served_bank bank asked 0) within q other
-          (λ same member. apart same)
+          ap remembered (bank_set_there world.banks letter.message.position letter.message.member (served_bank whole asked 0) within
+          q other (λ same member. apart same))
           ∙ part.banks q other layout at is
           ∙ sym (bank_with_there local letter.message.position kept q other apart)
 
-      go : (b : Bool) → eqb letter.message.position q ≡ b → member_bank (served_to bank) q other ≡ bank_here served_local q other
+      go : (b : Bool) → eqb letter.message.position q ≡ b →
+          remembered (member_bank (served_to whole) q other) ≡ bank_here served_local q other
       go true e = here (eqb-true letter.message.position q e)
       go false e = there (λ same. absurd (let wrong : false ≡ true = sym e ∙ eq-eqb letter.message.position q same in cc))
 
-  served_part : IsPartOf (served_to bank) served_local
+  served_part : IsPartOf (served_to whole) served_local
   served_part =
       let position = letter.message.position in record {
         delta = part.delta;
@@ -115,48 +134,49 @@ module _ (fragment : Code) (world : World) (local : LocalObject) (letter : Lette
         mover = λ moves q layout at. layout_with local position kept q ∙ part.mover moves q layout at;
       }
 
-  other_part : (bank : Bank) (other : LocalObject) → (other.node ≡ local.node → ⊥) → IsPartOf world other →
-      IsPartOf (served_to bank) other
-  other_part bank other apart is = record {
+  other_part : (other : LocalObject) → (other.node ≡ local.node → ⊥) → IsPartOf world other → IsPartOf (served_to whole) other
+  other_part other apart is = record {
     delta = is.delta;
     layouts = is.layouts;
     first = is.first;
     banks = λ q member layout at holds.
-        bank_set_there world.banks letter.message.position letter.message.member (served_bank bank asked 0) within q member
+        ap remembered (bank_set_there world.banks letter.message.position letter.message.member (served_bank whole asked 0) within
+        q member
         (λ same here. apart (same_Some other.node local.node
         (sym holds ∙ ap (λ (l : Layout). slice_get l.members member) (sym (same_layout other.node q layout at same))
-        ∙ ap (slice_get addressed.0.members) (sym here) ∙ addressed.2)))
+        ∙ ap (slice_get addressed.0.members) (sym here) ∙ addressed.2))))
         ∙ is.banks q member layout at holds;
     calls = is.calls;
     mover = is.mover;
   }
 
   served_with :
-      IsKept fragment world (served_to bank)
-      (record { local = served_local; sent = letter_of local letter.layout (reply_of bank) ∷ [] }) 1 world.history
+      IsKept fragment world (served_to whole)
+      (record { local = served_local; sent = letter_of local letter.layout (reply_of whole) ∷ [] }) 1 world.history
   served_with = record {
     formed = record {
       one = formed.one;
       lawful = formed.lawful;
-      banks = counts_set world.banks letter.message.position letter.message.member (served_bank bank asked 0) ∙ formed.banks;
+      banks = counts_set world.banks letter.message.position letter.message.member (served_bank whole asked 0) ∙ formed.banks;
       ids = formed.ids;
       entries = formed.entries;
-      asked = all_weaker (HasAsked fragment world) (HasAsked fragment (served_to bank)) (λ call has. record {
+      asked = all_weaker (HasAsked fragment world) (HasAsked fragment (served_to whole)) (λ call has. record {
         layout = has.layout;
         at = has.at;
         asked = λ place message at.
-            let was = has.asked place message at in (was.0, in_front world.sent (reply_of bank ∷ []) was.0 message was.1);
+            let was = has.asked place message at in (was.0, in_front world.sent (reply_of whole ∷ []) was.0 message was.1);
       }) world.calls formed.asked;
     };
     part = served_part;
     sent = (
-      letter_was_sent (served_to bank) local letter.layout (reply_of bank) (behind world.sent (reply_of bank ∷ []) 0 (reply_of bank) refl)
+      letter_was_sent (served_to whole) local letter.layout (reply_of whole)
+          (behind world.sent (reply_of whole ∷ []) 0 (reply_of whole) refl)
           was.layout (λ q layout e. known_by_all world formed.one local.node q layout (part.layouts q layout e)),
       tt,
     );
-    others = other_part bank;
+    others = other_part;
     kept = λ other sent. record {
-      sent = (sent.sent.0, in_front world.sent (reply_of bank ∷ []) sent.sent.0 other.message sent.sent.1);
+      sent = (sent.sent.0, in_front world.sent (reply_of whole ∷ []) sent.sent.0 other.message sent.sent.1);
       layout = sent.layout;
       next = sent.next;
     };
@@ -168,10 +188,9 @@ module _ (fragment : Code) (world : World) (local : LocalObject) (letter : Lette
   pub served_kept :
       IsKept fragment world (handled_world (ticked world) letter.message asked) (handled_here local letter asked) 1 world.history
   served_kept =
-      let same : member_bank world letter.message.position letter.message.member ≡ bank =
-      part.banks letter.message.position letter.message.member addressed.0
-      (part.layouts letter.message.position addressed.0 addressed.1) addressed.2 in
-      subst (λ b. IsKept fragment world (served_to b) (handled_here local letter asked) 1 world.history) (sym same) served_with
+      subst (λ r. IsKept fragment world (served_to whole)
+      (record { local = served_local; sent = letter_of local letter.layout (answered letter.message r) ∷ [] }) 1 world.history)
+      same_reply served_with
 
 pub serve_refined : (letter : Letter) → IsEventOfWorld (LocalEvent.Serve letter)
 serve_refined letter fragment world local formed part may premised =

@@ -4,6 +4,8 @@ use Rattle.std.proofs.Common.{Some, None, slice_get, refl, sym, ap, ◌∙◌, a
 use Rattle.std.proofs.lemmas.Option.{same_Some}
 use Rattle.layout.specs.Layout.{Layout, IsLawful}
 use Rattle.bank.specs.Bank.{opened_bank}
+use Rattle.bank.specs.Floor.{remembered}
+use Rattle.bank.proofs.RememberedBankLemmas.{remembered-opened}
 use Rattle.record.specs.Fragments.{Code}
 use Rattle.network.specs.Worlds.{ClusterFile, World, member_bank, known_layouts, opened_world}
 use Rattle.network.specs.Events.{world_after}
@@ -63,13 +65,15 @@ module _ (files : ℕ → ClusterFile) (one : IsOneFile files) where
       layouts (suc q) layout e = absurd (let wrong : None ≡ Some layout = sym (unheard_later node q) ∙ e in cc)
 
       banks : (q member : ℕ) (layout : Layout) → slice_get (known_layouts (opened_world files) node) q ≡ Some layout →
-          slice_get layout.members member ≡ Some node → member_bank (opened_world files) q member ≡ bank_here (opened_local node) q member
+          slice_get layout.members member ≡ Some node →
+          remembered (member_bank (opened_world files) q member) ≡ bank_here (opened_local node) q member
       banks zero member layout at holds =
           let same : 0 + member ≡ member = omega arith in
           let there : slice_get (files 0).first.members member ≡ Some node =
           ap (λ (file : ClusterFile). slice_get file.first.members member) (sym (one node))
           ∙ ap (λ (l : Layout). slice_get l.members member) (same_Some (files node).first layout at) ∙ holds in
-          new_bank files (files 0).first.members 0 member node there ∙ ap (λ n. opened_bank n (files node).delta 0) same
+          ap remembered (new_bank files (files 0).first.members 0 member node there)
+          ∙ ap (λ n. remembered (opened_bank n (files node).delta 0)) same ∙ remembered-opened member (files node).delta 0
       banks (suc q) member layout at holds = absurd (cc)
 
       mover : (q : ℕ) (layout : Layout) → slice_get (known_layouts (opened_world files) node) q ≡ Some layout →

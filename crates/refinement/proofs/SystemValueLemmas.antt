@@ -6,10 +6,11 @@ use Rattle.tag.specs.declared.tag.Tag.{Tag}
 use Rattle.layout.specs.Layout.{Layout}
 use Rattle.piece.specs.declared.piece.Piece.{Piece}
 use Rattle.bank.specs.Bank.{Bank, piece_of}
+use Rattle.bank.proofs.RememberedReplyLemmas.{piece_left}
 use Rattle.record.specs.Fragments.{Code, IsFragment}
 use Rattle.record.specs.Records.{no_layout}
 use Rattle.soundness.proofs.ListLemmas.{all_get}
-use Rattle.network.specs.Worlds.{World, known_layouts}
+use Rattle.network.specs.Worlds.{World, known_layouts, member_bank}
 use Rattle.network.specs.Laws.{IsPieceOf, IsValueOf, KeepsValues}
 use Rattle.network.proofs.WorldLawLemmas.{values_kept}
 use Rattle.refinement.specs.Laws.{SystemsKeepValues}
@@ -57,7 +58,8 @@ module _ (fragment : Code) (world : World) (system : System) (is : IsWorldOf wor
         let at = part.layouts position layout known in
         let same = part.banks position member layout at (holds ∙ ap Some (sym (is.nodes node))) in
         piece_there local.node position member layout tag piece at
-        (keeps.banks local.node position member tag piece (ap (λ (b : Bank). piece_of b tag) same ∙ has));
+        (keeps.banks local.node position member tag piece (piece_left (member_bank world position member) tag piece
+        (ap (λ (b : Bank). piece_of b tag) same ∙ has)));
     letters = λ letter tag piece posted tagged carries.
         let sent = all_get (WasSentAs world) system.letters posted.0 letter is.letters posted.1 in
         piece_there 0 letter.message.position letter.message.member letter.layout tag piece sent.layout
