@@ -1,6 +1,6 @@
 -- A frame asks for the command that is read.
-use Rattle.std.proofs.Common.{◌≡◌, ℕ, Bool, true, false, cond, eqb, ltb, List, [], ◌∷◌, length, get_or, Option, Some, None}
-use Rattle.std.proofs.Common.{Result, Ok, Err, refl, ap, subst, ◌∙◌, inl, inr}
+use Rattle.std.proofs.Common.{◌≡◌, ℕ, ◌<◌, ◌-◌, ◌^◌, Bool, true, false, cond, eqb, ltb, List, [], ◌∷◌, length, get_or, Option}
+use Rattle.std.proofs.Common.{arith, Some, None, Result, Ok, Err, refl, ap, subst, ◌∙◌, inl, inr}
 use Rattle.std.specs.Prelude.{codes, IsTrue}
 use Rattle.std.specs.Str.{bytes_eq}
 use Rattle.std.proofs.lemmas.Bool.{eqb-true}
@@ -12,9 +12,12 @@ use Rattle.client_commands.specs.Arguments.{checked_name, checked_value, only_ar
 use Rattle.client_commands.specs.Arguments.{hello_fault, login_fault}
 use Rattle.client_commands.specs.Command.{AskFor}
 use Rattle.client_commands.specs.Layouts.{layout_from}
-use Rattle.client_commands.specs.Reading.{exists_from, list_from, select_from, unless}
+use Rattle.client_commands.specs.Reading.{exists_from, list_from, select_from, show_from, size_from, unless}
 use Rattle.client_commands.specs.Reading.{Found, read_from, set_from, move_from, ping_from, echo_from, counted, subcommand_from}
 use Rattle.client_commands.specs.Reading.{client_from, command_from, command_named, command_at}
+use Rattle.client_commands.specs.Scanning.{cursor_from, default_options, options_from, scan_from}
+use Rattle.client_commands.specs.declared.scanning.ScanOptions.{ScanOptions}
+use Rattle.node_strings.proofs.NumberLemmas.{number_ok}
 use Rattle.client_commands.specs.Words.{is_word, command_text, name_of_word, reading_word}
 use Rattle.client_commands.specs.declared.command.Command.{Command}
 use Rattle.client_commands.specs.declared.command.Command.TheVariants as ask
@@ -23,7 +26,8 @@ use Rattle.client_commands.specs.declared.command.Wanted.TheVariants as wanted
 use Rattle.client_commands.specs.declared.command.CommandName.{CommandName}
 use Rattle.client_commands.specs.declared.command.CommandName.TheVariants as of
 use Rattle.client_commands.specs.declared.fault.CommandFault.{CommandFault}
-use Rattle.client_commands.specs.declared.fault.CommandFault.TheVariants.{NoDatabase, SeveralNames, UnknownSubcommand, WrongCount}
+use Rattle.client_commands.specs.declared.fault.CommandFault.TheVariants.{BadCursor, NoDatabase, SeveralNames}
+use Rattle.client_commands.specs.declared.fault.CommandFault.TheVariants.{UnknownSubcommand, WrongCount}
 use Rattle.words.proofs.PartLemmas.{bind_ok, guarded, guarded_above, chosen, ok_is}
 use Rattle.client_commands.proofs.WordLemmas.{named_ok}
 use Rattle.client_commands.proofs.ArgumentLemmas.{only_ok, both_ok, name_ok, value_ok}
@@ -58,6 +62,41 @@ select_ok word args c w e =
     let b = guarded (bytes_eq a.0 (codes "0")) (Ok ask.Select) NoDatabase c a.2 in
     subst (AskFor (word ∷ args)) (ok_is ask.Select c b.1)
     (w, only_ok of.Select args a.0 a.1 ∙ ap (λ (i : List ℕ). i ∷ []) ((bytes_eq-Decides a.0 (codes "0")).0 b.0))
+
+-- a DBSIZE that is read was asked for
+size_ok : (word : List ℕ) (args : Strings) (c : Command) → IsTrue (is_word word (codes "dbsize"))
+    → size_from args ≡ Ok c → AskFor (word ∷ args) c
+unfolding size_from
+size_ok word [] c w e = subst (AskFor (word ∷ [])) (ok_is ask.CountWritten c e) (w, refl)
+size_ok word (other ∷ more) c w e =
+    let h = guarded (eqb (length (other ∷ more)) 0) (Ok ask.CountWritten) (WrongCount of.Dbsize) c e in
+    let none : length (other ∷ more) ≡ 0 = eqb-true (length (other ∷ more)) 0 h.0 in
+    absurd (cc)
+
+-- a LAYOUT that is read was asked for
+show_ok : (word : List ℕ) (args : Strings) (c : Command) → IsTrue (is_word word (codes "layout"))
+    → show_from args ≡ Ok c → AskFor (word ∷ args) c
+unfolding show_from
+show_ok word args c w e =
+    let a = bind_ok (only_argument of.Layout args)
+    (λ (name : List ℕ). and_then (checked_name name) (λ (n : List ℕ). Ok (ask.ShowLayout n))) c e in
+    let b = bind_ok (checked_name a.0) (λ (n : List ℕ). Ok (ask.ShowLayout n)) c a.2 in
+    let name = name_ok a.0 b.0 b.1 in
+    subst (AskFor (word ∷ args)) (ok_is (ask.ShowLayout b.0) c b.2)
+    ((w, only_ok of.Layout args a.0 a.1 ∙ ap (λ (n : List ℕ). n ∷ []) name.0), name.1)
+
+-- a SCAN that is read was asked for
+scan_ok : (word : List ℕ) (args : Strings) (c : Command) → IsTrue (is_word word (codes "scan"))
+    → scan_from args ≡ Ok c → AskFor (word ∷ args) c
+unfolding scan_from
+scan_ok word [] c w e = absurd cc
+scan_ok word (at ∷ words) c w e =
+    let a = bind_ok (cursor_from at)
+    (λ (n : ℕ). and_then (options_from default_options words) (λ (o : ScanOptions). Ok (ask.Scan n o))) c e in
+    let b = bind_ok (options_from default_options words) (λ (o : ScanOptions). Ok (ask.Scan a.0 o)) c a.2 in
+    let cursor = number_ok BadCursor BadCursor (2 ^ 64 - 1) at a.0 (omega arith) (omega arith) a.1 in
+    let within : a.0 < 2 ^ 64 = let le = cursor.1 in omega arith in
+    subst (AskFor (word ∷ at ∷ words)) (ok_is (ask.Scan a.0 b.0) c b.2) (w, (cursor.0, within, b.1))
 
 unless_ok : (fault : Option CommandFault) (command c : Command) → unless fault command ≡ Ok c → (fault ≡ None) × (command ≡ c)
 unless_ok None command c e = (refl, ok_is command c e)
@@ -181,6 +220,9 @@ from_ok of.Select word args c w e = select_ok word args c w e
 from_ok of.Auth word args c w e = login_ok word args c w e
 from_ok of.Exists word args c w e = exists_ok word args c w e
 from_ok of.Strlen word args c w e = read_ok of.Strlen wanted.Length word args c w e
+from_ok of.Dbsize word args c w e = size_ok word args c w e
+from_ok of.Layout word args c w e = show_ok word args c w e
+from_ok of.Scan word args c w e = scan_ok word args c w e
 
 named_case : (found : Option CommandName) (word : List ℕ) (args : Strings) (c : Command) → name_of_word word ≡ found
     → command_named word found args ≡ Ok c → AskFor (word ∷ args) c

@@ -3,5 +3,7 @@ pub mod ArgumentLemmas
 pub mod MoveLemmas
 pub mod CommandLemmas
 pub mod WrittenCommandLemmas
+pub mod PatternLemmas
+pub mod ScanLemmas
 pub mod TextLemmas
 pub mod AnswerLemmas

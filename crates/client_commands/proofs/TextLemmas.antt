@@ -49,6 +49,9 @@ count_text of.Select = is_text _ refl
 count_text of.Auth = is_text _ refl
 count_text of.Exists = is_text _ refl
 count_text of.Strlen = is_text _ refl
+count_text of.Dbsize = is_text _ refl
+count_text of.Layout = is_text _ refl
+count_text of.Scan = is_text _ refl
 
 fault_is_text : (f : CommandFault) → IsText (fault_text f)
 fault_is_text fault.UnknownCommand = is_text _ refl
@@ -61,12 +64,16 @@ fault_is_text fault.WrongUser = is_text _ refl
 fault_is_text fault.NoExpiry = is_text _ refl
 fault_is_text fault.NoCondition = is_text _ refl
 fault_is_text fault.SeveralNames = is_text _ refl
+fault_is_text fault.BadCursor = is_text _ refl
 fault_is_text fault.SyntaxError = is_text _ refl
+fault_is_text fault.NotInteger = is_text _ refl
 fault_is_text fault.NameTooLong = is_text _ refl
 fault_is_text fault.ValueTooLong = is_text _ refl
 fault_is_text fault.BadNumber = is_text _ refl
 fault_is_text fault.OutOfRange = is_text _ refl
 fault_is_text fault.BadLayout = is_text _ refl
+fault_is_text fault.PatternTooLong = is_text _ refl
+fault_is_text fault.NoSets = is_text _ refl
 
 -- ---- refusals, which have numbers
 
@@ -166,12 +173,16 @@ fault_has_code fault.WrongUser = refl
 fault_has_code fault.NoExpiry = refl
 fault_has_code fault.NoCondition = refl
 fault_has_code fault.SeveralNames = refl
+fault_has_code fault.BadCursor = refl
 fault_has_code fault.SyntaxError = refl
+fault_has_code fault.NotInteger = refl
 fault_has_code fault.NameTooLong = refl
 fault_has_code fault.ValueTooLong = refl
 fault_has_code fault.BadNumber = refl
 fault_has_code fault.OutOfRange = refl
 fault_has_code fault.BadLayout = refl
+fault_has_code fault.PatternTooLong = refl
+fault_has_code fault.NoSets = refl
 
 has_code : (e : AnswerError) → IsCode (error_code e)
 has_code (error.Fault f) = fault_has_code f

@@ -46,6 +46,9 @@ each_name of.Select = refl
 each_name of.Auth = refl
 each_name of.Exists = refl
 each_name of.Strlen = refl
+each_name of.Dbsize = refl
+each_name of.Layout = refl
+each_name of.Scan = refl
 
 by_small : (word : List ℕ) → name_of_word word ≡ named_by (str_to_ascii_lowercase word)
 unfolding name_of_word

@@ -1,5 +1,5 @@
 -- A frame that asks for a command is read as that command.
-use Rattle.std.proofs.Common.{◌≡◌, ℕ, false, cond, eqb, List, [], ◌∷◌, length, Option, Some, None}
+use Rattle.std.proofs.Common.{◌≡◌, ℕ, ◌-◌, ◌^◌, arith, false, cond, eqb, List, [], ◌∷◌, length, Option, Some, None}
 use Rattle.std.proofs.Common.{Result, Ok, Err, refl, sym, ap, ◌∙◌, inl, inr}
 use Rattle.std.specs.Prelude.{codes, IsTrue, IfOk}
 use Rattle.std.specs.Str.{bytes_eq, str_to_ascii_lowercase}
@@ -11,9 +11,12 @@ use Rattle.client_commands.specs.Arguments.{hello_fault, login_fault}
 use Rattle.client_commands.specs.Command.{AreTwoWords, AreWordAnd, AreWordAndRest, Begins, counts_commands}
 use Rattle.client_commands.specs.Command.{SaysOfClient, IsShortName, IsShortValue, AskFor, layout_strings}
 use Rattle.client_commands.specs.Layouts.{layout_from}
-use Rattle.client_commands.specs.Reading.{exists_from, list_from, select_from, unless}
+use Rattle.client_commands.specs.Reading.{exists_from, list_from, select_from, show_from, size_from, unless}
 use Rattle.client_commands.specs.Reading.{Found, read_from, set_from, move_from, ping_from, echo_from, counted, subcommand_from}
 use Rattle.client_commands.specs.Reading.{client_from, command_from, command_named, command_at}
+use Rattle.client_commands.specs.Scanning.{AskToScan, cursor_from, default_options, options_from, scan_from}
+use Rattle.client_commands.specs.declared.scanning.ScanOptions.{ScanOptions}
+use Rattle.node_strings.proofs.NumberLemmas.{number_again}
 use Rattle.client_commands.specs.Words.{is_word, command_text, reading_word}
 use Rattle.client_commands.specs.declared.command.Command.{Command}
 use Rattle.client_commands.specs.declared.command.Command.TheVariants as ask
@@ -22,7 +25,7 @@ use Rattle.client_commands.specs.declared.command.Wanted.TheVariants as wanted
 use Rattle.client_commands.specs.declared.command.CommandName.{CommandName}
 use Rattle.client_commands.specs.declared.command.CommandName.TheVariants as of
 use Rattle.client_commands.specs.declared.fault.CommandFault.{CommandFault}
-use Rattle.client_commands.specs.declared.fault.CommandFault.TheVariants.{UnknownSubcommand, WrongCount}
+use Rattle.client_commands.specs.declared.fault.CommandFault.TheVariants.{BadCursor, UnknownSubcommand, WrongCount}
 use Rattle.client_commands.proofs.WordLemmas.{named_again, small_is}
 use Rattle.client_commands.proofs.ArgumentLemmas.{name_again, value_again}
 use Rattle.client_commands.proofs.MoveLemmas.{layout_from_again}
@@ -45,6 +48,28 @@ exists_again name h = read_again of.Exists wanted.Existence name h
 select_again : select_from (codes "0" ∷ []) ≡ Ok ask.Select
 unfolding select_from
 select_again = refl
+
+-- a LAYOUT is read again
+show_again : (name : List ℕ) → IsShortName name → show_from (name ∷ []) ≡ Ok (ask.ShowLayout name)
+unfolding show_from
+show_again name h = ap (λ (r : Read). and_then r (λ (n : List ℕ). Ok (ask.ShowLayout n))) (name_again name h)
+
+-- a SCAN is read again
+scan_again : (cursor : ℕ) (options : ScanOptions) (args : Strings) → AskToScan cursor options args
+    → scan_from args ≡ Ok (ask.Scan cursor options)
+unfolding scan_from
+scan_again cursor options [] h = absurd h
+scan_again cursor options (at ∷ words) h =
+    ap (λ (r : Result ℕ CommandFault).
+    and_then r (λ (n : ℕ). and_then (options_from default_options words) (λ (o : ScanOptions). Ok (ask.Scan n o))))
+    (ap cursor_from h.0
+    ∙ number_again BadCursor BadCursor (2 ^ 64 - 1) cursor (let lt = h.1 in omega arith) (omega arith))
+    ∙ ap (λ (r : Result ScanOptions CommandFault). and_then r (λ (o : ScanOptions). Ok (ask.Scan cursor o))) h.2
+
+-- a DBSIZE is read again
+size_again : size_from [] ≡ Ok ask.CountWritten
+unfolding size_from
+size_again = refl
 
 -- what COMMAND with further words asks, by the first of them in small letters
 abbrev list_by : List ℕ → Strings → Found
@@ -154,6 +179,10 @@ command_again strings (ask.Set name value) h =
 command_again strings (ask.Move name l) h =
     says of.Move (name ∷ layout_strings l) strings (ask.Move name l) h.0 (move_again name l (layout_from_again name l h.1 h.2 h.3))
 command_again strings ask.Info h = begins of.Info strings ask.Info h (λ args. refl)
+command_again strings ask.CountWritten h = says of.Dbsize [] strings ask.CountWritten h size_again
+command_again strings (ask.ShowLayout name) h = says of.Layout (name ∷ []) strings (ask.ShowLayout name) h.0 (show_again name h.1)
+command_again strings (ask.Scan cursor options) h =
+    word_and of.Scan (AskToScan cursor options) strings (ask.Scan cursor options) h (λ args asks. scan_again cursor options args asks)
 command_again strings (ask.Ping None) h = says of.Ping [] strings (ask.Ping None) h no_text_again
 command_again strings (ask.Ping (Some text)) h = says of.Ping (text ∷ []) strings (ask.Ping (Some text)) h (ping_again text)
 command_again strings (ask.Echo text) h = says of.Echo (text ∷ []) strings (ask.Echo text) h (echo_again text)

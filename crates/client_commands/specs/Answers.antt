@@ -1,7 +1,7 @@
 -- The contracts that docs/trusted.md lists do not depend on this file; other contracts and proofs do.
 -- The bytes of an answer.
 use Rattle.std.specs.Prelude.{ℕ, List, [], ◌∷◌, ◌++◌, length, codes}
-use Rattle.frames.specs.Frame.{header, line_end, string_bytes}
+use Rattle.frames.specs.Frame.{frame_bytes, header, line_end, string_bytes}
 use Rattle.node_strings.specs.Strings.{Strings}
 use Rattle.std.specs.Fmt.{decimal}
 use Rattle.client_commands.specs.Texts.{error_code, error_text}
@@ -22,7 +22,12 @@ greeting id =
     codes "*14\r\n$6\r\nserver\r\n$4\r\ncasd\r\n$7\r\nversion\r\n$5\r\n1.0.0\r\n$5\r\nproto\r\n:2\r\n$2\r\nid\r\n:"
     ++ decimal id ++ greeting_rest
 
--- the bytes that are sent for an answer: `+OK`, `+PONG`, a bulk string, `$-1`, `:NUMBER`, `*0`, a greeting, or an error
+-- the answer to a SCAN: a list of the next cursor, whose digits are a bulk string, and of a list of names
+abbrev pub page_bytes : (next : ℕ) → (names : Strings) → List ℕ
+page_bytes next names = codes "*2\r\n" ++ (string_bytes (decimal next) ++ frame_bytes names)
+
+-- the bytes that are sent for an answer: `+OK`, `+PONG`, a bulk string, `$-1`, `:NUMBER`, `*0`, the answer to a SCAN, a
+-- greeting, or an error
 abbrev pub sent_bytes : Answer → List ℕ
 sent_bytes answer.Ok = codes "+OK" ++ line_end
 sent_bytes answer.Pong = codes "+PONG" ++ line_end
@@ -30,6 +35,7 @@ sent_bytes (answer.Value value) = string_bytes value
 sent_bytes answer.Nil = codes "$-1" ++ line_end
 sent_bytes (answer.Number n) = header 58 n
 sent_bytes answer.NoCommands = codes "*0" ++ line_end
+sent_bytes (answer.Page next names) = page_bytes next names.items
 sent_bytes (answer.Greeting id) = greeting id
 sent_bytes (answer.Error error) = error_line (error_code error) (error_text error)
 
@@ -41,5 +47,6 @@ sent_strings (answer.Value value) = header 36 (length value) ∷ value ∷ line_
 sent_strings answer.Nil = sent_bytes answer.Nil ∷ []
 sent_strings (answer.Number n) = sent_bytes (answer.Number n) ∷ []
 sent_strings answer.NoCommands = sent_bytes answer.NoCommands ∷ []
+sent_strings (answer.Page next names) = sent_bytes (answer.Page next names) ∷ []
 sent_strings (answer.Greeting id) = sent_bytes (answer.Greeting id) ∷ []
 sent_strings (answer.Error error) = sent_bytes (answer.Error error) ∷ []

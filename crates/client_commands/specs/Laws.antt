@@ -1,9 +1,11 @@
 -- The contracts that docs/trusted.md lists do not depend on this file; other contracts and proofs do.
 -- What holds for all errors and for all answers.
-use Rattle.std.specs.Prelude.{ℕ, ◌^◌, ◌<◌, List, ◌∷◌, Bool, IsTrue, nat_le, ◌&&◌, ⊤}
-use Rattle.std.specs.List.{list_all}
+use Rattle.std.specs.Prelude.{ℕ, ◌^◌, ◌<◌, ◌≤◌, List, ◌∷◌, length, Bool, IsTrue, nat_le, ◌&&◌, ⊤}
+use Rattle.std.specs.List.{AllByRecursion, list_all}
 use Rattle.frames.specs.Frame.{IsShort, IsFrame}
 use Rattle.client_commands.specs.Answers.{sent_strings}
+use Rattle.client_commands.specs.Command.{IsShortName}
+use Rattle.client_commands.specs.declared.scanning.TheConstants.{MOST_SCANNED}
 use Rattle.client_commands.specs.Texts.{error_code, error_text}
 use Rattle.client_commands.specs.declared.answer.Answer.{Answer}
 use Rattle.client_commands.specs.declared.answer.Answer.TheVariants as answer
@@ -25,7 +27,8 @@ abbrev pub ErrorTextsArePrintable : Type 0
 ErrorTextsArePrintable = (e : AnswerError) → HasNodeNumber e →
     IsTrue (list_all is_printable (error_code e)) × IsTrue (list_all is_printable (error_text e))
 
--- a value is short enough for a string of a frame, and a number has 64 bits, or 8 if it is that of a node
+-- a value is short enough for a string of a frame, a number has 64 bits, or 8 if it is that of a node, and there are no
+-- more names than a SCAN looks at, all of them short
 abbrev pub IsShortAnswer : Answer → Type 0
 IsShortAnswer answer.Ok = ⊤
 IsShortAnswer answer.Pong = ⊤
@@ -33,6 +36,8 @@ IsShortAnswer (answer.Value value) = IsShort value
 IsShortAnswer answer.Nil = ⊤
 IsShortAnswer (answer.Number n) = n < 2 ^ 64
 IsShortAnswer answer.NoCommands = ⊤
+IsShortAnswer (answer.Page next names) =
+    (next < 2 ^ 64) × (length names.items ≤ MOST_SCANNED) × AllByRecursion IsShortName names.items
 IsShortAnswer (answer.Greeting id) = id < 2 ^ 64
 IsShortAnswer (answer.Error e) = HasNodeNumber e
 

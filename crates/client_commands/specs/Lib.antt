@@ -1,4 +1,6 @@
 pub mod Words
+pub mod Patterns
+pub mod Scanning
 pub mod Arguments
 pub mod Layouts
 pub mod Command

@@ -8,6 +8,7 @@ use Rattle.node_strings.specs.Strings.{Strings}
 use Rattle.client_commands.specs.Arguments.{checked_name, checked_value, only_argument, name_and_value}
 use Rattle.client_commands.specs.Arguments.{hello_fault, login_fault}
 use Rattle.client_commands.specs.Layouts.{layout_from}
+use Rattle.client_commands.specs.Scanning.{scan_from}
 use Rattle.client_commands.specs.Words.{is_word, name_of_word, word_fault}
 use Rattle.client_commands.specs.declared.command.Command.{Command}
 use Rattle.client_commands.specs.declared.command.Command.TheVariants as ask
@@ -45,6 +46,17 @@ unfoldable pub select_from : Strings → Found
 select_from arguments =
     and_then (only_argument of.Select arguments) (λ index.
     if bytes_eq index (codes "0") then Ok ask.Select else Err NoDatabase)
+
+-- LAYOUT: a name
+unfoldable pub show_from : Strings → Found
+show_from arguments =
+    and_then (only_argument of.Layout arguments) (λ name.
+    and_then (checked_name name) (λ name.
+    Ok (ask.ShowLayout name)))
+
+-- DBSIZE: nothing
+unfoldable pub size_from : Strings → Found
+size_from arguments = if length arguments == 0 then Ok ask.CountWritten else Err (WrongCount of.Dbsize)
 
 -- COMMAND: nothing, COUNT, or any other words
 unfoldable pub list_from : Strings → Found
@@ -109,6 +121,9 @@ command_from of.Select arguments = select_from arguments
 command_from of.Auth arguments = unless (login_fault arguments) ask.Login
 command_from of.Exists arguments = exists_from arguments
 command_from of.Strlen arguments = read_from of.Strlen wanted.Length arguments
+command_from of.Dbsize arguments = size_from arguments
+command_from of.Layout arguments = show_from arguments
+command_from of.Scan arguments = scan_from arguments
 
 -- the command that a word names, if it names this one, or why it names none
 abbrev pub command_named : (word : List ℕ) → Option CommandName → Strings → Found

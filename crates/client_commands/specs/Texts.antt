@@ -26,12 +26,16 @@ fault_text fault.NoExpiry = codes "values do not expire in this store; nothing w
 fault_text fault.NoCondition =
     codes "a write does not depend on the value before it in this store; nothing was changed"
 fault_text fault.SeveralNames = codes "a command has one name in this store; nothing was done"
+fault_text fault.BadCursor = codes "invalid cursor"
 fault_text fault.SyntaxError = codes "syntax error"
+fault_text fault.NotInteger = codes "value is not an integer or out of range"
 fault_text fault.NameTooLong = codes "name too long"
 fault_text fault.ValueTooLong = codes "value too long"
 fault_text fault.BadNumber = codes "bad number"
 fault_text fault.OutOfRange = codes "number out of range"
 fault_text fault.BadLayout = codes "bad layout"
+fault_text fault.PatternTooLong = codes "pattern too long"
+fault_text fault.NoSets = codes "a pattern has no sets in this store; write \\[ for the byte"
 
 -- the word with which the line of a fault begins
 abbrev pub fault_code : CommandFault → List ℕ

@@ -31,10 +31,14 @@ command_text of.Select = codes "select"
 command_text of.Auth = codes "auth"
 command_text of.Exists = codes "exists"
 command_text of.Strlen = codes "strlen"
+command_text of.Dbsize = codes "dbsize"
+command_text of.Layout = codes "layout"
+command_text of.Scan = codes "scan"
 
--- the names of commands for a connection and for what a node knows of a value
+-- the names of commands for a connection, for what a node knows of a value, and for what it keeps
 abbrev pub later_names : List CommandName
-later_names = of.Hello ∷ of.Select ∷ of.Auth ∷ of.Exists ∷ of.Strlen ∷ []
+later_names =
+    of.Hello ∷ of.Select ∷ of.Auth ∷ of.Exists ∷ of.Strlen ∷ of.Dbsize ∷ of.Layout ∷ of.Scan ∷ []
 
 -- all names of commands
 abbrev pub all_names : List CommandName

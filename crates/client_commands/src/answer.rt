@@ -22,6 +22,8 @@ pub enum Answer {
     Number(u64),
     /// An empty list, to `COMMAND`.
     NoCommands,
+    /// The cursor with which the next `SCAN` goes on, or 0 if there is nothing left, and names.
+    Page { next: u64, names: Vec<Bytes> },
     /// What the node is, to a `HELLO` on the connection of this number.
     Greeting(u64),
     /// The command was not carried out.

@@ -1,6 +1,7 @@
 ghost use Rattle.std.specs.Prelude.{◌≡◌, Some};
 ghost use Rattle.client_commands.specs.Words.{command_text, count_of_names};
 
+use crate::scanning::ScanOptions;
 use bytes::Bytes;
 use layout::Layout;
 use std::fmt;
@@ -16,6 +17,12 @@ pub enum Command {
     Move { name: Bytes, layout: Layout },
     /// `INFO`: what the node tells about itself.
     Info,
+    /// `DBSIZE`: of how many names the node keeps a written version.
+    CountWritten,
+    /// `LAYOUT name`: the last layout of a name that the node knows.
+    ShowLayout(Bytes),
+    /// `SCAN cursor MATCH pattern COUNT count`: the next names of which the node keeps a written version.
+    Scan { cursor: u64, options: ScanOptions },
     /// `PING` or `PING text`: whether the node answers.
     Ping(Option<Bytes>),
     /// `ECHO text`: the text.
@@ -69,6 +76,9 @@ pub enum CommandName {
     Auth,
     Exists,
     Strlen,
+    Dbsize,
+    Layout,
+    Scan,
 }
 
 impl CommandName {
@@ -91,6 +101,9 @@ impl CommandName {
             CommandName::Auth => "auth",
             CommandName::Exists => "exists",
             CommandName::Strlen => "strlen",
+            CommandName::Dbsize => "dbsize",
+            CommandName::Layout => "layout",
+            CommandName::Scan => "scan",
         }
     }
 }
@@ -99,7 +112,7 @@ impl CommandName {
 pub fn count_names() -> u64
     ensures { result ≡ count_of_names }
 {
-    14
+    17
 }
 
 /// The name in small letters.

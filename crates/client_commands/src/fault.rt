@@ -5,8 +5,8 @@ use crate::command::CommandName;
 use std::error::Error;
 use std::fmt;
 
-/// Why a frame asks for no command: the first fault in the order of these variants; among faults of numbers, the first
-/// from left to right, byte by byte.
+/// Why a frame asks for no command: the first fault in the order of these variants; among faults of numbers, and among
+/// those of the options of a `SCAN`, the first from left to right, byte by byte.
 #[derive(Clone, Copy, Debug, PartialEq, Eq)]
 pub enum CommandFault {
     /// The first string names no command, or there is none.
@@ -29,8 +29,13 @@ pub enum CommandFault {
     NoCondition,
     /// A command on several names.
     SeveralNames,
-    /// There are other words where a `SET`, a `HELLO` or an `AUTH` may have options.
+    /// The cursor of a `SCAN` is no number of 64 bits.
+    BadCursor,
+    /// There are other words where a `SET`, a `HELLO`, an `AUTH` or a `SCAN` may have options, or the `COUNT` of a
+    /// `SCAN` is 0.
     SyntaxError,
+    /// The `COUNT` of a `SCAN` is no number, or above 2^63 - 1.
+    NotInteger,
     /// The name is longer than `LONGEST_NAME`.
     NameTooLong,
     /// The value is longer than `LONGEST_VALUE`.
@@ -41,6 +46,10 @@ pub enum CommandFault {
     OutOfRange,
     /// k is 0, there are fewer nodes than k, or a node is named twice.
     BadLayout,
+    /// The pattern of a `SCAN` is longer than `LONGEST_NAME`.
+    PatternTooLong,
+    /// The pattern of a `SCAN` has a set of bytes, such as `[ab]`.
+    NoSets,
 }
 
 /// The text that the client gets.
@@ -72,12 +81,18 @@ impl fmt::Display for CommandFault {
             CommandFault::SeveralNames => {
                 f.write_str("a command has one name in this store; nothing was done")
             }
+            CommandFault::BadCursor => f.write_str("invalid cursor"),
             CommandFault::SyntaxError => f.write_str("syntax error"),
+            CommandFault::NotInteger => { f.write_str("value is not an integer or out of range") }
             CommandFault::NameTooLong => f.write_str("name too long"),
             CommandFault::ValueTooLong => f.write_str("value too long"),
             CommandFault::BadNumber => f.write_str("bad number"),
             CommandFault::OutOfRange => f.write_str("number out of range"),
             CommandFault::BadLayout => f.write_str("bad layout"),
+            CommandFault::PatternTooLong => f.write_str("pattern too long"),
+            CommandFault::NoSets => {
+                f.write_str("a pattern has no sets in this store; write \\[ for the byte")
+            }
         }
     }
 }

@@ -5,7 +5,9 @@ pub use answer::{Answer, AnswerError};
 pub use command::{Command, CommandName, Wanted, count_names};
 pub use fault::CommandFault;
 pub use laws::{answers_have_frames, error_texts_are_printable};
+pub use patterns::matching_names;
 pub use reading::read_command;
+pub use scanning::{DEFAULT_COUNT, MOST_SCANNED, ScanOptions};
 pub use writing::push_answer;
 
 mod answer;
@@ -14,6 +16,8 @@ mod command;
 mod fault;
 mod laws;
 mod layouts;
+mod patterns;
 mod reading;
+mod scanning;
 mod vocabulary;
 mod writing;

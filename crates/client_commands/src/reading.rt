@@ -9,6 +9,8 @@ ghost use Rattle.client_commands.specs.Reading.{
   exists_from,
   select_from,
   list_from,
+  size_from,
+  show_from,
   unless,
   set_from,
   move_from,
@@ -26,6 +28,7 @@ use crate::arguments::{
 use crate::command::{Command, CommandName, Wanted};
 use crate::fault::CommandFault;
 use crate::layouts::read_layout;
+use crate::scanning::read_scan;
 use crate::vocabulary::{fault_of, is_word, name_of};
 use bytes::Bytes;
 use frames::Frame;
@@ -78,6 +81,9 @@ fn read_arguments(name: CommandName, arguments: Vec<Bytes>) -> Result<Command, C
         CommandName::Auth => unless(login_fault(&arguments), Command::Login),
         CommandName::Exists => read_exists(arguments),
         CommandName::Strlen => read_name(name, Wanted::Length, arguments),
+        CommandName::Dbsize => read_size(&arguments),
+        CommandName::Layout => read_show(arguments),
+        CommandName::Scan => read_scan(arguments),
     }
 }
 
@@ -114,6 +120,25 @@ fn read_select(arguments: Vec<Bytes>) -> Result<Command, CommandFault>
         return Err(CommandFault::NoDatabase);
     }
     Ok(Command::Select)
+}
+
+#[tactic(auto, unfolding(crate::specs::Reading::show_from))]
+fn read_show(arguments: Vec<Bytes>) -> Result<Command, CommandFault>
+    ensures { result ≡ show_from arguments.items }
+{
+    let name = only_argument(CommandName::Layout, arguments)?;
+    let name = checked_name(name)?;
+    Ok(Command::ShowLayout(name))
+}
+
+#[tactic(auto, unfolding(crate::specs::Reading::size_from))]
+fn read_size(arguments: &[Bytes]) -> Result<Command, CommandFault>
+    ensures { result ≡ size_from arguments.now }
+{
+    if !arguments.is_empty() {
+        return Err(CommandFault::WrongCount(CommandName::Dbsize));
+    }
+    Ok(Command::CountWritten)
 }
 
 #[tactic(auto, unfolding(crate::specs::Reading::list_from))]

@@ -57,6 +57,12 @@ fn later_name_of(word: &[u8]) -> Option<CommandName>
         Some(CommandName::Exists)
     } else if is_word(word, b"strlen") {
         Some(CommandName::Strlen)
+    } else if is_word(word, b"dbsize") {
+        Some(CommandName::Dbsize)
+    } else if is_word(word, b"layout") {
+        Some(CommandName::Layout)
+    } else if is_word(word, b"scan") {
+        Some(CommandName::Scan)
     } else {
         None
     }

@@ -1,9 +1,9 @@
 //! Answers to strings of a frame.
 ghost use Rattle.std.specs.Prelude.{◌≡◌, ◌++◌, ◌∷◌, [], IfOk, OnOk, OnErr, length};
-ghost use Rattle.std.specs.List.{concat};
-ghost use Rattle.frames.specs.Frame.{header};
+ghost use Rattle.std.specs.List.{concat, flat_map};
+ghost use Rattle.frames.specs.Frame.{header, string_bytes};
 ghost use Rattle.client_commands.specs.Texts.{error_code, error_text};
-ghost use Rattle.client_commands.specs.Answers.{sent_bytes, sent_strings, error_line, greeting};
+ghost use Rattle.client_commands.specs.Answers.{sent_bytes, sent_strings, error_line, greeting, page_bytes};
 
 use crate::answer::{Answer, AnswerError};
 use bytes::Bytes;
@@ -39,6 +39,7 @@ fn push_strings(alloc: Global, strings: &mut Vec<Bytes>, answer: Answer) -> Resu
         Answer::Nil => push_string(strings, Bytes::from_static(b"$-1\r\n")),
         Answer::Number(number) => push_string(strings, number_line(alloc, number)?),
         Answer::NoCommands => push_string(strings, Bytes::from_static(b"*0\r\n")),
+        Answer::Page { next, names } => push_string(strings, page(alloc, next, &names)?),
         Answer::Greeting(id) => push_string(strings, greeting(alloc, id)?),
         Answer::Error(error) => push_string(strings, error_line(alloc, error)?),
     }
@@ -76,6 +77,52 @@ fn number_line(alloc: Global, number: u64) -> Result<Bytes, AllocError>
     ensures { IfOk result (λ line. line ≡ header 58 number) }
 {
     Bytes::from_string(format!(in alloc; ":{number}\r\n")?)
+}
+
+// The next cursor and the names that a `SCAN` is answered.
+fn page(alloc: Global, next: u64, names: &[Bytes]) -> Result<Bytes, AllocError>
+    ensures { IfOk result (λ bytes. bytes ≡ page_bytes next names.now) }
+{
+    let digits = format!(in alloc; "{next}")?;
+    let mut bytes = Vec::new(alloc);
+    bytes.extend_from_slice(b"*2\r\n")?;
+    append_string(alloc, &mut bytes, digits.as_bytes())?;
+    append_header(alloc, &mut bytes, b'*', names.len())?;
+    append_strings(alloc, &mut bytes, names)?;
+    Ok(Bytes::from_vec(bytes)?)
+}
+
+// Appends each of these strings, with the line of its length.
+fn append_strings(alloc: Global, bytes: &mut Vec<u8>, strings: &[Bytes]) -> Result<(), AllocError>
+    ensures { OnOk result (bytes.new.items ≡ bytes.old.items ++ flat_map string_bytes strings.now) }
+{
+    for string in strings {
+        append_string(alloc, bytes, string)?;
+    }
+    Ok(())
+}
+
+// Appends the line of this number behind a type byte.
+fn append_header(
+    alloc: Global,
+    bytes: &mut Vec<u8>,
+    mark: u8,
+    number: usize,
+) -> Result<(), AllocError>
+    ensures { OnOk result (bytes.new.items ≡ bytes.old.items ++ header mark number) }
+{
+    bytes.push(mark)?;
+    let line = format!(in alloc; "{number}\r\n")?;
+    bytes.extend_from_slice(line.as_bytes())
+}
+
+// Appends the line with the length of a string, the string, and CR LF.
+fn append_string(alloc: Global, bytes: &mut Vec<u8>, string: &[u8]) -> Result<(), AllocError>
+    ensures { OnOk result (bytes.new.items ≡ bytes.old.items ++ string_bytes string.now) }
+{
+    append_header(alloc, bytes, b'$', string.len())?;
+    bytes.extend_from_slice(string)?;
+    bytes.extend_from_slice(b"\r\n")
 }
 
 // What a `HELLO` on the connection of this number is answered.

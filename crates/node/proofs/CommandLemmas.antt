@@ -215,6 +215,9 @@ plain_is_reply number file client (ask.Read wanted name) answer get set move qui
 plain_is_reply number file client (ask.Set name value) answer get set move quit is = absurd (set name value refl)
 plain_is_reply number file client (ask.Move name layout) answer get set move quit is = absurd (move name layout refl)
 plain_is_reply number file client ask.Info answer get set move quit is = is
+plain_is_reply number file client ask.CountWritten answer get set move quit is = is
+plain_is_reply number file client (ask.ShowLayout name) answer get set move quit is = is
+plain_is_reply number file client (ask.Scan cursor options) answer get set move quit is = is
 plain_is_reply number file client (ask.Ping text) answer get set move quit is = is
 plain_is_reply number file client (ask.Echo text) answer get set move quit is = is
 plain_is_reply number file client ask.ListCommands answer get set move quit is = is
@@ -235,6 +238,9 @@ plain_is_here keeper peers calls counts (ask.Read wanted name) answer get set mo
 plain_is_here keeper peers calls counts (ask.Set name value) answer get set move is = absurd (set name value refl)
 plain_is_here keeper peers calls counts (ask.Move name layout) answer get set move is = absurd (move name layout refl)
 plain_is_here keeper peers calls counts ask.Info answer get set move is = is
+plain_is_here keeper peers calls counts ask.CountWritten answer get set move is = is
+plain_is_here keeper peers calls counts (ask.ShowLayout name) answer get set move is = is
+plain_is_here keeper peers calls counts (ask.Scan cursor options) answer get set move is = is
 plain_is_here keeper peers calls counts (ask.Ping text) answer get set move is = tt
 plain_is_here keeper peers calls counts (ask.Echo text) answer get set move is = tt
 plain_is_here keeper peers calls counts ask.ListCommands answer get set move is = tt

@@ -9,13 +9,13 @@ use Rattle.node_messages.specs.Reading.{message_from}
 use Rattle.node_messages.specs.declared.error.Fault.{Fault}
 use Rattle.node_messages.specs.declared.message.NodeMessage.{NodeMessage}
 use Rattle.node_strings.specs.declared.arrival.Arrival.TheVariants as arrived
-use Rattle.node.specs.Peers.{AreOnce, HasNotedIf, IsChangedIfRead, OthersAreToldOnce, is_foreign, is_known, report_of, with_other}
+use Rattle.node.specs.Peers.{AreDistinctAfter, HasNotedIf, IsChangedIfRead, OthersAreToldOnce, is_foreign, is_known, report_of, with_other}
 use Rattle.node.specs.declared.peers.Peers.{Peers}
 use Rattle.node.specs.declared.peers.TheConstants.{MOST_OTHERS}
 
 -- one more stands behind those that are there once
-one_behind : (front others : List Report) (other : Report) → AreOnce front others → is_known (front ++ others) other ≡ false →
-    AreOnce front (others ++ other ∷ [])
+one_behind : (front others : List Report) (other : Report) → AreDistinctAfter front others → is_known (front ++ others) other ≡ false →
+    AreDistinctAfter front (others ++ other ∷ [])
 one_behind front [] other are new = (ap (λ xs. is_known xs other) (sym (append-nil front)) ∙ new, tt)
 one_behind front (first ∷ others) other are new = (
   are.0,
@@ -28,34 +28,34 @@ not_true false e = refl
 not_true true e = absurd (cc)
 
 -- one more is added, or none
-with_once : (others : List Report) (other : Report) → AreOnce [] others → AreOnce [] (with_other others other)
+with_once : (others : List Report) (other : Report) → AreDistinctAfter [] others → AreDistinctAfter [] (with_other others other)
 with_once others other are = go (nat_lt (length others) MOST_OTHERS && not (is_known others other)) refl
   where
     go : (b : Bool) → (nat_lt (length others) MOST_OTHERS && not (is_known others other)) ≡ b →
-        AreOnce [] (cond b (others ++ other ∷ []) others)
+        AreDistinctAfter [] (cond b (others ++ other ∷ []) others)
     go true e = one_behind [] others other are
         (not_true (is_known others other) (and_parts (nat_lt (length others) MOST_OTHERS) (not (is_known others other)) e).1)
     go false e = are
 
-noted_once : (b : Bool) (other : Report) (old new : Peers) → HasNotedIf b other old new → AreOnce [] old.others.items →
-    AreOnce [] new.others.items
-noted_once true other old new noted are = subst (AreOnce []) (sym noted.others) (with_once old.others.items other are)
-noted_once false other old new same are = subst (λ (peers : Peers). AreOnce [] peers.others.items) (sym same) are
+noted_once : (b : Bool) (other : Report) (old new : Peers) → HasNotedIf b other old new → AreDistinctAfter [] old.others.items →
+    AreDistinctAfter [] new.others.items
+noted_once true other old new noted are = subst (AreDistinctAfter []) (sym noted.others) (with_once old.others.items other are)
+noted_once false other old new same are = subst (λ (peers : Peers). AreDistinctAfter [] peers.others.items) (sym same) are
 
 read_once : (keeper : Keeper) (sender : ℕ) (r : Result NodeMessage Fault) (old new : Peers) →
-    IsChangedIfRead keeper sender r old new → AreOnce [] old.others.items → AreOnce [] new.others.items
+    IsChangedIfRead keeper sender r old new → AreDistinctAfter [] old.others.items → AreDistinctAfter [] new.others.items
 read_once keeper sender (Ok message) old new changed are =
     noted_once (is_foreign keeper message) (report_of keeper sender message) old new changed are
 read_once keeper sender (Err fault) old new same are =
-    subst (λ (peers : Peers). AreOnce [] peers.others.items) (sym same) are
+    subst (λ (peers : Peers). AreDistinctAfter [] peers.others.items) (sym same) are
 
 pub told_once : OthersAreToldOnce
-told_once None keeper old new same are = subst (λ (peers : Peers). AreOnce [] peers.others.items) (sym same) are
+told_once None keeper old new same are = subst (λ (peers : Peers). AreDistinctAfter [] peers.others.items) (sym same) are
 told_once (Some (arrived.Command client frame)) keeper old new same are =
-    subst (λ (peers : Peers). AreOnce [] peers.others.items) (sym same) are
+    subst (λ (peers : Peers). AreDistinctAfter [] peers.others.items) (sym same) are
 told_once (Some (arrived.Left client)) keeper old new same are =
-    subst (λ (peers : Peers). AreOnce [] peers.others.items) (sym same) are
+    subst (λ (peers : Peers). AreDistinctAfter [] peers.others.items) (sym same) are
 told_once (Some (arrived.Tick heard)) keeper old new same are =
-    subst (λ (peers : Peers). AreOnce [] peers.others.items) (sym same) are
+    subst (λ (peers : Peers). AreDistinctAfter [] peers.others.items) (sym same) are
 told_once (Some (arrived.Message sender frame)) keeper old new changed are =
     read_once keeper sender (message_from frame) old new changed are

@@ -24,12 +24,14 @@ use Rattle.node_strings.specs.Strings.{Strings}
 use Rattle.node_strings.specs.declared.arrival.Arrival.{Arrival}
 use Rattle.node_strings.specs.declared.arrival.Arrival.TheVariants as came
 use Rattle.node_keeper.specs.Objects.{bytes_in_banks, heard_names, objects_of}
+use Rattle.node_keeper.specs.Written.{written_names}
 use Rattle.node_clients.specs.Desk.{connection_of}
 use Rattle.node_clients.specs.Services.{Service}
 use Rattle.node_clients.specs.declared.counts.Counts.{Counts}
 use Rattle.node_clients.specs.declared.desk.Desk.{Desk}
 use Rattle.node_keeper.specs.declared.keeper.Keeper.{Keeper}
 use Rattle.node.specs.Moves.{move_fault}
+use Rattle.node.specs.Shown.{IsLayoutHere, IsPageHere}
 use Rattle.node.specs.declared.peers.Peers.{Peers}
 
 -- this is the id that a node gives next: the next one of its epoch, or the first one of the next epoch
@@ -49,11 +51,11 @@ IsBegunHere keeper name refusal id =
 
 -- INFO
 
--- the lines of INFO that name the program, the node, its cluster and its epoch
-abbrev pub name_lines : (node : ℕ) → (digest : List ℕ) → (epoch : ℕ) → List ℕ
-name_lines node digest epoch = concat (
-    codes "program:casd\r\nnode:" ∷ decimal node ∷ codes "\r\ncluster:" ∷ hexadecimal_text digest
-    ∷ codes "\r\nepoch:" ∷ decimal epoch ∷ codes "\r\n" ∷ [])
+-- the lines of INFO that name the program, the node, the node that moves objects, the cluster and the epoch
+abbrev pub name_lines : (node mover : ℕ) → (digest : List ℕ) → (epoch : ℕ) → List ℕ
+name_lines node mover digest epoch = concat (
+    codes "program:casd\r\nnode:" ∷ decimal node ∷ codes "\r\nmover:" ∷ decimal mover
+    ∷ codes "\r\ncluster:" ∷ hexadecimal_text digest ∷ codes "\r\nepoch:" ∷ decimal epoch ∷ codes "\r\n" ∷ [])
 
 -- the lines with the numbers of objects, of bytes that their banks store, of connections, and of open calls
 abbrev pub size_lines : (objects bytes clients calls : ℕ) → List ℕ
@@ -73,7 +75,7 @@ abbrev pub info_lines : Keeper → Peers → (clients calls : ℕ) → Counts �
 info_lines keeper peers clients calls counts =
     let objects = length (heard_names keeper.objects) in
     let bytes = min (bytes_in_banks keeper.objects) (2 ^ 64 - 1) in
-    name_lines keeper.ids.node keeper.digest keeper.ids.epoch
+    name_lines keeper.ids.node keeper.file.fixed.mover keeper.digest keeper.ids.epoch
     ++ (size_lines objects bytes clients calls ++ count_lines counts peers.foreign)
 
 -- the answer to INFO: its lines, with some number of connections
@@ -88,9 +90,16 @@ abbrev pub IsMoveRefusedHere : Option AnswerError → Keeper → (name : List �
 IsMoveRefusedHere (Some fault) keeper name answer = answer ≡ answers.Error fault
 IsMoveRefusedHere None keeper name answer = IsRefusedHere keeper name move_refusal answer
 
--- how a command that concerns no name is answered: INFO by its lines; for any other command this says nothing
+-- how a command that begins no call is answered: INFO by its lines, DBSIZE by the number of names of whose objects the
+-- node keeps a written version, LAYOUT by the last layout that the node knows, and SCAN by the next such names; for any
+-- other command this says nothing
 abbrev pub IsPlainHere : Keeper → Peers → (calls : ℕ) → Counts → Command → Answer → Type 0
 IsPlainHere keeper peers calls counts ask.Info answer = IsInfoHere keeper peers calls counts answer
+IsPlainHere keeper peers calls counts ask.CountWritten answer =
+    answer ≡ answers.Number (length (written_names keeper.objects))
+IsPlainHere keeper peers calls counts (ask.ShowLayout name) answer = IsLayoutHere keeper.objects name answer
+IsPlainHere keeper peers calls counts (ask.Scan cursor options) answer =
+    IsPageHere keeper.objects cursor options answer
 IsPlainHere keeper peers calls counts command answer = ⊤
 
 -- how a command that begins no call is answered, by what the node keeps; this says nothing of an answer that depends on

@@ -1,6 +1,7 @@
 pub mod Frames
 pub mod Peers
 pub mod Moves
+pub mod Shown
 pub mod Replies
 pub mod AtOnce
 pub mod Serving

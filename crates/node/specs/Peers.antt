@@ -97,11 +97,11 @@ with_next_told peers =
     if nat_lt peers.told (length peers.others.items) then record peers { told = peers.told + 1 } else peers
 
 -- each report in `others` differs from all reports before it in the list, and from all in `front`
-abbrev pub AreOnce : (front others : List Report) → Type 0
-AreOnce front [] = ⊤
-AreOnce front (other ∷ others) = (is_known front other ≡ false) × AreOnce (front ++ other ∷ []) others
+abbrev pub AreDistinctAfter : (front others : List Report) → Type 0
+AreDistinctAfter front [] = ⊤
+AreDistinctAfter front (other ∷ others) = (is_known front other ≡ false) × AreDistinctAfter (front ++ other ∷ []) others
 
 -- whatever comes, each node with another cluster file is told of once for each digest
 abbrev pub OthersAreToldOnce : Type 0
 OthersAreToldOnce = (arrival : Option Arrival) (keeper : Keeper) (old new : Peers) → IsChangedBy arrival keeper old new
-    → AreOnce [] old.others.items → AreOnce [] new.others.items
+    → AreDistinctAfter [] old.others.items → AreDistinctAfter [] new.others.items

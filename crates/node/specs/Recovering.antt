@@ -87,6 +87,7 @@ RefusesOwn keeper (record_of.Take frame) error = RefusesLetter frame error
 RefusesOwn keeper (record_of.Move id name layout) error = (error ≡ refusals.Stopped errors.NoMemory)
     ⊎ ((why : Refusal) × (move_refusal (objects_of keeper.objects name) id ≡ Some why)
     × (error ≡ refusals.Stopped (errors.Refused why)))
+RefusesOwn keeper (record_of.Hear position name layout) error = error ≡ refusals.Stopped errors.NoMemory
 
 -- why a node refuses the first record of a log: the record names no cluster, another cluster, or another node
 abbrev pub RefusesFirst : Keeper → Record → RecoveryError → Type 0

@@ -16,6 +16,7 @@ use Rattle.client_commands.specs.declared.command.Command.TheVariants as ask
 use Rattle.node_clients.specs.Services.{Service}
 use Rattle.node_strings.specs.declared.heard.Heard.{Heard}
 use Rattle.node.specs.Moves.{move_fault}
+use Rattle.node.specs.Shown.{IsPage}
 
 -- the answer is a refusal by some object of a call with some id
 abbrev pub IsRefusedBy : (LocalObject → (id : ℕ) → Option Refusal) → Answer → Type 0
@@ -28,10 +29,13 @@ abbrev pub IsMoveRefused : Option AnswerError → Answer → Type 0
 IsMoveRefused (Some fault) answer = answer ≡ answers.Error fault
 IsMoveRefused None answer = IsRefusedBy move_refusal answer
 
--- how a command that concerns no name, and is no QUIT, is answered: INFO by some lines, and each other one by its only
--- answer; for any other command this says nothing
+-- how a command that begins no call, and is no QUIT, is answered: INFO by some lines, DBSIZE by some number, LAYOUT by
+-- some line, SCAN by some names, and each other one by its only answer; for any other command this says nothing
 abbrev pub IsPlainReply : (client : ℕ) → Command → Answer → Type 0
 IsPlainReply client ask.Info answer = (lines : List ℕ) × (answer ≡ answers.Value lines)
+IsPlainReply client ask.CountWritten answer = (count : ℕ) × (answer ≡ answers.Number count)
+IsPlainReply client (ask.ShowLayout name) answer = (line : List ℕ) × (answer ≡ answers.Value line)
+IsPlainReply client (ask.Scan cursor options) answer = IsPage answer
 IsPlainReply client (ask.Ping None) answer = answer ≡ answers.Pong
 IsPlainReply client (ask.Ping (Some text)) answer = answer ≡ answers.Value text
 IsPlainReply client (ask.Echo text) answer = answer ≡ answers.Value text

@@ -34,6 +34,7 @@ use std::alloc::Global;
 
 mod commands;
 mod info;
+mod layouts;
 mod machine;
 mod messages;
 mod moves;

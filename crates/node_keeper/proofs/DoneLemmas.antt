@@ -3,11 +3,13 @@ use Rattle.std.proofs.Common.{◌≡◌, ℕ, List, ap}
 use Rattle.deeds.specs.CallId.{CallIds}
 use Rattle.letter.specs.declared.letter.Letter.{Letter}
 use Rattle.local_object.specs.declared.progress.Ended.{Ended}
+use Rattle.layout.specs.Layout.{IsLawful, Layout}
 use Rattle.local_object.specs.Events.{LocalEvent}
+use Rattle.local_object.specs.Local.{with_heard}
 use Rattle.node_keeper.specs.Doing.{IsOutcomeAt, IsReplyOutcomeAt}
-use Rattle.node_keeper.specs.Objects.{HaveSameSettings}
+use Rattle.node_keeper.specs.Objects.{HaveSameSettings, IsChangedAt, objects_of}
 use Rattle.cluster_file.specs.Placement.{placed}
-use Rattle.recoveries.specs.Records.{IsNamedOutcome, IsNamedReplyOutcome}
+use Rattle.recoveries.specs.Records.{IsNamedHearing, IsNamedOutcome, IsNamedReplyOutcome}
 use Rattle.node_keeper.specs.Keeping.{names_of_keeper, kept_of}
 use Rattle.node_keeper.specs.declared.keeper.Keeper.{Keeper}
 
@@ -55,5 +57,19 @@ taken_by old new name letter letters ended file ids done = record {
     node = ap (λ (i : CallIds). i.node) ids;
     epoch = ap (λ (i : CallIds). i.epoch) ids;
     objects = done.changed.objects;
+  };
+}
+
+-- a position that the object of a name hears of
+pub heard_at : (old new : Keeper) (name : List ℕ) (position : ℕ) (layout : Layout) → IsLawful layout → new.file ≡ old.file →
+    new.ids ≡ old.ids → IsChangedAt old.objects name (with_heard (objects_of old.objects name) position layout) new.objects →
+    IsNamedHearing (kept_of old) name position layout (kept_of new)
+heard_at old new name position layout lawful file ids changed = record {
+  lawful = lawful;
+  put = record {
+    file = file_same old new file changed.settings;
+    node = ap (λ (i : CallIds). i.node) ids;
+    epoch = ap (λ (i : CallIds). i.epoch) ids;
+    objects = changed.objects;
   };
 }

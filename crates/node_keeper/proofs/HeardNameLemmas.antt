@@ -1,5 +1,5 @@
 -- The names of which a node has heard, and whether letters can lead back to their objects.
-use Rattle.std.proofs.Common.{◌≡◌, ◌<◌, ◌==◌, ℕ, Bool, true, false, cond, List, [], ◌∷◌, length}
+use Rattle.std.proofs.Common.{◌≡◌, ◌<◌, ℕ, Bool, true, false, cond, List, [], ◌∷◌, length}
 use Rattle.std.proofs.Common.{Option, None, Some, slice_get, nat_eq, option_map, refl, sym, subst, ap, ◌∙◌}
 use Rattle.std.proofs.lemmas.Map.Entries.{place_from_lookup}
 use Rattle.std.proofs.lemmas.Option.{slice_get-map, slice_get_within}
@@ -66,18 +66,16 @@ heard_of keeper unique own = record {
 
 -- Objects to which letters can lead back
 
-module _ (keeper : Keeper) (mover : Bool) (is : mover ≡ (keeper.ids.node == keeper.file.fixed.mover)) where
+module _ (keeper : Keeper) where
   abbrev IsLed : List ℕ → Type 0
-  IsLed name = can_be_led_to mover (objects_of keeper.objects name) ≡ true
+  IsLed name = can_be_led_to (objects_of keeper.objects name) ≡ true
 
   pub all_led : ((i : ℕ) (name : List ℕ) → i < length (heard_names keeper.objects) →
       slice_get (heard_names keeper.objects) i ≡ Some name → IsLed name) → CanBeWrittenAnew (kept_of keeper)
-  all_led each name =
-      subst (λ b. can_be_led_to b (objects_of keeper.objects name) ≡ true) is
-      (go (get (pointwise nat_eq) keeper.objects.by_name name) refl)
+  all_led each name = go (get (pointwise nat_eq) keeper.objects.by_name name) refl
     where
       go : (o : Option LocalObject) → get (pointwise nat_eq) keeper.objects.by_name name ≡ o → IsLed name
-      go None e = ap (λ o. can_be_led_to mover (found_or_new o (new_of keeper.objects name))) e
+      go None e = ap (λ o. can_be_led_to (found_or_new o (new_of keeper.objects name))) e
       go (Some local) e =
           let at = place_from_lookup (pointwise nat_eq name) keeper.objects.by_name.entries local e in
           let there : slice_get (heard_names keeper.objects) at.0 ≡ Some at.1 =

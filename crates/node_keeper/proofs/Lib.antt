@@ -10,10 +10,12 @@ pub mod FittingLemmas
 pub mod HeardNameLemmas
 pub mod IdLemmas
 pub mod LetterLemmas
+pub mod PlaceRecordLemmas
 pub mod QuietLemmas
 pub mod ReadLemmas
 pub mod RequestLemmas
 pub mod ResultLemmas
+pub mod ScanLemmas
 pub mod SeenLemmas
 pub mod SendingLemmas
 pub mod UnchangedObjectLemmas

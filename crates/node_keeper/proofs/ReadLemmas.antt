@@ -29,3 +29,8 @@ take_read digest it is =
 pub move_read : (digest name : List ℕ) (id : ℕ) (layout : Layout) → id < 2 ^ 64 → IsLawful layout →
     IsReadBack digest (LogRecord.Moves name id layout)
 move_read digest name id layout range lawful = ap deeds_if (record_again (record_of.Move id name layout) (range, lawful))
+
+-- a position that the node has heard of
+pub hear_read : (digest name : List ℕ) (position : ℕ) (layout : Layout) → (position < 2 ^ 32) × IsLawful layout →
+    IsReadBack digest (LogRecord.Hears name position layout)
+hear_read digest name position layout ranges = ap deeds_if (record_again (record_of.Hear position name layout) ranges)

@@ -1,18 +1,17 @@
 -- The contracts that docs/trusted.md lists do not depend on this file; other contracts and proofs do.
 -- The records of a node's log that is written anew.
-use Rattle.std.specs.Prelude.{ℕ, List, map}
+use Rattle.std.specs.Prelude.{ℕ, List}
 use Rattle.node_keeper.specs.Objects.{heard_names, objects_of}
-use Rattle.object_letters.specs.Letters.{letters_as}
 use Rattle.recoveries.specs.Records.{LogRecord}
-use Rattle.recoveries.specs.RewrittenRecords.{object_records, rewritten_records}
+use Rattle.recoveries.specs.RewrittenRecords.{object_records, records_of_name, rewritten_records}
 use Rattle.node_keeper.specs.Keeping.{kept_of}
 use Rattle.node_keeper.specs.declared.keeper.Keeper.{Keeper}
 
--- the records of the letters that lead a new object to the object of this name
+-- the records that lead a new object to the object of this name
 abbrev pub name_records : (name : List ℕ) → Keeper → List LogRecord
-name_records name keeper = map (LogRecord.Serves name) (letters_as keeper.ids.node (objects_of keeper.objects name))
+name_records name keeper = records_of_name keeper.ids.node name (objects_of keeper.objects name)
 
--- the records of the letters that lead new objects to all objects in the node's map
+-- the records that lead new objects to all objects in the node's map
 abbrev pub object_records_of : Keeper → List LogRecord
 object_records_of keeper = object_records (kept_of keeper) (heard_names keeper.objects)
 

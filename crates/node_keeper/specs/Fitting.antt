@@ -1,8 +1,9 @@
 -- The contracts that docs/trusted.md lists do not depend on this file; other contracts and proofs do.
 -- Which letters can be sent, and which records can go to a log.
-use Rattle.std.specs.Prelude.{◌≡◌, ℕ, List}
+use Rattle.std.specs.Prelude.{◌≡◌, ◌<◌, ◌^◌, ℕ, List}
 use Rattle.std.specs.List.{AllByRecursion}
 use Rattle.frames.specs.Frame.{IsFrame}
+use Rattle.layout.specs.Layout.{IsLawful}
 use Rattle.node_log.specs.Entry.{IsEntry}
 use Rattle.node_messages.specs.Message.{IsMessage}
 use Rattle.recoveries.specs.Records.{LogRecord}
@@ -18,7 +19,8 @@ pub record HasFrame (digest : List ℕ) (send : Sending) : Type 0 where
 abbrev pub IsSendable : (number : ℕ) → (digest : List ℕ) → Sending → Type 0
 IsSendable number digest send = (send.to ≡ number → ⊥) → HasFrame digest send
 
--- the letter in a record, if there is one, is a message between nodes
+-- the letter in a record, if there is one, is a message between nodes; and a position that the node has heard of fits
+-- 32 bits, and its layout is lawful
 abbrev pub HasMessage : (digest : List ℕ) → LogRecord → Type 0
 HasMessage digest LogRecord.Starts = Unit {0}
 HasMessage digest (LogRecord.Serves name letter) =
@@ -26,8 +28,9 @@ HasMessage digest (LogRecord.Serves name letter) =
 HasMessage digest (LogRecord.Takes name letter) =
     IsMessage (message_of digest (record { name = name; letter = letter }))
 HasMessage digest (LogRecord.Moves name id layout) = Unit {0}
+HasMessage digest (LogRecord.Hears name position layout) = (position < 2 ^ 32) × IsLawful layout
 
--- the record can go to the log: the letter in it is a message, and its strings are those of an entry
+-- the record can go to the log: what is in it can be written, and its strings are those of an entry
 pub record IsLoggable (digest : List ℕ) (it : LogRecord) : Type 0 where
   pub message : HasMessage digest it
   pub entry : IsEntry (strings_for digest it)

@@ -11,3 +11,4 @@ pub mod Objects
 pub mod Resending
 pub mod Sendings
 pub mod Wants
+pub mod Written

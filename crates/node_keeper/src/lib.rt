@@ -7,6 +7,7 @@ pub use entries::push_entry;
 pub use ids::OwnIds;
 pub use keeper::Keeper;
 pub use objects::Objects;
+pub use objects::scan::Page;
 
 mod delivered;
 mod entries;

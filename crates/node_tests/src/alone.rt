@@ -86,3 +86,9 @@ pub(crate) fn started_node(rt: &impl Abort, alloc: Global) -> Node {
 pub(crate) fn recover(rt: &impl Abort, node: &mut Node, entry: Entry) {
     node.recover(entry).expect(rt, "an entry of the log");
 }
+
+/// Plays these steps at a node that is alone, and started with an empty log.
+pub(crate) fn play_alone(rt: &impl Abort, alloc: Global, steps: &[Step]) {
+    let mut node = started_node(rt, alloc);
+    play(rt, alloc, &mut node, steps);
+}

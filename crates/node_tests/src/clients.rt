@@ -3,4 +3,6 @@ mod answers;
 mod commands;
 mod faults;
 mod moves;
+mod patterns;
 mod samples;
+mod scans;

@@ -1,5 +1,5 @@
 //! Commands of clients, and what is read again from the log.
-use crate::alone::{Step, handle, new_node, play, recover, start, started_node};
+use crate::alone::{Step, handle, new_node, play, play_alone, recover, start};
 use node::Node;
 use node_effects::Output;
 use node_log::Entry;
@@ -69,11 +69,6 @@ fn reads(rt: HostRuntime) {
     play_alone(&rt, rt.alloc(), &READS);
 }
 
-fn play_alone(rt: &impl Abort, alloc: Global, steps: &[Step]) {
-    let mut node = started_node(rt, alloc);
-    play(rt, alloc, &mut node, steps);
-}
-
 static PLAIN_COMMANDS: [Step; 5] = [
     Step {
         words: "client 7|PING",
@@ -87,7 +82,7 @@ static PLAIN_COMMANDS: [Step; 5] = [
     },
     Step {
         words: "client 7|COMMAND|COUNT",
-        answers: "[Frame { strings: [b\"client 7\", b\":14\\r\\n\"] }]",
+        answers: "[Frame { strings: [b\"client 7\", b\":17\\r\\n\"] }]",
         outputs: None,
     },
     Step {

@@ -19,6 +19,8 @@ mod log;
 #[cfg(test)]
 mod messages;
 #[cfg(test)]
+mod names;
+#[cfg(test)]
 mod objects;
 #[cfg(test)]
 mod order;

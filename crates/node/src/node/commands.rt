@@ -3,6 +3,7 @@ ghost use Rattle.std.specs.Prelude.{◌≡◌, ◌∷◌, [], ℕ, List, false, 
 ghost use Rattle.indexmap.specs.IndexMap.{get, index_map_len};
 ghost use Rattle.node_clients.specs.Connections.{doing};
 ghost use Rattle.node_clients.specs.declared.connection.State.TheVariants.{Busy};
+ghost use Rattle.client_commands.specs.Patterns.{names_told};
 ghost use Rattle.client_commands.specs.Reading.{command_at};
 ghost use Rattle.client_commands.specs.declared.command.Command.TheVariants as ask;
 ghost use Rattle.node_clients.specs.Answers.{TellsClients};
@@ -10,11 +11,14 @@ ghost use Rattle.node_clients.specs.Desk.{NoneWaits};
 ghost use Rattle.node_keeper.specs.Acts.{Acts};
 ghost use Rattle.node.specs.AtOnce.{IsPlainHere};
 ghost use Rattle.node.specs.Replies.{IsPlainReply};
+ghost use Rattle.node.specs.Shown.{IsPageHere};
 ghost use Rattle.node.specs.Serving.{IsAwaited, ServesCommand, ServesNext};
 
 use super::Node;
 use bytes::Bytes;
-use client_commands::{Answer, AnswerError, Command, Wanted, count_names, read_command};
+use client_commands::{
+    Answer, AnswerError, Command, ScanOptions, Wanted, count_names, matching_names, read_command,
+};
 use frames::Frame;
 use node_clients::Desk;
 use node_effects::{NodeError, Work};
@@ -82,7 +86,7 @@ impl Node {
         }
     }
 
-    // The answer to a command that concerns no name, and is no `QUIT`.
+    // The answer to a command that begins no call, and is no `QUIT`.
     fn plain_answer(&self, client: ConnectionId, command: Command) -> Result<Answer, NodeError>
         ensures plain { IfOk result (IsPlainReply client command) }
         ensures here { IfOk result
@@ -91,6 +95,9 @@ impl Node {
     {
         match command {
             Command::Info => Ok(Answer::Value(self.info()?)),
+            Command::CountWritten => Ok(Answer::Number(self.keeper.objects.count_written())),
+            Command::ShowLayout(name) => Ok(Answer::Value(self.layout_line(&name)?)),
+            Command::Scan { cursor, options } => self.page(cursor, options),
             Command::Ping(None) => Ok(Answer::Pong),
             Command::Ping(Some(text)) => Ok(Answer::Value(text)),
             Command::Echo(text) => Ok(Answer::Value(text)),
@@ -100,6 +107,27 @@ impl Node {
             Command::ClientName => Ok(Answer::Nil),
             Command::Hello => Ok(Answer::Greeting(client)),
             _ => Ok(Answer::Ok),
+        }
+    }
+
+    // The answer to a `SCAN`.
+    fn page(&self, cursor: u64, options: ScanOptions) -> Result<Answer, NodeError>
+        ensures { IfOk result (IsPageHere self.now.keeper.objects cursor options) }
+    {
+        let page = self.keeper.objects.scan(cursor, options.count)?;
+        Ok(Answer::Page {
+            next: page.next,
+            names: self.told(options.pattern, page.names)?,
+        })
+    }
+
+    // Those of these names that match a pattern, if there is one.
+    fn told(&self, pattern: Option<Bytes>, names: Vec<Bytes>) -> Result<Vec<Bytes>, NodeError>
+        ensures { IfOk result (λ told. told.items ≡ names_told pattern names.items) }
+    {
+        match pattern {
+            Some(pattern) => Ok(matching_names(self.alloc, &pattern, &names)?),
+            None => Ok(names),
         }
     }
 

@@ -18,6 +18,7 @@ impl Node {
     {
         let name = NameLines {
             node: self.keeper.number(),
+            mover: self.keeper.file.mover(),
             digest: &self.keeper.digest,
             epoch: self.keeper.ids.epoch(),
         };
@@ -36,22 +37,24 @@ impl Node {
     }
 }
 
-// The lines that name the program, the node, the cluster and the epoch.
+// The lines that name the program, the node, the node that moves objects, the cluster and the epoch.
 #[derive(Clone, Copy)]
 struct NameLines<'a> {
     node: u8,
+    mover: u8,
     digest: &'a [u8],
     epoch: u32,
 }
 
 impl fmt::Display for NameLines<'_> {
-    ghost output = { λ it. Some (name_lines it.node it.digest.now it.epoch) };
+    ghost output = { λ it. Some (name_lines it.node it.mover it.digest.now it.epoch) };
 
     fn fmt<W: fmt::Write>(&self, f: &mut fmt::Formatter<W>) -> fmt::Result {
         write!(
             f,
-            "program:casd\r\nnode:{}\r\ncluster:{}\r\nepoch:{}\r\n",
+            "program:casd\r\nnode:{}\r\nmover:{}\r\ncluster:{}\r\nepoch:{}\r\n",
             self.node,
+            self.mover,
             Hexadecimal(self.digest),
             self.epoch
         )

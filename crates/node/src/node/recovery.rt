@@ -6,7 +6,7 @@ ghost use Rattle.node_keeper.specs.Objects.{objects_of};
 ghost use Rattle.node_effects.specs.declared.error.NodeError.TheVariants.{NoMemory};
 ghost use Rattle.node_effects.specs.declared.error.RecoveryError.TheVariants.{Stopped};
 ghost use Rattle.node_strings.specs.declared.record.Record.TheVariants as record_of;
-ghost use Rattle.recoveries.specs.Records.{IsNamedOutcome, IsStarted, IsNamedReplyOutcome};
+ghost use Rattle.recoveries.specs.Records.{IsNamedHearing, IsNamedOutcome, IsStarted, IsNamedReplyOutcome};
 ghost use Rattle.node_keeper.specs.Keeping.{kept_of};
 ghost use Rattle.node.specs.Frames.{IsLetterOf};
 ghost use Rattle.node.specs.Recovering.{CarriesOutRecord, KeepsDesk, RefusesLetter, RefusesOwn, RefusesRecord};
@@ -77,6 +77,11 @@ impl Node {
                 self.take_again(it)
             }
             Record::Move { id, name, layout } => self.recover_move(id, name, layout),
+            Record::Hear {
+                position,
+                name,
+                layout,
+            } => self.recover_hearing(name, position, layout),
         }
     }
 
@@ -147,6 +152,24 @@ impl Node {
                 Ok(()) => Ok(()),
                 Err(error) => Err(RecoveryError::Stopped(error)),
             },
+            Err(error) => Err(RecoveryError::Stopped(error)),
+        }
+    }
+
+    // The node hears of a position again.
+    fn recover_hearing(
+        &mut self,
+        name: Bytes,
+        position: u32,
+        layout: Layout,
+    ) -> Result<(), RecoveryError>
+        ensures heard { OnOk result
+            (IsNamedHearing (kept_of self.old.keeper) name position layout (kept_of self.new.keeper)) }
+        ensures rest { KeepsDesk self.old self.new }
+        ensures refused { IfErr result (λ e. e ≡ Stopped NoMemory) }
+    {
+        match self.keeper.hear_again(&name, position, layout) {
+            Ok(()) => Ok(()),
             Err(error) => Err(RecoveryError::Stopped(error)),
         }
     }

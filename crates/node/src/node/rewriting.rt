@@ -15,7 +15,7 @@ use node_strings::Record;
 
 impl Node {
     /// The entries of a log that is written anew, which gives back what the node keeps now. None if the log may not be
-    /// written anew now: a move is open here, or this node moves objects and has heard of a position behind the first.
+    /// written anew now: a move is open here, or a position has no next one.
     ///
     /// `NoMemory`. `Unwritable` if an entry is too long, which none is that a node makes.
     pub fn entries_anew(&self) -> Result<Option<Vec<Entry>>, NodeError>

@@ -4,7 +4,7 @@ ghost use Rattle.std.specs.Prelude.{IfErr, IfOk, OnOk, option_to_list};
 ghost use Rattle.local_object.specs.Doing.{move_refusal, serve_events};
 ghost use Rattle.local_object.specs.Events.{LocalEvent};
 ghost use Rattle.node_keeper.specs.Objects.{AreSame, objects_of};
-ghost use Rattle.recoveries.specs.Records.{IsNamedOutcome, IsStarted, IsNamedReplyOutcome};
+ghost use Rattle.recoveries.specs.Records.{IsNamedHearing, IsNamedOutcome, IsStarted, IsNamedReplyOutcome};
 ghost use Rattle.node_effects.specs.Errors.{IsByRefusal};
 ghost use Rattle.node_effects.specs.declared.error.NodeError.TheVariants.{NoMemory};
 ghost use Rattle.node_keeper.specs.Delivering.{KeepsRest, first_id};
@@ -66,6 +66,23 @@ impl Keeper {
         ensures unchanged { IfErr result (λ e. (e ≡ NoMemory) ⊎ AreSame self.old.objects self.new.objects) }
     {
         let _letters = self.objects.begin_move(name, id, layout)?;
+        Ok(())
+    }
+
+    /// Hears of a position again. Fails with `NoMemory`.
+    pub fn hear_again(
+        &mut self,
+        name: &Bytes,
+        position: u32,
+        layout: Layout,
+    ) -> Result<(), NodeError>
+        ensures heard { OnOk result
+            (IsNamedHearing (kept_of self.old) name.now position layout (kept_of self.new)) }
+
+        ensures rest { OnOk result (KeepsRest self.old self.new) }
+        ensures refused { IfErr result (λ e. e ≡ NoMemory) }
+    {
+        self.objects.hear(name, position, layout)?;
         Ok(())
     }
 }

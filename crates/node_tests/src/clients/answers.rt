@@ -40,6 +40,17 @@ fn a_greeting(rt: HostRuntime) {
     assert_line(&rt, rt.alloc(), Answer::Greeting(17), GREETING);
 }
 
+#[test]
+fn pages(rt: HostRuntime) {
+    let alloc = rt.alloc();
+    let names = strings(&rt, alloc, &[b"photo", b"", b"a\r\n\xff"]);
+    let line = b"*2\r\n$2\r\n17\r\n*3\r\n$5\r\nphoto\r\n$0\r\n\r\n$4\r\na\r\n\xff\r\n";
+    assert_line(&rt, alloc, Answer::Page { next: 17, names }, line);
+    let names = Vec::new(alloc);
+    let line = b"*2\r\n$1\r\n0\r\n*0\r\n";
+    assert_line(&rt, alloc, Answer::Page { next: 0, names }, line);
+}
+
 /// Values, and what stands before them. Behind them stands a line end.
 static VALUES: [(&[u8], &[u8]); 3] = [
     (b"hello", b"$5\r\n"),
@@ -56,7 +67,7 @@ fn values(rt: HostRuntime) {
 }
 
 /// Errors, and their lines.
-static ERRORS: [(AnswerError, &[u8]); 28] = [
+static ERRORS: [(AnswerError, &[u8]); 32] = [
     (
         AnswerError::Fault(CommandFault::UnknownCommand),
         b"-ERR unknown command\r\n",
@@ -105,6 +116,22 @@ static ERRORS: [(AnswerError, &[u8]); 28] = [
     (
         AnswerError::Fault(CommandFault::SyntaxError),
         b"-ERR syntax error\r\n",
+    ),
+    (
+        AnswerError::Fault(CommandFault::BadCursor),
+        b"-ERR invalid cursor\r\n",
+    ),
+    (
+        AnswerError::Fault(CommandFault::NotInteger),
+        b"-ERR value is not an integer or out of range\r\n",
+    ),
+    (
+        AnswerError::Fault(CommandFault::PatternTooLong),
+        b"-ERR pattern too long\r\n",
+    ),
+    (
+        AnswerError::Fault(CommandFault::NoSets),
+        b"-ERR a pattern has no sets in this store; write \\[ for the byte\r\n",
     ),
     (
         AnswerError::Fault(CommandFault::NameTooLong),

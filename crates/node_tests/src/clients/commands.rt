@@ -49,7 +49,7 @@ fn sent(rt: HostRuntime) {
 }
 
 /// The strings of a frame, and what it asks for.
-static STRINGS: [(&[&[u8]], &str); 22] = [
+static STRINGS: [(&[&[u8]], &str); 29] = [
     (&[b"info", b"server", b"clients"], "Ok(Info)"),
     (&[b"COMMAND"], "Ok(ListCommands)"),
     // What libraries say of themselves, and what ends a connection.
@@ -61,6 +61,29 @@ static STRINGS: [(&[&[u8]], &str); 22] = [
     ),
     (&[b"client", b"getname"], "Ok(ClientName)"),
     (&[b"QUIT"], "Ok(Quit)"),
+    (&[b"dbSize"], "Ok(CountWritten)"),
+    (&[b"layout", b"photo"], "Ok(ShowLayout(b\"photo\"))"),
+    // What `redis-cli --scan` and Python's `scan_iter` send.
+    (
+        &[b"SCAN", b"0"],
+        "Ok(Scan { cursor: 0, options: ScanOptions { pattern: None, count: 10 } })",
+    ),
+    (
+        &[b"scan", b"17", b"count", b"1000"],
+        "Ok(Scan { cursor: 17, options: ScanOptions { pattern: None, count: 1000 } })",
+    ),
+    (
+        &[b"SCAN", b"18446744073709551615", b"Count", b"1001"],
+        "Ok(Scan { cursor: 18446744073709551615, options: ScanOptions { pattern: None, count: 1000 } })",
+    ),
+    (
+        &[b"SCAN", b"0", b"MATCH", b"user:*", b"count", b"100"],
+        "Ok(Scan { cursor: 0, options: ScanOptions { pattern: Some(b\"user:*\"), count: 100 } })",
+    ),
+    (
+        &[b"SCAN", b"0", b"COUNT", b"2", b"COUNT", b"3"],
+        "Ok(Scan { cursor: 0, options: ScanOptions { pattern: None, count: 3 } })",
+    ),
     // What a client asks of a value without getting it.
     (
         &[b"StrLen", b"photo"],

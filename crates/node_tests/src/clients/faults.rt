@@ -9,7 +9,7 @@ use std::process::Abort;
 const LONG: &[u8] = &[b'n'; 256];
 
 /// Strings, and the fault of their frame.
-static FAULTS: [(&[&[u8]], CommandFault); 26] = [
+static FAULTS: [(&[&[u8]], CommandFault); 29] = [
     (&[], CommandFault::UnknownCommand),
     (&[b""], CommandFault::UnknownCommand),
     (&[b"GETS", b"photo"], CommandFault::UnknownCommand),
@@ -38,6 +38,15 @@ static FAULTS: [(&[&[u8]], CommandFault); 26] = [
     (
         &[b"ECHO", b"one", b"two"],
         CommandFault::WrongCount(CommandName::Echo),
+    ),
+    (
+        &[b"DBSIZE", b"0"],
+        CommandFault::WrongCount(CommandName::Dbsize),
+    ),
+    (&[b"LAYOUT"], CommandFault::WrongCount(CommandName::Layout)),
+    (
+        &[b"layout", b"one", b"two"],
+        CommandFault::WrongCount(CommandName::Layout),
     ),
     (&[b"CLIENT"], CommandFault::WrongCount(CommandName::Client)),
     (

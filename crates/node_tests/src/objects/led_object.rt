@@ -3,7 +3,7 @@ use crate::checks::{layout, shared_layout};
 use bank::{Request, Status};
 use bytes::Bytes;
 use letter::{Letter, SharedLayout};
-use local_object::LocalObject;
+use local_object::{LocalObject, Place};
 use mail::{Body, Message};
 use object_letters::{can_be_led_to, letters_of};
 use piece::Piece;
@@ -121,8 +121,7 @@ fn assert_leads_back(rt: &impl Abort, alloc: Global, object: &LocalObject) {
     assert!(rt; (copy.bytes_stored(), copy.places().len()) == (3, 2));
 }
 
-// Letters lead to an object with a read that is open, but not to one that moves, and at the node that moves objects not
-// to one with a second position.
+// Letters lead to an object with a read that is open, also if it has a second position, but not to one that moves.
 #[test]
 fn leads_to_what_stands_still(rt: HostRuntime) {
     read_spread_and_move(&rt, rt.alloc(), &mut new_object(&rt, rt.alloc()));
@@ -130,9 +129,30 @@ fn leads_to_what_stands_still(rt: HostRuntime) {
 
 fn read_spread_and_move(rt: &impl Abort, alloc: Global, object: &mut LocalObject) {
     assert!(rt; object.begin_read(1).is_ok());
-    assert!(rt; can_be_led_to(object, true));
+    assert!(rt; can_be_led_to(object));
     spread(rt, alloc, object);
-    assert!(rt; can_be_led_to(object, false) && !can_be_led_to(object, true));
+    assert!(rt; can_be_led_to(object));
     assert!(rt; object.begin_move(2, layout(rt, 2, &[3, 2, 1])).is_ok());
-    assert!(rt; !can_be_led_to(object, false));
+    assert!(rt; !can_be_led_to(object));
+}
+
+// The node hears of a position, and then of another layout for it, which changes nothing.
+#[test]
+fn hears_once(rt: HostRuntime) {
+    hear_twice(&rt, &mut new_object(&rt, rt.alloc()));
+}
+
+fn hear_twice(rt: &impl Abort, object: &mut LocalObject) {
+    assert!(rt; object.hear(1, layout(rt, 2, &[1, 2, 3])).is_ok());
+    assert!(rt; object.hear(1, layout(rt, 2, &[3, 2, 1])).is_ok());
+    assert_heard(rt, object.places());
+}
+
+fn assert_heard(rt: &impl Abort, places: &[Place]) {
+    match places {
+        [_, place] => {
+            assert!(rt; place.position() == 1 && *place.layout() == layout(rt, 2, &[1, 2, 3]));
+        }
+        _ => assert!(rt; false),
+    }
 }

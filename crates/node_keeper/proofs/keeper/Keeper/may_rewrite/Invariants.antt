@@ -5,4 +5,4 @@ use Rattle.node_keeper.proofs.keeper.Keeper.may_rewrite.Given as goal
 
 abbrev pub invariant-loop-index : goal.invariant-loop-index
 invariant-loop-index l = (i : ℕ) (name : List ℕ) → i < l.index → slice_get (heard_names l.self.objects) i ≡ Some name →
-    can_be_led_to l.is_mover (objects_of l.self.objects name) ≡ true
+    can_be_led_to (objects_of l.self.objects name) ≡ true
