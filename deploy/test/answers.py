@@ -1,4 +1,5 @@
 """What the test double `standin.py` answers to commands, as `casd` does."""
+import re
 
 
 def bulk(value):
@@ -28,12 +29,46 @@ def plain_answer(client, command, words, info):
     if command == b"INFO":
         return bulk(info())
     if command == b"COMMAND":
-        return b":14\r\n" if words and words[0].upper() == b"COUNT" else b"*0\r\n"
+        return b":17\r\n" if words and words[0].upper() == b"COUNT" else b"*0\r\n"
     if command == b"CLIENT" and words and words[0].upper() in (b"ID", b"GETNAME"):
         return b":%d\r\n" % client if words[0].upper() == b"ID" else NIL
     if command == b"CLIENT" or command == b"QUIT":
         return b"+OK\r\n"
     return answer_to_connection(client, command, words) or error_answer(command, words)
+
+
+def parts_of(pattern):
+    """The pattern as a regular expression."""
+    parts = re.findall(rb"\\.|.", pattern, re.DOTALL)
+    return b"".join({b"*": b".*", b"?": b"."}.get(part) or re.escape(part[-1:]) for part in parts)
+
+
+def answer_about_names(command, words, names, layout):
+    """The answer to a command about the names that the node keeps, if it is one."""
+    if command == b"DBSIZE" and not words:
+        return b":%d\r\n" % len(names)
+    if command == b"LAYOUT" and len(words) == 1:
+        return bulk(layout)
+    return page(words, names) if command == b"SCAN" and words else None
+
+
+def page(words, names):
+    """The answer to a SCAN, which walks through the names from the last one to the first."""
+    if not words[0].isdigit():
+        return b"-ERR invalid cursor\r\n"
+    count, pattern = 10, b"*"
+    for option, value in zip(words[1::2], words[2::2] + [None]):
+        if option.upper() == b"MATCH" and value is not None:
+            pattern = value
+            continue
+        if option.upper() != b"COUNT" or value in (None, b"0"):
+            return b"-ERR syntax error\r\n"
+        if not value.isdigit():
+            return b"-ERR value is not an integer or out of range\r\n"
+        count = min(int(value), 1000)
+    end = min(int(words[0]) or len(names), len(names))
+    told = [name for name in names[max(end - count, 0):end] if re.fullmatch(parts_of(pattern), name, re.DOTALL)]
+    return b"*2\r\n" + bulk(b"%d" % max(end - count, 0)) + b"*%d\r\n" % len(told) + b"".join(map(bulk, told))
 
 
 def answer_to_connection(client, command, words):
@@ -59,6 +94,6 @@ def error_answer(command, words):
         return b"-ERR a command has one name in this store; nothing was done\r\n"
     if option:
         return b"-ERR syntax error\r\n"
-    if command in (b"SET", b"PING", b"ECHO", b"SELECT", b"AUTH", *READINGS):
+    if command in (b"SET", b"PING", b"ECHO", b"SELECT", b"AUTH", b"DBSIZE", b"LAYOUT", b"SCAN", *READINGS):
         return b"-ERR wrong number of arguments for '%s' command\r\n" % command.lower()
     return b"-ERR unknown command\r\n"

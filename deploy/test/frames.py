@@ -1,5 +1,11 @@
 """Frames, in Python: arrays of bulk strings, for the stand-in and for the tests."""
 import re
+import sys
+from pathlib import Path
+
+sys.path.append(str(Path(__file__).resolve().parent.parent))
+
+from node_client import encode  # noqa: E402, F401
 
 MOST_STRINGS = 1024
 LONGEST_STRING = (16 << 20) + (64 << 10)
@@ -9,14 +15,6 @@ LINES = {kind: re.compile(re.escape(kind) + rb"(0|[1-9][0-9]{0,7})\r\n") for kin
 
 class BadFrame(Exception):
     """The bytes begin no frame."""
-
-
-def encode(strings):
-    """The bytes of the frame of these strings."""
-    parts = [b"*%d\r\n" % len(strings)]
-    for string in strings:
-        parts += [b"$%d\r\n" % len(string), string, b"\r\n"]
-    return b"".join(parts)
 
 
 def number_at(data, at, kind, most):

@@ -81,6 +81,30 @@ class Library(unittest.TestCase):
             with self.assertRaisesRegex(redis.ResponseError, "^name too long$"):
                 self.client.execute_command(*words)
 
+    def test_names(self):
+        wanted = {b"scanned-%d" % n for n in range(40)}
+        for name in wanted:
+            self.client.set(name, "value")
+        self.assertLessEqual(wanted, set().union(*(client.scan_iter(count=7) for client in self.clients)))
+        for pattern, count in (("scanned-*", 40), ("scanned-3?", 10), ("*ed-17", 1), ("scanned", 0),
+                               ("scanned\\-17", 1)):
+            found = set().union(*(client.scan_iter(match=pattern, count=7) for client in self.clients))
+            self.assertEqual((pattern, len(found)), (pattern, count))
+        for client in self.clients:
+            self.assertTrue(any(self.tells_as_many_as_it_counts(client) for _ in range(50)))
+
+    def tells_as_many_as_it_counts(self, client):
+        """Whether the node tells as many names as it counts. While requests of writes still come, it may not."""
+        names = list(client.scan_iter(count=7))
+        self.assertEqual(len(names), len(set(names)))
+        time.sleep(0.1)
+        return len(names) == client.dbsize()
+
+    def test_layout(self):
+        lines = {client.execute_command("LAYOUT", "never moved") for client in self.clients}
+        self.assertEqual(len(lines), 1)
+        self.assertRegex(lines.pop(), rb"^position 0 k \d+ nodes( \d+)+$")
+
     def test_connection_with_a_name(self):
         named = redis.Redis(port=PORTS[0], client_name="tester")
         self.assertIs(named.ping(), True)
@@ -94,6 +118,8 @@ SAME = [
     ["SELECT", "0"], ["SELECT", "99"], ["SELECT"], ["AUTH", "word"], ["AUTH", "default", "word"],
     ["AUTH", "nobody", "word"], ["AUTH"], ["STRLEN"], ["STRLEN", "same", "missing"], ["EXISTS"], ["HELLO", "9"],
     ["HELLO", "2", "AUTH", "nobody", "word"],
+    ["DBSIZE", "same"], ["SCAN"], ["SCAN", "word"], ["SCAN", "0", "COUNT"], ["SCAN", "0", "COUNT", "0"],
+    ["SCAN", "0", "COUNT", "word"], ["SCAN", "0", "WORD", "1"],
     ["CLIENT", "GETNAME"], ["CLIENT", "SETNAME", "tester"], ["SET", "same"], ["SET", "same", "value", "WORD"],
     ["GET", "same"],
 ]

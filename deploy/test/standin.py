@@ -16,7 +16,7 @@ import os
 import sys
 from collections import deque
 
-from answers import READINGS, plain_answer
+from answers import READINGS, answer_about_names, plain_answer
 from double_log import Log
 from frames import Frames, encode
 
@@ -176,7 +176,9 @@ class Node:
         elif command == b"SET" and len(words) == 2:
             self.begin(client, words[0], words[1])
         else:
-            self.answer(client, plain_answer(client, command, words, self.info))
+            layout = b"position 0 k 1 nodes %b" % b" ".join(b"%d" % node for node in self.nodes)
+            self.answer(client, answer_about_names(command, words, list(self.kept), layout)
+                        or plain_answer(client, command, words, self.info))
         if command == b"QUIT":
             self.out.append(encode([b"client %d" % client]))
             self.clients[client].has_quit = True
