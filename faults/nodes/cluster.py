@@ -116,10 +116,11 @@ class Cluster:
             (Path(folder) / str(number)).mkdir()
             self.nodes[number] = Node(words, number, Path(folder) / str(number), file, library)
 
-    def set_needed(self, needed):
-        """Sets, before the first start, how many fragments give a value back."""
+    def set(self, setting, value):
+        """Sets, before the first start, what the cluster file says of a setting, such as k."""
         lines = self.file.read_text().split("\n")
-        self.file.write_text("\n".join(f"k {needed}" if line.startswith("k ") else line for line in lines))
+        written = (f"{setting} {value}" if line.startswith(f"{setting} ") else line for line in lines)
+        self.file.write_text("\n".join(written))
 
     def up(self):
         return [number for number, node in self.nodes.items() if node.process is not None]

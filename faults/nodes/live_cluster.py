@@ -67,16 +67,19 @@ class Process:
 
 
 class LiveCluster:
-    """Nodes 1 to `count`, all on loopback addresses with one NATS server between them. Another network may give each
-    node a machine of its own: `address_of` and `words_on` say where it is and how a command runs there."""
+    """Nodes 1 to `count`, all on loopback addresses with one NATS server between them; the last ones, `later` of them,
+    keep no names at first. Another network may give each node a machine of its own: `address_of` and `words_on` say
+    where it is and how a command runs there."""
 
-    def __init__(self, options, folder, network=None, ticks=50):
-        self.count, self.folder, self.network = options.nodes, Path(folder), network
+    def __init__(self, options, folder, network=None, ticks=50, later=0):
+        self.count, self.folder, self.network = options.nodes + later, Path(folder), network
         self.program, self.host = options.program, options.host
         self.numbers = range(1, self.count + 1)
         self.file = self.folder / "cluster"
-        with open(self.file, "wb") as output:
-            subprocess.run([TOP / "deploy" / "cluster-file", str(self.count), str(ticks)], check=True, stdout=output)
+        said = subprocess.run([TOP / "deploy" / "cluster-file", str(options.nodes), str(ticks)], check=True,
+                              stdout=subprocess.PIPE, text=True).stdout
+        joined = " ".join(str(number) for number in self.numbers[options.nodes:])
+        self.file.write_text(said.replace("\nlater ", f"\nlater {joined} "))
         if network is None:
             *ports, nats_port = free_ports(self.count + 1)
             self.nats_ports, self.ports = [nats_port], dict(zip(self.numbers, ports))

@@ -20,6 +20,8 @@ from relay import Relays
 
 PASSED, FAILED, SKIPPED, NOT_SET_UP = 0, 1, 3, 4
 GIVE_UP_SOON = {"nats", "cuts", "delays"}
+LATER = {"replacement": 2}    # how many nodes join later, where some do
+ACTIVE = {"replacement": 120}  # how many names are in use at a time, where they are not four
 MOST_READ_AGAIN = 60
 
 
@@ -29,11 +31,12 @@ class Test:
     def __init__(self, name, options, folder):
         self.name, self.options, self.folder = name, options, Path(folder)
         self.source = self.choices_of(name)
-        self.history, self.names, self.counts, self.why = LiveHistory(), Names(4, 60), {}, None
+        self.history, self.names, self.counts, self.why = LiveHistory(), Names(ACTIVE.get(name, 4), 60), {}, None
         self.lock, self.ends, self.wires, self.mounted = threading.Lock(), 0, None, []
         network = live_network.Network(options.nodes) if name in ON_MACHINES else None
         # Where nodes are often apart, calls are given up soon, so that histories have such calls too.
-        self.cluster = LiveCluster(options, folder, network, ticks=15 if name in GIVE_UP_SOON else 50)
+        self.cluster = LiveCluster(options, folder, network, ticks=15 if name in GIVE_UP_SOON else 50,
+                                   later=LATER.get(name, 0))
         if name == "relays":
             self.wires = Relays(self.cluster.numbers, self.cluster.nats_ports[0])
             self.cluster.relays = self.wires.ports()
