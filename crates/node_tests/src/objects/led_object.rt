@@ -100,7 +100,7 @@ fn lead(rt: &impl Abort, alloc: Global, object: &LocalObject, copy: &mut LocalOb
     }
 }
 
-// Two versions, of which the first one's fragment was dropped, and a pointer that is pending: five letters lead there.
+// Two versions, of which the first one was forgotten, and a pointer that is pending: three letters lead there.
 #[test]
 fn leads_back(rt: HostRuntime) {
     assert_led(&rt, rt.alloc());
@@ -110,14 +110,14 @@ fn assert_led(rt: &impl Abort, alloc: Global) {
     let mut object = new_object(rt, alloc);
     assert_counts(rt, alloc, &object, 0, 0);
     write_and_spread(rt, alloc, &mut object);
-    assert_counts(rt, alloc, &object, 5, 1);
+    assert_counts(rt, alloc, &object, 3, 1);
     assert_leads_back(rt, alloc, &object);
 }
 
 fn assert_leads_back(rt: &impl Abort, alloc: Global, object: &LocalObject) {
     let mut copy = new_object(rt, alloc);
     lead(rt, alloc, object, &mut copy);
-    assert_counts(rt, alloc, &copy, 5, 1);
+    assert_counts(rt, alloc, &copy, 3, 1);
     assert!(rt; (copy.bytes_stored(), copy.places().len()) == (3, 2));
 }
 
