@@ -141,7 +141,7 @@ class Replace(MovingCase):
 
     def test_interruption(self):
         """The command is interrupted. Given again, it moves the names that are left, and none twice."""
-        self.cluster.delay = 0.2
+        self.cluster.delay = 1  # long enough for a signal to come before the end, also on a busy machine
         for number in (signal.SIGINT, signal.SIGTERM):
             words = [DEPLOY / "replace", "5", "6", "--at-once", "4", *self.cluster.addresses()]
             count = len(self.cluster.moved)
@@ -155,7 +155,7 @@ class Replace(MovingCase):
             self.assertRegex(said, r"^deploy/replace: interrupted: \d+ names moved from node 5 to node 6, \d+ left; "
                                    "give the command again for the others\n$")
             self.assertLess(len(self.cluster.moved), len(self.due))
-            time.sleep(1)  # until the moves that were sent have ended
+            time.sleep(2)  # until the moves that were sent have ended
         self.cluster.delay = 0
         self.replace(5, 6, *self.cluster.addresses())
         self.all_moved()
