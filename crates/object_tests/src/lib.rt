@@ -5,6 +5,8 @@
 #[cfg(test)]
 mod acts;
 #[cfg(test)]
+mod bank_deeds;
+#[cfg(test)]
 mod banks;
 #[cfg(test)]
 mod calls;
