@@ -4,7 +4,7 @@ use Rattle.std.proofs.Common.{replicate, take, refl, sym, ap, subst, inl, inr, a
 use Rattle.std.proofs.Math.Seq.{drop-cons, get_or-append_seam, take-length}
 use Rattle.std.proofs.lemmas.Bool.{eq-eqb, ne_eqb}
 use Rattle.std.proofs.lemmas.List.{get_or_append_left, get_or-replicate, length-drop, length-replicate}
-use Rattle.client_commands.specs.Patterns.{IsRow, fits, fits_here, fits_none}
+use Rattle.client_commands.specs.Patterns.{IsRow, fits, fits_here}
 use Rattle.client_commands.specs.declared.patterns.Part.{Part}
 use Rattle.client_commands.specs.declared.patterns.Part.TheVariants as part
 
@@ -32,12 +32,6 @@ fits_cons : (p : Part) (parts : List Part) (byte : ℕ) (bytes : List ℕ) →
 fits_cons part.AnyBytes parts byte bytes = refl
 fits_cons part.OneByte parts byte bytes = refl
 fits_cons (part.This wanted) parts byte bytes = refl
-
--- whether parts match no bytes
-pub fits_nil : (p : Part) (parts : List Part) → fits (p ∷ parts) [] ≡ fits_none p (fits parts [])
-fits_nil part.AnyBytes parts = refl
-fits_nil part.OneByte parts = refl
-fits_nil (part.This wanted) parts = refl
 
 -- a byte more at the front of an end of a text
 one_more : (text : List ℕ) (count : ℕ) → count < length text →

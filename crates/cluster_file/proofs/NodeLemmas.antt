@@ -2,7 +2,7 @@
 use Rattle.std.proofs.Common.{◌≡◌, ℕ, suc, ◌+◌, ◌<◌, ◌≤◌, ◌||◌, Bool, false}
 use Rattle.std.proofs.Common.{nat_eq, List, [], ◌∷◌, ◌++◌, length, get_or, drop, drop-cons}
 use Rattle.std.proofs.Common.{Ok, Err, refl, sym, ap, subst, ◌∙◌, append_assoc, arith, Bor}
-use Rattle.std.proofs.lemmas.List.{append-nil, drop_all, length-append}
+use Rattle.std.proofs.lemmas.List.{drop_all, length-append}
 use Rattle.std.proofs.lemmas.List.Folds.{list_any-append}
 use Rattle.std.specs.Prelude.{◌==◌}
 use Rattle.std.specs.List.{IsDistinct}
@@ -89,10 +89,3 @@ apart_more others listed new node apart none none_listed room pushed =
 pub none_apart : AreApart [] []
 unfolding IsDistinct
 none_apart = record { distinct = tt; few = omega arith }
-
--- nodes by themselves, before any that joined later
-pub apart_alone : (nodes : List ℕ) → AreApart [] nodes → AreApart nodes []
-apart_alone nodes apart = record {
-  distinct = subst (IsDistinct nat_eq) (sym (append-nil nodes)) apart.distinct;
-  few = subst (λ (ns : List ℕ). length ns ≤ MOST_SERVERS) (sym (append-nil nodes)) apart.few;
-}

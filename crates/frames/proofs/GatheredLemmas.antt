@@ -1,6 +1,6 @@
 -- Parts to which bytes are added.
 use Rattle.std.proofs.Common.{◌≡◌, ℕ, ◌+◌, List, [], ◌∷◌, ◌++◌, length}
-use Rattle.std.proofs.Common.{sym, ap, ◌∙◌, append_assoc, append-nil, length-append}
+use Rattle.std.proofs.Common.{sym, ap, ◌∙◌, append-nil, length-append}
 use Rattle.std.specs.List.{concat}
 use Rattle.std.proofs.lemmas.List.Folds.{concat-append}
 
@@ -21,13 +21,6 @@ part_added parts new last part view pushed none is =
     ap (λ (t : List ℕ). concat new ++ t) none ∙ append-nil (concat new) ∙ ap concat pushed ∙ one_more parts part
     ∙ ap (λ (t : List ℕ). t ++ part)
     (sym (append-nil (concat parts)) ∙ ap (λ (t : List ℕ). concat parts ++ t) (sym none) ∙ is)
-
--- bytes are added behind the last part
-pub last_added : (parts : List (List ℕ)) (last new more view : List ℕ) → new ≡ last ++ more → concat parts ++ last ≡ view
-    → concat parts ++ new ≡ view ++ more
-last_added parts last new more view pushed is =
-    ap (λ (t : List ℕ). concat parts ++ t) pushed ∙ sym (append_assoc (concat parts) last more)
-    ∙ ap (λ (t : List ℕ). t ++ more) is
 
 -- as many bytes as there were, and those that were added
 pub counted : (len more : ℕ) (old new added : List ℕ) → len ≡ length old + more → more ≡ length added → new ≡ old ++ added

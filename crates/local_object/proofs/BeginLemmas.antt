@@ -80,15 +80,6 @@ pub any_carried : (node : ℕ) (calls : List Machine)
 any_carried node [] = refl
 any_carried node (c ∷ cs) = ap (λ b. is_move c.kind || b) (any_carried node cs)
 
-pub length_carried : (node : ℕ) (calls : List Machine) → length (carried node calls) ≡ length calls
-length_carried node [] = refl
-length_carried node (c ∷ cs) = ap suc (length_carried node cs)
-
-pub carried_push : (node : ℕ) (calls : List Machine) (call : Machine)
-    → carried node (calls ++ call ∷ []) ≡ carried node calls ++ at_node node call ∷ []
-carried_push node [] call = refl
-carried_push node (c ∷ cs) call = ap (λ calls. at_node node c ∷ calls) (carried_push node cs call)
-
 -- why a move is refused
 module _ (old : LocalObject) (id : ℕ) (new : open_call old.calls id ≡ None) where
   move_by : (moving room : Bool) → is_moving old ≡ moving → ltb (last_position old + 2) (2 ^ 32) ≡ room

@@ -14,7 +14,7 @@ use Rattle.local_object.specs.Changing.{HasOnlyHeard, IsUnchangedBy, changes_in_
 use Rattle.local_object.specs.Distinct.{IsBankInOrderIfOpen}
 use Rattle.local_object.specs.Doing.{is_served}
 use Rattle.local_object.specs.Events.{LocalEvent, all_done, learnt_from, served_here}
-use Rattle.local_object.specs.Local.{LocalObject, Place, bank_here, bank_in, bank_or_opened, new_local, heard_place}
+use Rattle.local_object.specs.Local.{LocalObject, Place, bank_here, bank_in, bank_or_opened, heard_place}
 use Rattle.local_object.specs.Local.{with_bank_here}
 use Rattle.local_object.proofs.HeardLayoutLemmas.{bank_heard, bank_here_heard, bank_put_elsewhere, bank_put_there, calls_heard, delta_heard}
 use Rattle.local_object.proofs.HeardLayoutLemmas.{layout_kept, node_heard}
@@ -111,11 +111,6 @@ none_open : (first : Layout) (b : Bool)
     → IsBankInOrderIfOpen (bank_in (cond b (Some (let p : Place = record { position = 0; layout = first; bank = None } in p)) None))
 none_open first true = tt
 none_open first false = tt
-
-pub new_unchanged : (node : ℕ) (delta : Option ℕ) (first : Layout) (letter : Letter)
-    → is_changed_by (new_local node delta first) letter ≡ false → IsUnchangedBy (new_local node delta first) letter
-new_unchanged node delta first letter =
-    unchanged (new_local node delta first) letter (none_open first (eqb 0 letter.message.position))
 
 -- a letter that is not served
 pub unserved : (local : LocalObject) (letter : Letter) → is_served local letter ≡ false → IsUnchangedBy local letter

@@ -1,6 +1,6 @@
 -- Objects of which a node has not heard.
 use Rattle.std.proofs.Common.{◌≡◌, ◌↔◌, ℕ, nat_eq, ◌&&◌, not, Bool, true, false, eqb, eqb-true, eq-eqb, List, [], ◌∷◌, length}
-use Rattle.std.proofs.Common.{slice_get, Option, None, Some, is_some, refl, sym, ap, ap₂, ◌∙◌, arith}
+use Rattle.std.proofs.Common.{slice_get, Option, None, Some, is_some, refl, ap, ◌∙◌, arith}
 use Rattle.std.specs.Option.{option_eq}
 use Rattle.std.specs.Cmp.Lexicographic.{pointwise}
 use Rattle.std.proofs.lemmas.Bool.Decides.{Decides-eqb}
@@ -98,9 +98,3 @@ new_decided local node delta first = (to, from)
         ap (λ (l : LocalObject). is_new l node delta first) same
         ∙ are_both (eqb node node) (option_eq nat_eq delta delta && are_new_places first (first_place first ∷ [])) (eq-eqb node node refl)
         (are_both (option_eq nat_eq delta delta) (are_new_places first (first_place first ∷ [])) (limit_is delta) (first_is_new first))
-
--- what is read of the only place
-pub only_place : (first : Layout) (places : List Place) (place : Place) (r : Bool) → eqb (length places) 1 ≡ true
-    → slice_get places 0 ≡ Some place → r ≡ is_new_place first place → r ≡ are_new_places first places
-only_place first places place r one at is =
-    is ∙ sym (ap₂ (λ a o. a && is_new_if first o) one at)

@@ -1,9 +1,8 @@
 -- The pieces that replies carry, one reply after another.
-use Rattle.std.proofs.Common.{◌≡◌, ℕ, zero, suc, ◌<◌, ◌≤◌, List, [], ◌∷◌, ◌++◌, length, take, get_or, Option, Some, None, refl, sym, subst}
+use Rattle.std.proofs.Common.{◌≡◌, ℕ, zero, suc, ◌<◌, ◌≤◌, List, [], ◌∷◌, ◌++◌, length, take, get_or, refl, sym}
 use Rattle.std.proofs.Common.{ap, ◌∙◌}
 use Rattle.std.proofs.Common.{append_assoc, arith}
 use Rattle.std.specs.Option.{option_to_list}
-use Rattle.piece.specs.declared.piece.Piece.{Piece}
 use Rattle.mail.specs.declared.phase.Taken.{Taken}
 use Rattle.local_object.specs.Pieces.{own_piece, own_pieces}
 
@@ -34,20 +33,3 @@ pub take_full : {X : Type 0} (k : ℕ) (xs ys : List X) → k ≤ length (take k
 take_full zero xs ys full = refl
 take_full (suc k) [] ys full = absurd (omega (arith, full))
 take_full (suc k) (x ∷ xs) ys full = ap (λ zs. x ∷ zs) (take_full k xs ys (omega (arith, full)))
-
--- nothing is added
-pub add_none : (k : ℕ) (items before : List Piece) (o : Option Piece) → None ≡ o → items ≡ take k before
-    → items ≡ take k (before ++ option_to_list o)
-add_none k items before None none is = is ∙ ap (take k) (sym (nil_right before))
-add_none k items before (Some p) none is = absurd (cc)
-
-pub add_full : (k : ℕ) (items before : List Piece) (o : Option Piece) → k ≤ length items → items ≡ take k before
-    → items ≡ take k (before ++ option_to_list o)
-add_full k items before o full is =
-    is ∙ sym (take_full k before (option_to_list o) (subst (λ (xs : List Piece). k ≤ length xs) is full))
-
-pub add_piece : (k : ℕ) (items before : List Piece) (o : Option Piece) (piece : Piece) → Some piece ≡ o → length items < k
-    → items ≡ take k before → items ++ piece ∷ [] ≡ take k (before ++ option_to_list o)
-add_piece k items before o piece some less is =
-    ap (λ xs. xs ++ piece ∷ []) is ∙ sym (take_push k before piece (subst (λ (xs : List Piece). length xs < k) is less))
-    ∙ ap (λ o. take k (before ++ option_to_list o)) some

@@ -64,24 +64,6 @@ known_push number (p ∷ ps) place known = go (eqb p.position number) known (λ 
     go true known rest = known
     go false known rest = rest known
 
-pub known_bank : (number : ℕ) (places : List Place) (at : ℕ) (bank : Option Bank) → IsSome (heard_place places number)
-    → IsSome (heard_place (with_bank_here places at bank) number)
-known_bank number [] at bank known = known
-known_bank number (p ∷ ps) at bank known =
-    go (eqb p.position at) (eqb p.position number) refl known (λ rest. known_bank number ps at bank rest)
-  where
-    go : (a b : Bool) → eqb p.position number ≡ b → IsSome (cond b (Some p) (heard_place ps number))
-        → (IsSome (heard_place ps number) → IsSome (heard_place (with_bank_here ps at bank) number))
-        → IsSome (heard_place (cond a (record p { bank = bank } ∷ ps) (p ∷ with_bank_here ps at bank)) number)
-    go true true t known rest =
-        subst (λ b. IsSome (cond b (Some (record p { bank = bank })) (heard_place ps number))) (sym t) refl
-    go true false t known rest =
-        subst (λ b. IsSome (cond b (Some (record p { bank = bank })) (heard_place ps number))) (sym t) known
-    go false true t known rest =
-        subst (λ b. IsSome (cond b (Some p) (heard_place (with_bank_here ps at bank) number))) (sym t) refl
-    go false false t known rest =
-        subst (λ b. IsSome (cond b (Some p) (heard_place (with_bank_here ps at bank) number))) (sym t) (rest known)
-
 -- The last position
 
 -- a position that is the greatest of some is one of them, or the one that was given

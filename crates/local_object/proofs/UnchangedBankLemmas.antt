@@ -41,11 +41,6 @@ opened_in_order member delta = record {
   remembered = remembered-opened member delta 0;
 }
 
-pub either_in_order : (bank : Option Bank) (member : ℕ) (delta : Option ℕ) → IsBankInOrderIfOpen bank
-    → IsBankInOrder (bank_or_opened bank member delta)
-either_in_order None member delta order = opened_in_order member delta
-either_in_order (Some bank) member delta order = order
-
 still_there : (old new : Option ℕ) → Comes 0 old new → IsSome old → IsSome new
 still_there None new comes some = absurd (false≢true some)
 still_there (Some step) new (inl same) some = subst IsSome (sym same) refl

@@ -56,16 +56,6 @@ has_served_then ticks a b c u v w first second f s = record {
       (all_notices (first ++ second)) f.notices s.notices (notices_append first second);
 }
 
--- nothing happens
-pub nothing_served : (ticks : ℕ) (desk : Desk) (u v : Work) → v.to_clients.items ≡ u.to_clients.items →
-    v.due.items ≡ u.due.items → v.notices.items ≡ u.notices.items → HasServed ticks desk u [] desk v
-nothing_served ticks desk u v told due notices = record {
-  served = refl;
-  told = told ∙ sym (append-nil u.to_clients.items);
-  due = due ∙ sym (append-nil u.due.items);
-  notices = notices ∙ sym (append-nil u.notices.items);
-}
-
 -- one thing happens
 pub one_served : (ticks : ℕ) (a b : Desk) (u v : Work) (service : Service) → IsServiceDone ticks a service b →
     v.to_clients.items ≡ u.to_clients.items ++ service_frames service → v.due.items ≡ u.due.items ++ service_dues service →

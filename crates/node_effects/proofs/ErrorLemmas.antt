@@ -7,14 +7,11 @@ use Rattle.std.proofs.lemmas.Fmt.{length-decimal-le}
 use Rattle.frames.specs.Frame.{IsFrame, IsNoFrame, IsShort}
 use Rattle.frames.specs.declared.error.Fault.{Fault}
 use Rattle.frames.specs.declared.error.Fault.TheVariants as faults
-use Rattle.frames.specs.declared.error.FrameError.{FrameError}
-use Rattle.frames.specs.declared.error.FrameError.TheVariants as frame_errors
 use Rattle.frames.specs.declared.limits.TheConstants.{LONGEST_STRING, MOST_STRINGS}
-use Rattle.node_log.specs.Entry.{IsEntry, IsNoEntry, sealed}
+use Rattle.node_log.specs.Entry.{IsEntry}
 use Rattle.node_strings.specs.Arrival.{client_address}
 use Rattle.node_strings.specs.Record.{record_strings}
 use Rattle.node_strings.specs.declared.record.Record.TheVariants as record_of
-use Rattle.node_effects.specs.Errors.{IsUnwritten, error_of_frame}
 use Rattle.node_strings.specs.Strings.{Strings}
 
 pub no_frame : (strings : Strings) (fault : Fault) → IsNoFrame strings fault → IsFrame strings → ⊥
@@ -25,13 +22,6 @@ no_frame strings faults.BadType none is = none
 no_frame strings faults.BadNumber none is = none
 no_frame strings faults.NoLineEnd none is = none
 no_frame strings faults.UnexpectedEnd none is = none
-
--- if strings become no entry, the node's error says why: memory was refused, or they are no frame
-pub unwritten_entry : (strings : Strings) (error : FrameError) → IsNoEntry strings error →
-    IsUnwritten (IsEntry strings) (error_of_frame error)
-unwritten_entry strings (frame_errors.Fault fault) none = λ is. no_frame (sealed strings) fault none is
-unwritten_entry strings frame_errors.NoMemory none = tt
-unwritten_entry strings (frame_errors.Failed error) none = absurd none
 
 -- a string of at most 100 bytes is short
 small : (string : List ℕ) → length string ≤ 100 → IsShort string

@@ -1,11 +1,11 @@
 -- Bytes that are zeros, and readers that have nothing else left.
-use Rattle.std.proofs.Common.{◌≡◌, ◌↔◌, ℕ, zero, suc, ◌+◌, ◌-◌, ◌≤◌, List, [], ◌∷◌, ◌++◌, length, drop, get_or, replicate}
-use Rattle.std.proofs.Common.{Option, Some, None, refl, sym, ap, ◌∙◌, subst, append-nil, arith, ⊎_elim}
+use Rattle.std.proofs.Common.{◌≡◌, ◌↔◌, ℕ, zero, suc, ◌+◌, ◌-◌, ◌≤◌, List, [], ◌∷◌, ◌++◌, length, get_or, replicate}
+use Rattle.std.proofs.Common.{Option, Some, None, refl, sym, ◌∙◌, subst, arith, ⊎_elim}
 use Rattle.std.proofs.Common.{IsTrue, Bool, true, false, eqb}
 use Rattle.std.specs.List.{list_all}
-use Rattle.std.specs.Io.KnownBytes.{Consumes, IsAtEnd}
+use Rattle.std.specs.Io.KnownBytes.{Consumes}
 use Rattle.std.proofs.lemmas.Bool.{and_parts, and_from, eqb-true, eq-eqb, cases_lt, true≢false}
-use Rattle.std.proofs.lemmas.List.{get_or_past, get_or-append_right, get_or_append_left, get_or-append-add, get_or-drop}
+use Rattle.std.proofs.lemmas.List.{get_or_past, get_or-append_right, get_or_append_left, get_or-append-add}
 use Rattle.std.proofs.lemmas.List.{get_or-replicate, length-replicate}
 use Rattle.frames.proofs.BufferPartLemmas.{Consumes_then}
 use Rattle.node_log.specs.Reading.{AreZerosFrom, HadLeft}
@@ -44,27 +44,6 @@ zeros_of_both xs ys p q i h =
     (λ high. get_or-append_right xs ys (length xs) i 0 refl high ∙ q (i - length xs) (omega arith))
     (cases_lt i (length xs))
 
-pub zeros_dropped : (n : ℕ) (xs : List ℕ) → AreZerosFrom n xs → AreZerosFrom 0 (drop n xs)
-zeros_dropped n xs zeros i h = get_or-drop n xs i 0 ∙ zeros (n + i) (omega arith)
-
-pub zeros_before_drop : (n : ℕ) (xs : List ℕ) → AreZerosFrom 0 (drop n xs) → AreZerosFrom n xs
-zeros_before_drop n xs zeros i h =
-    let j = i - n in
-    let e : n + (i - n) ≡ i = omega arith in
-    subst (λ (k : ℕ). get_or xs k 0 ≡ 0) e (sym (get_or-drop n xs j 0) ∙ zeros j (omega arith))
-
--- zeros from a place of a part on, and behind the part
-pub zeros_on : (place : ℕ) (xs ys : List ℕ) → AreZerosFrom place xs → AreZerosFrom 0 ys → AreZerosFrom place (xs ++ ys)
-zeros_on place xs ys p q i h =
-    ⊎_elim (λ low. get_or_append_left xs ys 0 i low ∙ p i h)
-    (λ high. get_or-append_right xs ys (length xs) i 0 refl high ∙ q (i - length xs) (omega arith))
-    (cases_lt i (length xs))
-
-pub zeros_of_part : (place : ℕ) (xs ys : List ℕ) → AreZerosFrom place (xs ++ ys) → AreZerosFrom place xs
-zeros_of_part place xs ys zeros i h =
-    ⊎_elim (λ low. sym (get_or_append_left xs ys 0 i low) ∙ zeros i h) (λ high. get_or_past xs i 0 high)
-    (cases_lt i (length xs))
-
 pub zeros_behind_part : (place : ℕ) (xs ys : List ℕ) → place ≤ length xs → AreZerosFrom place (xs ++ ys) → AreZerosFrom 0 ys
 zeros_behind_part place xs ys within zeros i h =
     sym (get_or-append-add xs ys i 0) ∙ zeros (length xs + i) (omega arith)
@@ -89,24 +68,10 @@ zeros_put_behind front n place within i h =
 abbrev pub ZerosSoFar : Known → Known → Type 0
 ZerosSoFar old new = (done : List ℕ) × AreZerosFrom 0 done × Consumes old new done
 
-pub zeros_none : (old : Known) → ZerosSoFar old old
-zeros_none None = ([], (λ i h. get_or_past [] i 0 (omega arith)), tt)
-zeros_none (Some xs) = ([], (λ i h. get_or_past [] i 0 (omega arith)), refl)
-
 pub zeros_more : (old mid new : Known) (part : List ℕ) → ZerosSoFar old mid → Consumes mid new part → AreZerosFrom 0 part
     → ZerosSoFar old new
 zeros_more old mid new part p took zeros =
     (p.0 ++ part, zeros_of_both p.0 part p.1 zeros, Consumes_then old mid new p.0 part p.2 took)
-
-pub only_zeros : (old mid new : Known) (part : List ℕ) → ZerosSoFar old mid → Consumes mid new part → part ≡ [] → IsAtEnd new
-    → HadLeft (λ bytes. IsTrue true ↔ AreZerosFrom 0 bytes) old
-only_zeros None mid new part p took none end = tt
-only_zeros (Some xs) None new part p took none end = absurd p.2
-only_zeros (Some xs) (Some ys) None part p took none end = absurd took
-only_zeros (Some xs) (Some ys) (Some zs) part p took none end =
-    let whole : p.0 ≡ xs =
-    sym (append-nil p.0) ∙ ap (λ (t : List ℕ). p.0 ++ t) (sym (took ∙ ap (λ (t : List ℕ). t ++ zs) none ∙ end)) ∙ sym p.2 in
-    ((λ yes. subst (AreZerosFrom 0) whole p.1), (λ zeros. refl))
 
 pub other_bytes : (old mid new : Known) (part : List ℕ) → ZerosSoFar old mid → Consumes mid new part → (AreZerosFrom 0 part → ⊥)
     → HadLeft (λ bytes. IsTrue false ↔ AreZerosFrom 0 bytes) old

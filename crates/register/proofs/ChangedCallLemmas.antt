@@ -18,22 +18,21 @@ use Rattle.mail.specs.declared.message.Message.{Message}
 use Rattle.mail.specs.Phase.{Phase, lacks_pieces}
 use Rattle.record.specs.declared.call.CallKind.{CallKind}
 use Rattle.record.specs.declared.stage.Stage.{Stage}
-use Rattle.record.specs.Records.{Call, Object, no_layout, layout_at}
+use Rattle.record.specs.Records.{Object, no_layout, layout_at}
 use Rattle.record.specs.PhaseOrder.{begun_at, passed, stage_past, stage_after}
 use Rattle.record.specs.Legal.{first_stage, source_of}
 use Rattle.soundness.specs.Sound.{IsSound}
 use Rattle.record.specs.Steps.{with_phase, new_phase}
 use Rattle.record.specs.Sending.{request_to, requests}
 use Rattle.register.specs.Position.{Position, layouts_of}
-use Rattle.register.specs.Tracked.{Tracked, calls_of, with_begun}
+use Rattle.register.specs.Tracked.{Tracked, with_begun}
 use Rattle.register.specs.State.{Contents, object_of, state_of}
 use Rattle.register.proofs.PieceLengthLemmas.{few_have_room, mail_short}
 use Rattle.register.specs.Kept.{HasRoomIfFew, IsKept}
-use Rattle.register.specs.Causes.{call_at, if_call, unless}
-use Rattle.register.proofs.ListLemmas.{length_map}
+use Rattle.register.specs.Causes.{call_at, unless}
 use Rattle.register.proofs.StepInvariantLemmas.{call_kept, open_moves_set}
 use Rattle.tag.specs.declared.refusal.Refusal.{Refusal}
-use Rattle.tag.specs.declared.refusal.Refusal.TheVariants.{NoCall, Full}
+use Rattle.tag.specs.declared.refusal.Refusal.TheVariants.{Full}
 
 -- Parts that are read
 
@@ -125,22 +124,6 @@ with_due_kept c index t kind position layout now piece kept at few sound =
   where
     next : Phase
     next = new_phase (suc index) (suc (length t.call.phases)) kind position layout now
-
--- a number without a call
-pub if_no_call : (c : Contents) (number : ℕ) (cause : Call → Option Refusal) → (number ≡ 0) ⊎ (length c.calls < number) →
-    if_call (call_at (state_of c).object number) cause ≡ Some NoCall
-if_no_call c number cause none =
-    ap (λ o. if_call o cause) (no_call (state_of c).object number (go none))
-  where
-    go : (number ≡ 0) ⊎ (length c.calls < number) → (number ≡ 0) ⊎ (length (calls_of c.calls) < number)
-    go (inl zero_is) = inl zero_is
-    go (inr past) = inr (subst (λ n. n < number) (sym (length_map (λ (u : Tracked). u.call) c.calls)) past)
-
-pub if_no_such : {c : Contents} {number : ℕ} {calls : List Tracked} {refusal : Refusal} → IsKept c → calls ≡ c.calls
-    → (refusal ≡ NoCall) × ((number ≡ 0) ⊎ (length calls < number)) → (cause : Call → Option Refusal)
-    → if_call (call_at (state_of c).object number) cause ≡ Some refusal
-if_no_such {c = c} {number = number} kept same refused cause =
-    if_no_call c number cause (subst (λ (xs : List Tracked). (number ≡ 0) ⊎ (length xs < number)) same refused.1) ∙ ap Some (sym refused.0)
 
 -- the phase that is due has a next position in the machine's numbers
 pub below_limit : (count : ℕ) (next : Option (Kind × ℕ)) → IfSome next (λ asked. asked.1 < count) → count ≤ MOST_POSITIONS
