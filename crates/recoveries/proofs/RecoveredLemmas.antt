@@ -10,11 +10,7 @@ use Rattle.deeds.specs.Named.{is_same_name}
 use Rattle.recoveries.specs.Laws.{TwoAreRecovered}
 use Rattle.recoveries.specs.Records.{IsNamedOutcome, IsKeptUnder, IsSame, LogRecord, Recovers, RecoversOne}
 use Rattle.recoveries.proofs.LoggedLemmas.{begun_within}
-use Rattle.recoveries.proofs.NodeCopyLemmas.{same_self, same_then}
-
--- one record
-pub one_recovers : (one : LogRecord) (old new : KeptNode) → RecoversOne one old new → Recovers (one ∷ []) old new
-one_recovers one old new is = (new, is, same_self new)
+use Rattle.recoveries.proofs.NodeCopyLemmas.{same_then}
 
 module _ (a b c : KeptNode) (same : IsSame a b) where
   put_from : (name : List ℕ) (local : LocalObject) → IsKeptUnder b name local c → IsKeptUnder a name local c
@@ -65,12 +61,6 @@ pub recovers_from : (records : List LogRecord) (a b c : KeptNode) → IsSame a b
 recovers_from [] a b c same recovers = same_then a b c same recovers
 recovers_from (one ∷ records) a b c same recovers =
     (recovers.0, one_from a b recovers.0 same one recovers.1, recovers.2)
-
--- a node that keeps the same afterwards
-pub recovers_to : (records : List LogRecord) (a b c : KeptNode) → Recovers records a b → IsSame b c → Recovers records a c
-recovers_to [] a b c recovers same = same_then a b c recovers same
-recovers_to (one ∷ records) a b c recovers same =
-    (recovers.0, recovers.1, recovers_to records recovers.0 b c recovers.2 same)
 
 pub two_recovered : TwoAreRecovered
 two_recovered old middle new [] second one other = recovers_from second old middle new one other

@@ -1,6 +1,6 @@
 -- A node that stops in the middle of what it does.
 use Rattle.std.proofs.Common.{◌≡◌, ◌⊎◌, inl, inr, List, [], ◌∷◌, ◌++◌, map, refl, sym, subst, ap, ◌∙◌}
-use Rattle.std.proofs.lemmas.List.{append_assoc}
+use Rattle.std.proofs.lemmas.List.{append-nil, append_assoc}
 use Rattle.record.specs.Fragments.{Code}
 use Rattle.deeds.specs.Deeds.{Notice}
 use Rattle.deeds.specs.Handled.{IsHandled}
@@ -98,13 +98,29 @@ first_of_two {A} (r ∷ outputs) more (s ∷ first) rest e =
 -- the node did all, and these are the records that it needs and some of the letters that it sent
 behind_all : (fragment : Code) (old new : KeptNode) (got sent left : List NamedLetter) (notices : List Notice)
     (records : List LogRecord) (first : List Output) → IsHandled fragment old got new sent notices →
-    IsLogged old records new → logged_in first ≡ records → sent_in first ++ left ≡ sent → IsOnTheWay fragment old got first
+    IsLogged old records new → logged_in first ≡ records → sent_in first ++ left ≡ sent →
+    IsOnTheWay fragment old got first notices
 behind_all fragment old new got sent left notices records first handled logged needs letters = record {
   middle = new;
   more = left;
   notices = notices;
+  unseen = [];
   handled = subst (λ xs. IsHandled fragment old got new xs notices) (sym letters) handled;
   logged = subst (λ rs. IsLogged old rs new) (sym needs) logged;
+  first_seen = sym (append-nil notices);
+}
+
+-- clients may see more later on
+seeing_more : (fragment : Code) (old : KeptNode) (got : List NamedLetter) (first : List Output) (seen later : List Notice) →
+    IsOnTheWay fragment old got first seen → IsOnTheWay fragment old got first (seen ++ later)
+seeing_more fragment old got first seen later way = record {
+  middle = way.middle;
+  more = way.more;
+  notices = way.notices;
+  unseen = way.unseen ++ later;
+  handled = way.handled;
+  logged = way.logged;
+  first_seen = ap (λ xs. xs ++ later) way.first_seen ∙ append_assoc way.notices way.unseen later;
 }
 
 pub unlogged_safe : UnloggedIsSafe
@@ -125,18 +141,20 @@ one_safe fragment old new got sent notices one later handled logged = record {
   stops = go;
 }
   where
-    go : (first rest : List Output) → logged_first (one ∷ []) sent ≡ first ++ rest → IsOnTheWay fragment old got first
+    go : (first rest : List Output) → logged_first (one ∷ []) sent ≡ first ++ rest → IsOnTheWay fragment old got first notices
     go [] rest e = record {
       middle = old;
       more = [];
       notices = [];
+      unseen = notices;
       handled = nothing_handled fragment old got old.ids later;
       logged = same_unlogged old old (same_self old);
+      first_seen = refl;
     }
     go (output ∷ first) rest e =
         let same = head_same (Output.Logs one) output (letters_alone sent) (first ++ rest) e in
         let front = front_of sent first rest same.1 in
-        subst (λ x. IsOnTheWay fragment old got (x ∷ first)) same.0
+        subst (λ x. IsOnTheWay fragment old got (x ∷ first) notices) same.0
         (behind_all fragment old new got sent front.left notices (one ∷ []) (Output.Logs one ∷ first) handled logged
         (ap (λ rs. one ∷ rs) (ap logged_in front.first_is ∙ logged_alone front.part))
         (ap (λ xs. xs ++ front.left) (ap sent_in front.first_is ∙ sent_alone front.part) ∙ front.sent_is))
@@ -150,22 +168,26 @@ two_safe fragment old middle new got outputs more seen later one other = record 
   stops = λ part rest e. go part rest (first_of_two outputs more part rest e);
 }
   where
-    go : (part rest : List Output) → IsWithin outputs part ⊎ IsBeyond outputs more part rest → IsOnTheWay fragment old got part
-    go part rest (inl within) = one.stops part within.left within.outputs_are
+    go : (part rest : List Output) → IsWithin outputs part ⊎ IsBeyond outputs more part rest →
+        IsOnTheWay fragment old got part (seen ++ later)
+    go part rest (inl within) =
+        seeing_more fragment old got part seen later (one.stops part within.left within.outputs_are)
     go part rest (inr beyond) =
         let there = other.stops beyond.later rest beyond.more_is in
         let letters : sent_in (outputs ++ beyond.later) ++ there.more ≡ sent_in outputs ++ (sent_in beyond.later ++ there.more) =
         ap (λ xs. xs ++ there.more) (sent_append outputs beyond.later)
         ∙ append_assoc (sent_in outputs) (sent_in beyond.later) there.more in
-        subst (IsOnTheWay fragment old got) (sym beyond.first_is) (record {
+        subst (λ xs. IsOnTheWay fragment old got xs (seen ++ later)) (sym beyond.first_is) (record {
           middle = there.middle;
           more = there.more;
           notices = seen ++ there.notices;
+          unseen = there.unseen;
           handled = subst (λ xs. IsHandled fragment old got there.middle xs (seen ++ there.notices)) (sym letters)
               (both_handled fragment old got middle (sent_in outputs) seen there.middle (sent_in beyond.later ++ there.more)
               there.notices one.handled there.handled);
           logged = subst (λ rs. IsLogged old rs there.middle) (sym (logged_append outputs beyond.later))
               (two_logged old middle there.middle (logged_in outputs) (logged_in beyond.later) one.logged there.logged);
+          first_seen = ap (λ xs. seen ++ xs) there.first_seen ∙ sym (append_assoc seen there.notices there.unseen);
         })
 
 pub more_safe : MoreIsSafe
@@ -176,13 +198,15 @@ more_safe fragment old new got more outputs notices each safe = record {
     middle = there.middle;
     more = there.more;
     notices = there.notices;
+    unseen = there.unseen;
     handled = more_handled fragment old got more there.middle (sent_in first ++ there.more) there.notices each there.handled;
     logged = there.logged;
+    first_seen = there.first_seen;
   };
 }
 
 pub stopped_restarted : StoppedNodesRestart
-stopped_restarted fragment begin old copy after got records first recorded way recovers started =
+stopped_restarted fragment begin old copy after got records first seen recorded way recovers started =
     let then = more_recorded begin old way.middle records (logged_in first) recorded way.logged in
     let again = recovered_restarted begin way.middle copy after (records ++ logged_in first) then recovers started in
-    (way.middle, way.more, way.notices, way.handled, again.0, again.1)
+    (way.middle, way.more, way.notices, way.unseen, way.first_seen, way.handled, again.0, again.1)

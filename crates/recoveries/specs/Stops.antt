@@ -33,25 +33,27 @@ sent_in (Output.Sends letter ∷ outputs) = letter ∷ sent_in outputs
 abbrev pub logged_first : List LogRecord → List NamedLetter → List Output
 logged_first records sent = map (λ it. Output.Logs it) records ++ map (λ letter. Output.Sends letter) sent
 
--- the node could have reached, on its way, a state in which it has sent all letters among these outputs, and for which
--- the records among them are enough
-pub record IsOnTheWay (fragment : Code) (old : KeptNode) (got : List NamedLetter)
-    (outputs : List Output) : Type 0 where
+-- the node could have reached, on its way, a state in which it has sent all letters among these outputs, for which the
+-- records among them are enough, and by which its clients had seen the first of these notices
+pub record IsOnTheWay (fragment : Code) (old : KeptNode) (got : List NamedLetter) (outputs : List Output)
+    (seen : List Notice) : Type 0 where
   pub middle : KeptNode
   pub more : List NamedLetter
   pub notices : List Notice
+  pub unseen : List Notice
   pub handled : IsHandled fragment old got middle (sent_in outputs ++ more) notices
   pub logged : IsLogged old (logged_in outputs) middle
+  pub first_seen : seen ≡ notices ++ unseen
 
 -- The node handled letters; the letters among these outputs are those that it sent, and the records among them are
 -- enough for what it did. Each beginning of the outputs is one at which the node may stop: its records are enough for a
--- state that the node could have reached on the way, and by then it had sent its letters. So a letter may go out as
--- soon as the log has all records before it.
+-- state that the node could have reached on the way. By then it had sent the letters of that beginning, and its clients
+-- had seen the first of the notices. So a letter may go out as soon as the log has all records before it.
 pub record IsHandledSafely (fragment : Code) (old : KeptNode) (got : List NamedLetter) (outputs : List Output)
     (new : KeptNode) (notices : List Notice) : Type 0 where
   pub handled : IsHandled fragment old got new (sent_in outputs) notices
   pub logged : IsLogged old (logged_in outputs) new
-  pub stops : (first rest : List Output) → outputs ≡ first ++ rest → IsOnTheWay fragment old got first
+  pub stops : (first rest : List Output) → outputs ≡ first ++ rest → IsOnTheWay fragment old got first notices
 
 -- what needs no record is handled safely
 abbrev pub UnloggedIsSafe : Type 0
@@ -80,11 +82,11 @@ MoreIsSafe = (fragment : Code) (old new : KeptNode) (got more : List NamedLetter
 
 -- If a node stopped on the way, and starts again from the records that its log has, it is as if it had handled letters
 -- up to some state, and had started again from there as it has to. Up to that state it had sent all letters that may
--- have gone out: those before the first record that the log lacks.
+-- have gone out: those before the first record that the log lacks. By then its clients had seen the first notices.
 abbrev pub StoppedNodesRestart : Type 0
 StoppedNodesRestart = (fragment : Code) (begin old copy after : KeptNode) (got : List NamedLetter)
-    (records : List LogRecord) (first : List Output) → IsRecorded begin records old →
-    IsOnTheWay fragment old got first → Recovers (records ++ logged_in first) begin copy → IsStarted copy after →
-    (middle : KeptNode) × (more : List NamedLetter) × (notices : List Notice)
-    × IsHandled fragment old got middle (sent_in first ++ more) notices × IsRestarted middle after
-    × IsRecorded begin ((records ++ logged_in first) ++ LogRecord.Starts ∷ []) after
+    (records : List LogRecord) (first : List Output) (seen : List Notice) → IsRecorded begin records old →
+    IsOnTheWay fragment old got first seen → Recovers (records ++ logged_in first) begin copy → IsStarted copy after →
+    (middle : KeptNode) × (more : List NamedLetter) × (notices : List Notice) × (unseen : List Notice)
+    × (seen ≡ notices ++ unseen) × IsHandled fragment old got middle (sent_in first ++ more) notices
+    × IsRestarted middle after × IsRecorded begin ((records ++ logged_in first) ++ LogRecord.Starts ∷ []) after
