@@ -21,6 +21,7 @@ use Rattle.node_effects.specs.Work.{Growth, IsGrown, both_grown, log_all, send_a
 use Rattle.node_effects.specs.declared.work.Work.{Work}
 use Rattle.node_effects.proofs.GrowthLemmas.{grown_then}
 use Rattle.node_keeper.specs.Acts.{Acts}
+use Rattle.node_keeper.specs.Fitting.{IsSendable}
 use Rattle.node_keeper.specs.Keeping.{kept_of}
 use Rattle.node_keeper.specs.Logging.{IsReadBack, log_entry_of}
 use Rattle.node_keeper.specs.Sendings.{IsDirected, Sending, letters_of, posted, to_itself}
@@ -69,6 +70,7 @@ pub record ActsInOrder (asker : ℕ) (got : List Named) (old : Keeper) (before :
   pub outputs : growth.outputs ≡
       log_all (map (log_entry_of old.digest) records) ++ send_all (posted old.ids.node old.digest sends)
   pub read : AllByRecursion (IsReadBack old.digest) records
+  pub sent : AllByRecursion (IsSendable old.ids.node old.digest) sends
   pub own : growth.own ≡ to_itself old.ids.node sends
   pub addressed : AllByRecursion (IsDirected old.ids.node asker) sends
   pub handled : HasRanges old.ids → IsHandledSafely fragment (kept_of old) got (logged_first records (letters_of sends))
@@ -85,6 +87,7 @@ acts_in_order asker got old new before after a =
       grown = a.grown;
       outputs = a.outputs ∙ sym (outputs_ordered old.ids.node old.digest a.records a.sends);
       read = subst (λ rs. AllByRecursion (IsReadBack old.digest) rs) (sym (records_ordered a.records a.sends)) a.read;
+      sent = subst (λ xs. AllByRecursion (IsSendable old.ids.node old.digest) xs) (sym (sends_ordered a.records a.sends)) a.sent;
       own = a.own ∙ ap (λ xs. to_itself old.ids.node xs) (sym (sends_ordered a.records a.sends));
       addressed = subst (λ xs. AllByRecursion (IsDirected old.ids.node asker) xs) (sym (sends_ordered a.records a.sends))
           a.addressed;
@@ -104,6 +107,7 @@ acts_rest asker got keeper before after growth grown outputs own notices = recor
   grown = grown;
   outputs = outputs;
   read = tt;
+  sent = tt;
   own = own;
   addressed = tt;
   handled = λ within.
@@ -135,6 +139,10 @@ acts_then asker other got more a b c u v w first second addressed among =
       read = subst (λ rs. AllByRecursion (IsReadBack a.digest) rs) (sym (records_append first.wants second.wants))
           (all_append (IsReadBack a.digest) (records_in first.wants) (records_in second.wants) first.read
           (subst (λ d. AllByRecursion (IsReadBack d) (records_in second.wants)) first.digest second.read));
+      sent = subst (λ xs. AllByRecursion (IsSendable n a.digest) xs) (sym (sends_append first.wants second.wants))
+          (all_append (IsSendable n a.digest) (sends_in first.wants) (sends_in second.wants) first.sent
+          (subst (λ d. AllByRecursion (IsSendable n d) (sends_in second.wants)) first.digest
+          (subst (λ m. AllByRecursion (IsSendable m b.digest) (sends_in second.wants)) first.node second.sent)));
       own = ap (λ xs. xs ++ s.own) first.own
           ∙ ap (λ xs. to_itself n (sends_in first.wants) ++ xs) (second.own
           ∙ ap (λ m. to_itself m (sends_in second.wants)) first.node)
@@ -173,20 +181,3 @@ pub acts_more : (asker : ℕ) (got : List Named) (a b c : Keeper) (u v w : Work)
 acts_more asker got a b c u v w first second =
     acts_then asker asker got [] a b c u v w first second (λ send is. is)
     (none_of (got ++ letters_of (sends_in first.wants)))
-
--- letters that had come need not be used
-pub acts_with : (asker : ℕ) (got more : List Named) (a b : Keeper) (u v : Work) →
-    ((letter : Named) → IsOneOf got letter → IsOneOf more letter) → Acts asker got a u b v → Acts asker more a u b v
-acts_with asker got more a b u v among acts = record {
-  wants = acts.wants;
-  growth = acts.growth;
-  grown = acts.grown;
-  outputs = acts.outputs;
-  read = acts.read;
-  own = acts.own;
-  addressed = acts.addressed;
-  handled = λ within. more_safe fragment (kept_of a) (kept_of b) got more (left_by acts.wants) (all_seen acts.growth.notices) among
-      (acts.handled within);
-  node = acts.node;
-  digest = acts.digest;
-}

@@ -175,7 +175,7 @@ letters_read : (digest name : List ℕ) (letters : List Letter) →
     AllByRecursion (IsReadBack digest) (map (LogRecord.Serves name) letters)
 letters_read digest name [] all = tt
 letters_read digest name (letter ∷ letters) all =
-    (serve_read digest (record { name = name; letter = letter }) all.0.message, letters_read digest name letters all.1)
+    (serve_read digest (record { name = name; letter = letter }) all.0, letters_read digest name letters all.1)
 
 -- a position that the object of a name has heard of, if it is one of which there is a record
 place_read : (digest name : List ℕ) (place : Place) → AllByRecursion (IsLoggable digest) (place_records name place) →
@@ -187,7 +187,7 @@ place_read digest name place all = go (place.position == 0) all
 
     go : (b : Bool) → AllByRecursion (IsLoggable digest) (those b) → AllByRecursion (IsReadBack digest) (those b)
     go true all = tt
-    go false all = (hear_read digest name place.position place.layout all.0.message, tt)
+    go false all = (hear_read digest name place.position place.layout all.0, tt)
 
 -- all positions that it has heard of
 places_read : (digest name : List ℕ) (places : List Place) → AllByRecursion (IsLoggable digest) (places_records name places) →

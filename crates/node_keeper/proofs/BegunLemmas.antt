@@ -24,6 +24,7 @@ use Rattle.node_effects.specs.declared.work.Work.{Work}
 use Rattle.node_effects.proofs.GrowthLemmas.{grown_then}
 use Rattle.node_keeper.specs.Acts.{Acts, GivesId}
 use Rattle.node_keeper.specs.Beginning.{opened_growth}
+use Rattle.node_keeper.specs.Fitting.{IsSendable}
 use Rattle.node_keeper.specs.Logging.{IsReadBack, log_entry_of}
 use Rattle.node_keeper.specs.Keeping.{kept_of}
 use Rattle.node_keeper.specs.Sendings.{asked, letters_of, member_or, posted, sent_growth, to_itself}
@@ -47,9 +48,10 @@ next_acts : (asker : ℕ) (old new : Keeper) (before noted after : Work) (name :
     EventIsLogged old name event records → AllByRecursion (IsReadBack old.digest) records →
     IsGrown before noted (opened_growth old.digest records notice) →
     IsGrown noted after (sent_growth new.ids.node new.digest (asked new.ids.node name letters)) →
+    AllByRecursion (IsSendable new.ids.node new.digest) (asked new.ids.node name letters) →
     Acts asker [] old before new after
 next_acts asker old new before noted after name event id letters records notice file digest next given done begins allowed seen
-    few logged read notes sent =
+    few logged read notes sent fits =
     let n = old.ids.node in
     let node : new.ids.node ≡ n = ap (λ (i : CallIds). i.node) given ∙ next_is_node old.ids in
     let epoch : new.ids.epoch ≡ old.ids.epoch = ap (λ (i : CallIds). i.epoch) given ∙ next_epoch old.ids in
@@ -64,6 +66,8 @@ next_acts asker old new before noted after name event id letters records notice 
       outputs = ap (λ fs. entries ++ send_all fs)
           (ap (λ m. posted m new.digest (asked m name letters)) node ∙ ap (λ d. posted n d (asked n name letters)) digest);
       read = read;
+      sent = subst (λ d. AllByRecursion (IsSendable n d) (asked n name letters)) digest
+          (subst (λ m. AllByRecursion (IsSendable m new.digest) (asked m name letters)) node fits);
       own = ap (λ m. to_itself m (asked m name letters)) node;
       addressed = asked_addressed n asker name letters
           (done_asks (objects_of old.objects name) done.local (event ∷ []) letters done.done (begins_serve_none event id begins, tt));
@@ -91,29 +95,31 @@ module _ (asker : ℕ) (old new : Keeper) where
       EventIsLogged old name event records → AllByRecursion (IsReadBack old.digest) records →
       IsGrown given noted (opened_growth old.digest records notice) →
       IsGrown noted after (sent_growth new.ids.node new.digest (asked new.ids.node name letters)) →
+      AllByRecursion (IsSendable new.ids.node new.digest) (asked new.ids.node name letters) →
       Acts asker [] old before new after
   begun_acts before given noted after name event id letters records notice file digest (inl g) done begins allowed seen few logged
-      read notes sent =
+      read notes sent fits =
       acts_more asker [] old old new before given after
       (acts_rest asker [] old before given no_growth g.2 refl refl refl)
       (next_acts asker old new given noted after name event id letters records notice file digest g.0 g.1 done begins allowed seen
-      few logged read notes sent)
+      few logged read notes sent fits)
   begun_acts before given noted after name event id letters records notice file digest (inr g) done begins allowed seen few logged
-      read notes sent =
+      read notes sent fits =
       let middle = in_epoch old in
       let node : middle.ids.node ≡ old.ids.node = (begun_later old.ids g.0).node in
       acts_more asker [] old middle new before given after
       (epoch_acts asker old middle before given refl refl refl g.0 refl g.3)
       (next_acts asker middle new given noted after name event id letters records notice file digest g.1 g.2 done begins
       (subst (λ n. IsEventAllowed n old.file.fixed.mover event) (sym node) allowed) seen few
-      (λ from to file number objects. logged from to file (number ∙ node) objects) read notes sent)
+      (λ from to file number objects. logged from to file (number ∙ node) objects) read notes sent fits)
 
 -- a call asks again
 pub resent_acts : (asker : ℕ) (keeper : Keeper) (before after : Work) (name : List ℕ) (letters : List Letter) →
     AllByRecursion (IsResent fragment (objects_of keeper.objects name)) letters →
     IsGrown before after (sent_growth keeper.ids.node keeper.digest (asked keeper.ids.node name letters)) →
+    AllByRecursion (IsSendable keeper.ids.node keeper.digest) (asked keeper.ids.node name letters) →
     Acts asker [] keeper before keeper after
-resent_acts asker keeper before after name letters resent sent =
+resent_acts asker keeper before after name letters resent sent fits =
     let n = keeper.ids.node in
     acts_in_order asker [] keeper keeper before after (record {
       sends = asked n name letters;
@@ -122,6 +128,7 @@ resent_acts asker keeper before after name letters resent sent =
       grown = sent;
       outputs = refl;
       read = tt;
+      sent = fits;
       own = refl;
       addressed = asked_addressed n asker name letters (resent_ask (objects_of keeper.objects name) letters resent);
       handled = λ within.

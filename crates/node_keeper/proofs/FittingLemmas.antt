@@ -34,10 +34,10 @@ use Rattle.letter.specs.declared.letter.NamedLetter.{NamedLetter}
 use Rattle.node_effects.proofs.ErrorLemmas.{start_fits}
 use Rattle.node_effects.specs.declared.error.NodeError.{NodeError}
 use Rattle.node_effects.specs.declared.error.NodeError.TheVariants as errors
-use Rattle.node_keeper.specs.Fitting.{HasFrame, IsSendable}
+use Rattle.node_keeper.specs.Fitting.{IsSendable}
 use Rattle.node_keeper.specs.NextIds.{IsNoEpoch}
 use Rattle.node_keeper.specs.Delivering.{CanServe, CanTake}
-use Rattle.node_keeper.specs.Sendings.{Sending, asked, member_or, message_of, reply_sendings, sending}
+use Rattle.node_keeper.specs.Sendings.{Sending, asked, member_or, reply_sendings, sending}
 use Rattle.node_keeper.specs.declared.keeper.Keeper.{Keeper}
 use Rattle.open_calls.proofs.ListLemmas.{all_append}
 use Rattle.node_keeper.proofs.SendingLemmas.{asked_append}
@@ -89,14 +89,7 @@ fault_unframed m fault e is = let clash : Ok (strings_of m) ≡ Err fault = sym 
 
 -- Frames and entries
 
-pub behind_frame : (first : List ℕ) (strings : Strings) → IsFrame (first ∷ strings) → IsFrame strings
-behind_frame first strings is = record { few = omega (arith, is.few); short = is.short.1 }
-
 -- Letters, and records
-
-pub has_frame : (digest : List ℕ) (send : Sending) → HasFrame digest send →
-    IsMessage (message_of digest send.it) × IsFrame (strings_of (message_of digest send.it))
-has_frame digest send has = (has.message, behind_frame _ _ has.frame)
 
 -- an epoch that does not begin, as the log does not get its entry
 pub unlogged_epoch : {T : Type 0} (ids : CallIds) (result : Result T NodeError) →

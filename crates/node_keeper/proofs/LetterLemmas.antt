@@ -1,17 +1,12 @@
 -- Letters that come, and calls that are given up, as what a node does.
-use Rattle.std.proofs.Common.{◌≡◌, inl, inr, ℕ, Bool, true, false, cond, not, ◌||◌, ◌==◌, eq-eqb, List, [], ◌∷◌, ◌++◌, map}
+use Rattle.std.proofs.Common.{◌≡◌, inl, inr, ℕ, Bool, true, false, cond, List, [], ◌∷◌, ◌++◌, map}
 use Rattle.std.proofs.Common.{Option, None, Some, option_to_list, refl, sym, ap, ◌∙◌}
-use Rattle.std.proofs.lemmas.Bool.{and_parts}
 use Rattle.std.proofs.lemmas.List.{append-nil}
 use Rattle.std.specs.List.{AllByRecursion}
-use Rattle.layout.specs.Layout.{IsLawful}
 use Rattle.local_object.specs.declared.progress.Ended.{Ended}
-use Rattle.local_object.specs.Agreement.{agrees, knows_all_of}
 use Rattle.local_object.specs.Changing.{IsUnchangedBy, is_changed_by}
 use Rattle.local_object.specs.Doing.{give_up_events, has_move_open, is_taken, serve_events}
 use Rattle.deeds.specs.Deeds.{Notice as Seen}
-use Rattle.deeds.specs.Kept.{KeptNode}
-use Rattle.deeds.specs.Named.{NamedLetter as Named}
 use Rattle.recoveries.specs.Copies.{IsHeeded, IsLogged}
 use Rattle.recoveries.specs.Records.{LogRecord}
 use Rattle.recoveries.proofs.LoggedLemmas.{given_up_unlogged, served_logged, taken_logged, taken_unlogged, unchanged_unlogged}
@@ -25,7 +20,7 @@ use Rattle.node_effects.proofs.GrowthLemmas.{grown_none}
 use Rattle.node_keeper.specs.Acts.{Acts, logged_growth}
 use Rattle.node_keeper.specs.Delivering.{ServesRequest, TakesReply, served_records, taken_records, tell_growth, notices_of}
 use Rattle.node_keeper.specs.Fitting.{IsLoggable}
-use Rattle.node_keeper.specs.Keeping.{heeds, if_heeded, kept_of, names_member}
+use Rattle.node_keeper.specs.Keeping.{kept_of}
 use Rattle.node_keeper.specs.Logging.{IsReadBack, log_entry_of}
 use Rattle.node_keeper.specs.Sendings.{asked, member_or, reply_sendings, sent_growth}
 use Rattle.node_keeper.specs.declared.keeper.Keeper.{Keeper}
@@ -78,8 +73,9 @@ module _ (asker : ℕ) (it : NamedLetter) (old new : Keeper) (before after : Wor
         growth = both_grown (logged_growth old.digest records) (sent_growth old.ids.node old.digest sends);
         grown = serves.grown;
         outputs = refl;
-        read = read_if old.digest (LogRecord.Serves it.name it.letter) (λ fits. serve_read old.digest it fits.message) changes
+        read = read_if old.digest (LogRecord.Serves it.name it.letter) (serve_read old.digest it) changes
             serves.fits.logged;
+        sent = serves.fits.sent;
         own = refl;
         addressed = replied_addressed old.ids.node asker it.name serves.replies
             (all_reply local serves.done.local it.letter serves.replies serves.done.done);
@@ -121,8 +117,9 @@ module _ (it : NamedLetter) (old new : Keeper) (before after : Work) (ended : Op
         growth = both_grown (logged_growth old.digest records) (both_grown sending (tell_growth it.name ended));
         grown = takes.grown;
         outputs = ap (λ xs. log_all (map (log_entry_of old.digest) records) ++ xs) (append-nil sending.outputs);
-        read = read_if old.digest (LogRecord.Takes it.name it.letter) (λ fits. take_read old.digest it fits.message) moves
+        read = read_if old.digest (LogRecord.Takes it.name it.letter) (take_read old.digest it) moves
             takes.fits.logged;
+        sent = takes.fits.sent;
         own = append-nil sending.own;
         addressed = asked_addressed old.ids.node asker it.name takes.letters
             (done_asks local takes.done.local quiet.events takes.letters quiet.done quiet.asks);
@@ -146,6 +143,7 @@ given_up_acts asker old new work name id file digest ids done =
       grown = grown_none work;
       outputs = refl;
       read = tt;
+      sent = tt;
       own = refl;
       addressed = tt;
       those = refl;
@@ -153,22 +151,3 @@ given_up_acts asker old new work name id file digest ids done =
     })
 
 -- Which letters a node heeds
-
-mover_knows : (a b : Bool) → (not a || b) ≡ true → a ≡ true → b ≡ true
-mover_knows true b e is = e
-mover_knows false b e is = absurd (cc)
-
-pub heeded_of : (node : KeptNode) (it : NamedLetter) → IsLawful it.letter.layout → heeds node (named_of it) ≡ true →
-    IsHeeded node it.name it.letter
-heeded_of node it lawful is =
-    let local = node.objects it.name in
-    let rest = and_parts (names_member it.letter) _ is in
-    let parts = and_parts (agrees local it.letter) _ rest.1 in record {
-      lawful = lawful;
-      agrees = parts.0;
-      mover = λ same. mover_knows (node.ids.node == node.file.mover) (knows_all_of local it.letter) parts.1
-          (eq-eqb node.ids.node node.file.mover same);
-    }
-
-pub heeded_one : (node : KeptNode) (it : Named) → heeds node it ≡ true → if_heeded node it ≡ it ∷ []
-heeded_one node it is = ap (λ b. cond b (it ∷ []) []) is

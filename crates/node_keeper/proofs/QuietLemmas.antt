@@ -32,6 +32,7 @@ use Rattle.node_effects.specs.Seen.{all_seen}
 use Rattle.node_effects.specs.Work.{Growth, IsGrown, log_all, send_all}
 use Rattle.node_effects.specs.declared.work.Work.{Work}
 use Rattle.node_keeper.specs.Acts.{Acts}
+use Rattle.node_keeper.specs.Fitting.{IsSendable}
 use Rattle.node_keeper.specs.Keeping.{kept_of}
 use Rattle.node_keeper.specs.Logging.{IsReadBack, log_entry_of}
 use Rattle.node_keeper.specs.Sendings.{IsDirected, Sending, letters_of, posted, to_itself}
@@ -49,6 +50,7 @@ pub record GoesOut (asker : ℕ) (keeper : Keeper) (before after : Work) (record
   pub outputs : growth.outputs ≡
       log_all (map (log_entry_of keeper.digest) records) ++ send_all (posted keeper.ids.node keeper.digest sends)
   pub read : AllByRecursion (IsReadBack keeper.digest) records
+  pub sent : AllByRecursion (IsSendable keeper.ids.node keeper.digest) sends
   pub own : growth.own ≡ to_itself keeper.ids.node sends
   pub addressed : AllByRecursion (IsDirected keeper.ids.node asker) sends
   pub those : letters_of sends ≡ letters
@@ -71,6 +73,7 @@ quiet_acts asker got old new before after name events local letters records file
       grown = out.grown;
       outputs = out.outputs;
       read = out.read;
+      sent = out.sent;
       own = out.own;
       addressed = out.addressed;
       handled = λ within. safe_as (kept_of old) got (logged_first records (with_names name letters))

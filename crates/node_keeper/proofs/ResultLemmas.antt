@@ -5,10 +5,6 @@ use Rattle.node_effects.specs.Errors.{IsUnwritten, WritesOrFails}
 use Rattle.node_effects.specs.declared.error.NodeError.{NodeError}
 use Rattle.std.proofs.lemmas.Result.{err_from_is_err_and}
 
-pub ok_two : {T E P Q R : Type 0} (result : Result T E) → OnOk result P → OnOk result Q → (P → Q → R) → OnOk result R
-ok_two (Ok x) p q f = f p q
-ok_two (Err e) p q f = p
-
 pub ok_three : {T E P Q R S : Type 0} (result : Result T E) → OnOk result P → OnOk result Q → OnOk result R →
     (P → Q → R → S) → OnOk result S
 ok_three (Ok x) p q r f = f p q r
@@ -36,14 +32,15 @@ pub writes_ok : {T : Type 0} (fits : Type 0) (result : Result T NodeError) → W
 writes_ok fits (Ok x) is = is
 writes_ok fits (Err e) is = tt
 
-pub writes_err : {T : Type 0} (fits : Type 0) (result : Result T NodeError) → WritesOrFails fits result →
-    IfErr result (IsUnwritten fits)
-writes_err fits (Ok x) is = tt
-writes_err fits (Err e) is = is
-
 -- what is handed on because something does not fit
 pub fails_same : {T : Type 0} (fits : Type 0) (result : Result T NodeError) (error : NodeError) →
     IsErrAnd result (λ y. y ≡ error) → IsUnwritten fits error → WritesOrFails fits result
 fails_same fits result error is unwritten =
     let p = err_from_is_err_and result is in
     subst (λ r. WritesOrFails fits r) (sym p.1) (subst (λ e. IsUnwritten fits e) (sym p.2) unwritten)
+
+-- what a call ensures where it succeeds, and that what it wrote fits
+pub ok_fits : {T : Type 0} (P fits : Type 0) (result : Result T NodeError) → OnOk result P → WritesOrFails fits result →
+    OnOk result (P × fits)
+ok_fits P fits (Ok x) p is = (p, is)
+ok_fits P fits (Err e) p is = tt

@@ -11,6 +11,7 @@ use Rattle.node_effects.specs.Seen.{all_seen}
 use Rattle.node_effects.specs.Work.{Growth, IsGrown, log_all, no_growth, one_entry}
 use Rattle.node_effects.specs.declared.notice.Notice.{Notice}
 use Rattle.node_effects.specs.declared.work.Work.{Work}
+use Rattle.node_keeper.specs.Fitting.{IsSendable}
 use Rattle.node_keeper.specs.Keeping.{kept_of}
 use Rattle.node_keeper.specs.Logging.{IsReadBack, log_entry_of, start_entry}
 use Rattle.node_keeper.specs.Sendings.{IsDirected, to_itself}
@@ -34,8 +35,8 @@ GivesId old id new before after =
 
 -- The node did deeds with these letters, which had come; `asker` is the node that had asked. Its work grew by the log
 -- entries of the records that its log needs, by the letters that it sent, each to the node to which it has to go, and
--- by what its clients saw. Entries and letters stand in such an order that each letter may go out once the log has all
--- entries before it.
+-- by what its clients saw. The entries are read back as these records, and the frames as messages with these letters.
+-- Entries and letters stand in such an order that each letter may go out once the log has all entries before it.
 pub record Acts (asker : ℕ) (got : List Named) (old : Keeper) (before : Work) (new : Keeper)
     (after : Work) : Type 0 where
   pub wants : List Want
@@ -43,6 +44,7 @@ pub record Acts (asker : ℕ) (got : List Named) (old : Keeper) (before : Work) 
   pub grown : IsGrown before after growth
   pub outputs : growth.outputs ≡ outputs_of old.ids.node old.digest wants
   pub read : AllByRecursion (IsReadBack old.digest) (records_in wants)
+  pub sent : AllByRecursion (IsSendable old.ids.node old.digest) (sends_in wants)
   pub own : growth.own ≡ to_itself old.ids.node (sends_in wants)
   pub addressed : AllByRecursion (IsDirected old.ids.node asker) (sends_in wants)
   pub handled : HasRanges old.ids → IsHandledSafely fragment (kept_of old) got (left_by wants) (kept_of new)

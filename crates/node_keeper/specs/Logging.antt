@@ -2,6 +2,7 @@
 -- The entries of a node's log, and what they record.
 use Rattle.std.specs.Prelude.{◌≡◌, ℕ, List, [], ◌∷◌, Option, None, Some, Result, Ok, Err}
 use Rattle.letter.specs.declared.letter.Letter.{Letter}
+use Rattle.node_log.specs.Entry.{IsEntry}
 use Rattle.node_messages.specs.Reading.{message_from}
 use Rattle.node_messages.specs.Strings.{strings_of}
 use Rattle.node_messages.specs.declared.error.Fault.{Fault}
@@ -56,6 +57,7 @@ deeds_if (Some it) = deeds_of it
 abbrev pub records_in : Strings → List LogRecord
 records_in strings = deeds_if (record_at strings)
 
--- the entry of a record is read as that record
-abbrev pub IsReadBack : (digest : List ℕ) → LogRecord → Type 0
-IsReadBack digest it = records_in (strings_for digest it) ≡ it ∷ []
+-- the strings of a record are an entry, which is read as that record
+pub record IsReadBack (digest : List ℕ) (it : LogRecord) : Type 0 where
+  pub entry : IsEntry (strings_for digest it)
+  pub same : records_in (strings_for digest it) ≡ it ∷ []

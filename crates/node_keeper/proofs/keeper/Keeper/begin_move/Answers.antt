@@ -24,7 +24,7 @@ returns-in_ok-post-in-Ok-clause-acts c =
     done refl c.requires refl (inr (moved, refl))
     (move_logged c.args.self.now c.args.name.now c.in_ok-id.id c.args.layout c.requires c.in-Ok.ensures.cause)
     (c.in_ok-log_move-in-Ok.ensures.read (lawful_of done), tt) c.in_ok-log_move-in-Ok.ensures.logged
-    c.in_ok-post-in-Ok.ensures.grown
+    c.in_ok-post-in-Ok.ensures.grown c.in_ok-post-in-Ok.ensures.writes
 
 pub returns-in_ok-post-in-Ok-clause-begins : goal.returns-in_ok-post-in-Ok-clause-begins
 returns-in_ok-post-in-Ok-clause-begins c =

@@ -18,7 +18,7 @@ returns-in_ok-post-in-Ok-clause-acts c =
     (notice.Reads c.in_ok-clone-in-Ok.field-0 c.in_ok-id.id) refl refl c.in_ok-id.ensures.gives c.in-Ok.ensures.done refl tt
     (ap (λ n. Seen.Reads n c.in_ok-id.id ∷ []) c.in_ok-clone-in-Ok.ensures.cases) (inl refl)
     (read_logged c.args.self.now c.args.name.now c.in_ok-id.id c.in-Ok.ensures.cause) tt c.in_ok-note-in-Ok.ensures.grown
-    c.in_ok-post-in-Ok.ensures.grown
+    c.in_ok-post-in-Ok.ensures.grown c.in_ok-post-in-Ok.ensures.writes
 
 pub returns-in_ok-post-in-Ok-clause-begins : goal.returns-in_ok-post-in-Ok-clause-begins
 returns-in_ok-post-in-Ok-clause-begins c =

@@ -25,6 +25,7 @@ returns-in_ok-post-in-Ok-clause-acts c =
     (write_logged c.args.self.now c.args.name.now c.in_ok-id.id c.args.value
     (subst (λ v. write_refusal (objects_of c.args.self.now.objects c.args.name.now) c.in_ok-id.id v ≡ None)
     c.in_ok-written.ensures.cases c.in-Ok.ensures.cause)) tt c.in_ok-note-in-Ok.ensures.grown c.in_ok-post-in-Ok.ensures.grown
+    c.in_ok-post-in-Ok.ensures.writes
 
 pub returns-in_ok-post-in-Ok-clause-begins : goal.returns-in_ok-post-in-Ok-clause-begins
 returns-in_ok-post-in-Ok-clause-begins c =

@@ -7,13 +7,14 @@ use Rattle.node_effects.specs.Work.{IsGrown}
 use Rattle.node_keeper.specs.Fitting.{IsSendable}
 use Rattle.node_keeper.specs.Sendings.{asked, sent_growth}
 use Rattle.node_keeper.proofs.BegunLemmas.{resent_acts}
+use Rattle.node_keeper.proofs.ResultLemmas.{ok_fits}
 use Rattle.node_keeper.proofs.keeper.Keeper.resend.Goals as goal
 
 pub returns-clause-acts : goal.returns-clause-acts
 returns-clause-acts c =
     on_ok_weaker c.post.result
-    (λ sent asker. resent_acts asker c.args.self.now c.args.work.now c.post.new.work c.args.name.now c.in_ok-letters.letters.items
-    c.in_ok-letters.ensures.resent sent) c.post.ensures.grown
+    (λ both asker. resent_acts asker c.args.self.now c.args.work.now c.post.new.work c.args.name.now c.in_ok-letters.letters.items
+    c.in_ok-letters.ensures.resent both.0 both.1) (ok_fits _ _ c.post.result c.post.ensures.grown c.post.ensures.writes)
 
 pub returns-clause-sends : goal.returns-clause-sends
 returns-clause-sends c =
