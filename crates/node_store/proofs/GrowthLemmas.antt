@@ -6,6 +6,7 @@ use Rattle.std.specs.Io.KnownBytes.{Appends, Consumes, Keeps}
 use Rattle.std.proofs.lemmas.Grind.{flat_map-append}
 use Rattle.std.proofs.lemmas.List.{take_more}
 use Rattle.node_log.specs.Reading.{HadLeft}
+use Rattle.frames.specs.Writing.{Writes}
 use Rattle.node_store.specs.Logs.{Grows}
 
 -- what is known of some bytes
@@ -28,12 +29,6 @@ appends_kept (Some us) None c xs p q = absurd p
 appends_kept (Some us) (Some vs) None xs p q = absurd q
 appends_kept (Some us) (Some vs) (Some ws) xs p q = q ∙ p
 
-pub keeps_then : (a b c : Known) (xs : List ℕ) → Keeps a b → Appends b c xs → Appends a c xs
-keeps_then None b c xs p q = tt
-keeps_then (Some us) None c xs p q = absurd p
-keeps_then (Some us) (Some vs) None xs p q = absurd q
-keeps_then (Some us) (Some vs) (Some ws) xs p q = q ∙ ap (λ (t : List ℕ). t ++ xs) p
-
 pub consumes_then : (a b c : Known) (xs ys : List ℕ) → Consumes a b xs → Consumes b c ys → Consumes a c (xs ++ ys)
 consumes_then None b c xs ys p q = tt
 consumes_then (Some us) None c xs ys p q = absurd p
@@ -49,6 +44,57 @@ grows_none a = ([], appends_none a)
 
 pub grows_twice : (a b c : Known) → Grows a b → Grows b c → Grows a c
 grows_twice a b c p q = (p.0 ++ q.0, appends_then a b c p.0 q.0 p.1 q.1)
+
+pub same_rest : (xs ys zs : List ℕ) → xs ++ ys ≡ xs ++ zs → ys ≡ zs
+same_rest [] ys zs e = e
+same_rest (x ∷ xs) ys zs e = same_rest xs ys zs (let rest : xs ++ ys ≡ xs ++ zs = cc in rest)
+
+-- if bytes were appended to a log that was synced, and what it keeps is a front of what was written, it keeps a front of
+-- these bytes
+pub keeps_front : (kept keeps written wrote : Known) (bytes : List ℕ) → kept ≡ written → Grows kept keeps
+    → Appends written wrote bytes → Grows keeps wrote
+    → (front back : List ℕ) × (bytes ≡ front ++ back) × Appends kept keeps front
+keeps_front None keeps written wrote bytes same grows appended within = ([], bytes, refl, tt)
+keeps_front (Some us) None written wrote bytes same grows appended within = absurd grows.1
+keeps_front (Some us) (Some vs) None wrote bytes same grows appended within = absurd (cc)
+keeps_front (Some us) (Some vs) (Some ws) None bytes same grows appended within = absurd appended
+keeps_front (Some us) (Some vs) (Some ws) (Some zs) bytes same grows appended within = (
+  grows.0,
+  within.0,
+  same_rest us bytes (grows.0 ++ within.0)
+      (ap (λ (t : List ℕ). t ++ bytes) (sames us ws same) ∙ sym appended ∙ within.1
+      ∙ ap (λ (t : List ℕ). t ++ within.0) grows.1 ∙ append_assoc us grows.0 within.0),
+  grows.1,
+)
+  where
+    sames : (xs ys : List ℕ) → Some xs ≡ Some ys → xs ≡ ys
+    sames xs ys e = cc
+
+-- the same, if only a front of the bytes was appended
+pub keeps_front_of : (kept keeps written wrote : Known) (bytes front back : List ℕ) → bytes ≡ front ++ back → kept ≡ written
+    → Grows kept keeps → Appends written wrote front → Grows keeps wrote
+    → (first last : List ℕ) × (bytes ≡ first ++ last) × Appends kept keeps first
+keeps_front_of kept keeps written wrote bytes front back parts same grows appended within =
+    let part = keeps_front kept keeps written wrote front same grows appended within in (
+      part.0,
+      part.1 ++ back,
+      parts ∙ ap (λ (t : List ℕ). t ++ back) part.2 ∙ append_assoc part.0 part.1 back,
+      part.3,
+    )
+
+-- bytes that are synced grow by none to the bytes that were written
+pub grows_same : (a b : Known) → a ≡ b → Grows a b
+grows_same a b e = subst (Grows a) e (grows_none a)
+
+-- what a log that was synced keeps after bytes were appended and it was to be synced: these bytes, or a front of them
+pub synced_writes : {T E : Type 0} (r : Result T E) (kept written middle wrote keeps : Known) (bytes : List ℕ) →
+    kept ≡ written → Appends written middle bytes → Grows kept keeps → Keeps middle wrote → Grows keeps wrote →
+    OnOk r (keeps ≡ wrote) → Writes kept keeps r bytes
+synced_writes (Ok x) kept written middle wrote keeps bytes same appended grows stays within all =
+    subst (λ k. Appends kept k bytes) (sym all)
+    (subst (λ k. Appends k wrote bytes) (sym same) (appends_kept written middle wrote bytes appended stays))
+synced_writes (Err e) kept written middle wrote keeps bytes same appended grows stays within all =
+    keeps_front kept keeps written wrote bytes same grows (appends_kept written middle wrote bytes appended stays) within
 
 -- a last part is appended to all others
 pub appended_last : {T E : Type 0} (r : Result T E) (a b c : Known) (xs ys all : List ℕ) → xs ++ ys ≡ all → Appends a b xs
@@ -66,10 +112,6 @@ left_behind P (Some us) (Some vs) xs p q = (vs, p, q)
 pub left_weaker : {P Q : List ℕ → Type 0} (a : Known) → ((bytes : List ℕ) → P bytes → Q bytes) → HadLeft P a → HadLeft Q a
 left_weaker None h p = tt
 left_weaker (Some xs) h p = h xs p
-
-pub left_any : (P : List ℕ → Type 0) (a : Known) → ((bytes : List ℕ) → P bytes) → HadLeft P a
-left_any P None h = tt
-left_any P (Some xs) h = h xs
 
 -- the bytes of one more element
 pub bytes_more : {X : Type 0} (f : X → List ℕ) (xs : List X) (i : ℕ) (d x : X) → i < length xs → x ≡ get_or xs i d

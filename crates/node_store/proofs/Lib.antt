@@ -7,3 +7,4 @@ pub mod OutputLemmas
 pub mod WaitingLemmas
 pub mod ServingLemmas
 pub mod CutLogLemmas
+pub mod LeftLogLemmas

@@ -6,9 +6,8 @@ use Rattle.std.proofs.lemmas.Grind.{flat_map-append}
 use Rattle.frames.specs.Writing.{Writes}
 use Rattle.node_log.specs.Entry.{chain_behind}
 use Rattle.node_effects.specs.declared.output.Output.{Output}
-use Rattle.node_store.specs.Logs.{Grows}
 use Rattle.node_store.specs.Recovery.{log_bytes}
-use Rattle.node_store.specs.Outputs.{HasGathered, WritesAll, WritesFirst, all_logged, all_sent}
+use Rattle.node_store.specs.Outputs.{AppendsPart, HasGathered, WritesAll, WritesFirst, all_logged, all_sent}
 use Rattle.node_store.specs.Outputs.{bytes_logged, chain_after_all, logged_of, sent_of}
 use Rattle.node_store.specs.declared.batch.Batch.{Batch}
 use Rattle.node_store.proofs.GrowthLemmas.{Known, appends_none, appends_then}
@@ -19,6 +18,15 @@ use Rattle.node_store.proofs.LogBytesLemmas.{Entries, logged_then}
 -- a write that failed, and what it says
 abbrev pub failed : {E : Type 0} → E → Result (Unit {0}) E
 failed cause = Err cause
+
+-- all of the bytes are kept
+all_kept : (kept keeps : Known) (bytes : List ℕ) → Appends kept keeps bytes → AppendsPart kept keeps bytes bytes
+all_kept kept keeps bytes appended = (
+  [],
+  [],
+  sym (append-nil bytes) ∙ sym (append-nil (bytes ++ [])),
+  subst (Appends kept keeps) (sym (append-nil bytes)) appended,
+)
 
 module _ (chain : ℕ) (batch : Batch) (outputs : List Output) (has : HasGathered chain batch outputs) where
   entries_are : all_logged outputs ≡ all_logged has.rest
@@ -48,18 +56,20 @@ module _ (chain : ℕ) (batch : Batch) (outputs : List Output) (has : HasGathere
     has.first,
     has.rest,
     has.all,
-    ([], subst (λ (t : List ℕ). Appends kept kept (t ++ [])) (sym none_logged) (appends_none kept)),
+    subst (λ (t : List ℕ). AppendsPart kept kept t (bytes_logged chain outputs)) (sym none_logged)
+        ([], bytes_logged chain outputs, refl, appends_none kept),
     (wrote.0, wrote.1, sym has.early ∙ wrote.2, wrote.3),
   )
 
   -- the log cannot be written
-  pub unlogged_first : (kept keeps held holds : Known) → Appends held holds batch.early → Grows kept keeps
-      → WritesFirst chain kept keeps held holds outputs
-  unlogged_first kept keeps held holds wrote grows = (
+  pub unlogged_first : {E : Type 0} (kept keeps held holds : Known) (cause : E) → Appends held holds batch.early
+      → Writes kept keeps (failed cause) batch.log → WritesFirst chain kept keeps held holds outputs
+  unlogged_first kept keeps held holds cause wrote logged = (
     has.first,
     has.rest,
     has.all,
-    (grows.0, subst (λ (t : List ℕ). Appends kept keeps (t ++ grows.0)) (sym none_logged) grows.1),
+    subst (λ (t : List ℕ). AppendsPart kept keeps t (bytes_logged chain outputs)) (sym none_logged)
+        (logged.0, logged.1, all_logged_is ∙ logged.2, logged.3),
     (batch.early, [], sym has.early ∙ sym (append-nil batch.early), wrote),
   )
 
@@ -71,7 +81,7 @@ module _ (chain : ℕ) (batch : Batch) (outputs : List Output) (has : HasGathere
     outputs,
     [],
     sym (append-nil outputs),
-    ([], subst (Appends kept keeps) (sym all_logged_is ∙ sym (append-nil (bytes_logged chain outputs))) logged),
+    all_kept kept keeps (bytes_logged chain outputs) (subst (Appends kept keeps) (sym all_logged_is) logged),
     (
       batch.early ++ wrote.0,
       wrote.1,
@@ -104,7 +114,8 @@ written_then chain xs ys k0 k1 k2 h0 h1 h2 p q = (
 
 -- nothing was written yet
 pub unwritten : (chain : ℕ) (kept held : Known) (outputs : List Output) → WritesFirst chain kept kept held held outputs
-unwritten chain kept held outputs = ([], outputs, refl, ([], appends_none kept), ([], [], refl, appends_none held))
+unwritten chain kept held outputs =
+    ([], outputs, refl, ([], bytes_logged chain outputs, refl, appends_none kept), ([], [], refl, appends_none held))
 
 -- all was written
 pub written_first : (chain : ℕ) (kept keeps held holds : Known) (outputs : List Output)
@@ -113,7 +124,7 @@ written_first chain kept keeps held holds outputs p = (
   outputs,
   [],
   sym (append-nil outputs),
-  ([], subst (Appends kept keeps) (sym (append-nil (bytes_logged chain outputs))) p.0),
+  all_kept kept keeps (bytes_logged chain outputs) p.0,
   (all_sent outputs, [], sym (append-nil (all_sent outputs)), p.1),
 )
 
@@ -126,11 +137,14 @@ first_then chain xs ys k0 k1 k2 h0 h1 h2 p q =
       xs ++ first,
       rest,
       ap (λ (t : List Output). xs ++ t) all ∙ sym (append_assoc xs first rest),
-      (
+      subst (λ (t : List ℕ). AppendsPart k0 k2 t (bytes_logged chain (xs ++ ys))) (sym (logged_then chain xs first)) (
         least.0,
-        subst (Appends k0 k2) (sym (append_assoc (bytes_logged chain xs) next least.0)
-            ∙ ap (λ (t : List ℕ). t ++ least.0) (sym (logged_then chain xs first)))
-            (appends_then k0 k1 k2 (bytes_logged chain xs) (next ++ least.0) p.0 least.1),
+        least.1,
+        logged_then chain xs ys ∙ ap (λ (t : List ℕ). bytes_logged chain xs ++ t) least.2
+            ∙ sym (append_assoc (bytes_logged chain xs) (next ++ least.0) least.1)
+            ∙ ap (λ (t : List ℕ). t ++ least.1) (sym (append_assoc (bytes_logged chain xs) next least.0)),
+        subst (Appends k0 k2) (sym (append_assoc (bytes_logged chain xs) next least.0))
+            (appends_then k0 k1 k2 (bytes_logged chain xs) (next ++ least.0) p.0 least.3),
       ),
       (
         all_sent xs ++ front.0,

@@ -1,22 +1,16 @@
 -- A machine that carries out one entry after another.
-use Rattle.std.proofs.Common.{◌≡◌, ℕ, ◌+◌, ◌<◌, ◌≤◌, ◌^◌, List, [], ◌∷◌, ◌++◌, length, Option, Some, None, Ok, Err}
-use Rattle.std.proofs.Common.{sym, ap, subst, ◌∙◌, refl, arith, length-append}
+use Rattle.std.proofs.Common.{◌≡◌, ℕ, ◌+◌, List, [], ◌∷◌, ◌++◌, length, Option, Some, None, Ok, Err}
+use Rattle.std.proofs.Common.{sym, ap, subst, ◌∙◌, refl, length-append}
 use Rattle.std.specs.List.{FoldsTo, AllByRecursion}
 use Rattle.std.specs.Io.KnownBytes.{Consumes}
 use Rattle.node_log.specs.Entry.{chain_after, chain_behind, first_chain, log_entry_bytes}
 use Rattle.node_log.specs.Reading.{HadLeft, IsEnd}
-use Rattle.node_store.specs.Recovery.{IsWholeEntry, log_bytes, IsPast, IsRefusedAt, IsEntryAt, StopsFor}
+use Rattle.node_store.specs.Recovery.{IsWholeEntry, log_bytes, IsEntryAt, StopsFor}
 use Rattle.node_store.specs.Recovery.{HasReadNext, HasRecovered}
 use Rattle.node_store.specs.declared.error.StoreError.{StoreError}
-use Rattle.node_store.specs.declared.error.StoreFault.{StoreFault}
-use Rattle.node_store.specs.declared.error.StoreFault.TheVariants as faults
 use Rattle.node_store.specs.declared.end.LogEnd.{LogEnd}
 use Rattle.node_store.proofs.GrowthLemmas.{Known, consumes_then, consumes_none, left_behind, all_push, folds_then}
-use Rattle.node_store.proofs.LogBytesLemmas.{bytes_push, chain_push, has_bytes}
-
--- an entry has a byte
-pub entry_has_bytes : (chain : ℕ) (strings : List (List ℕ)) → 0 < length (log_entry_bytes chain strings)
-entry_has_bytes chain strings = has_bytes chain strings
+use Rattle.node_store.proofs.LogBytesLemmas.{bytes_push, chain_push}
 
 -- the entry stands at the front of what the reader had
 pub entry_at : (chain : ℕ) (P : List (List ℕ) → Type 0) (entry : List (List ℕ)) (had left : Known) → IsWholeEntry entry
@@ -24,20 +18,6 @@ pub entry_at : (chain : ℕ) (P : List (List ℕ) → Type 0) (entry : List (Lis
 entry_at chain P entry None left whole holds took = tt
 entry_at chain P entry (Some xs) None whole holds took = absurd took
 entry_at chain P entry (Some xs) (Some ys) whole holds took = (entry, ys, whole, took, holds)
-
--- an entry that is refused is why reading stops
-pub refused_stops : (at : LogEnd) (fault : StoreFault) (entry : List (List ℕ)) (had left : Known) → IsWholeEntry entry
-    → IsRefusedAt at entry fault → Consumes had left (log_entry_bytes at.chain.state entry)
-    → HadLeft (StopsFor at.length fault at.chain.state) had
-refused_stops at (faults.Damaged damage) entry had left whole refused took = absurd refused
-refused_stops at (faults.NotCarriedOut error) entry had left whole refused took =
-    entry_at at.chain.state (λ entry. Unit {0}) entry had left whole tt took
-refused_stops at faults.TooLong entry had left whole refused took =
-    entry_at at.chain.state (λ entry. 2 ^ 64 ≤ at.length + length (log_entry_bytes at.chain.state entry)) entry had left whole
-    refused took
-refused_stops at faults.NoMemory entry None left whole refused took = tt
-refused_stops at faults.NoMemory entry (Some xs) left whole refused took = tt
-refused_stops at (faults.Failed error) entry had left whole refused took = absurd refused
 
 module _ {M : Type 0} (carries_out : M → List (List ℕ) → M → Type 0) where
   -- the entries that the machine has carried out so far

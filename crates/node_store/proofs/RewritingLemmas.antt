@@ -1,19 +1,16 @@
 -- Entries that are written to a log in parts.
-use Rattle.std.proofs.Common.{◌≡◌, ℕ, ◌+◌, ◌<◌, List, [], ◌++◌, length, get_or, take, refl, sym, ap, subst, ◌∙◌}
+use Rattle.std.proofs.Common.{◌≡◌, ℕ, ◌+◌, ◌<◌, List, [], ◌++◌, length, get_or, take, sym, ap, subst, ◌∙◌}
 use Rattle.std.proofs.Common.{append_assoc, append-nil, length-append}
 use Rattle.std.specs.Io.KnownBytes.{Appends, Keeps}
 use Rattle.node_log.specs.Entry.{chain_behind, log_entry_bytes}
 use Rattle.node_store.specs.Recovery.{log_bytes}
-use Rattle.node_store.proofs.GrowthLemmas.{Known, appends_then, appends_none, appends_kept}
+use Rattle.node_store.proofs.GrowthLemmas.{Known, appends_then, appends_kept}
 use Rattle.node_store.proofs.LogBytesLemmas.{bytes_more}
 
 -- of these bytes, so many were written, and the others are in the part that waits
 abbrev pub AreWritten : Known → Known → (part : List ℕ) → (count : ℕ) → List ℕ → Type 0
 AreWritten old new part count bytes =
     (done : List ℕ) × (bytes ≡ done ++ part) × Appends old new done × (count ≡ length done)
-
-pub none_written : (log : Known) (part : List ℕ) → part ≡ [] → AreWritten log log part 0 []
-none_written log part empty = ([], sym empty, appends_none log, refl)
 
 -- one more entry waits
 pub one_waits : (first chain : ℕ) (old new : Known) (part more : List ℕ) (count : ℕ) (entries : List (List (List ℕ))) (i : ℕ)

@@ -30,21 +30,6 @@ some_bytes [] len is e none = not_both (eq-eqb len 0 is) e
     not_both t f = cc
 some_bytes (x ∷ xs) len is e none = cc
 
--- an empty batch has no outputs
-pub nothing_gathered : (chain : ℕ) (batch : Batch) → batch.early ≡ [] → batch.log ≡ [] → batch.output ≡ []
-    → batch.chain.state ≡ chain → HasGathered chain batch []
-nothing_gathered chain batch early log late is = record {
-  first = [];
-  rest = [];
-  all = refl;
-  unlogged = refl;
-  early = early;
-  log = log;
-  chain_now = is;
-  late = late;
-  none = λ is. late;
-}
-
 pub gathers_none : (batch : Batch) → Gathers batch batch []
 gathers_none batch chain prior has = subst (HasGathered chain batch) (sym (append-nil prior)) has
 

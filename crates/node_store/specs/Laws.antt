@@ -1,6 +1,6 @@
 -- The contracts that docs/trusted.md lists do not depend on this file; other contracts and proofs do.
 -- What holds for every log.
-use Rattle.std.specs.Prelude.{◌≡◌, ◌≢◌, ◌<◌, ◌^◌, ◌++◌, ℕ, List, take, replicate}
+use Rattle.std.specs.Prelude.{◌≡◌, ◌≢◌, ◌<◌, ◌≤◌, ◌^◌, ◌++◌, ℕ, List, take, replicate}
 use Rattle.std.specs.List.{AllByRecursion}
 use Rattle.node_log.specs.Entry.{chain_behind, first_chain, log_entry_bytes}
 use Rattle.node_log.specs.Reading.{HasLogEntry, IsDamaged, IsEnd}
@@ -27,3 +27,20 @@ MovedIsNoticed = (entries : List (List (List ℕ))) (entry : List (List ℕ)) (o
     → IsWholeEntry entry → other < 2 ^ 32 → other ≢ chain_behind first_chain entries
     → BeginsWith first_chain entries (λ chain bytes. IsDamaged chain bytes WrongHead)
     (log_bytes first_chain entries ++ (log_entry_bytes other entry ++ rest))
+
+-- What a stop may leave of a log with these entries, of which this many first ones are synced: the bytes of these, and
+-- some first bytes of the others. The rest is lost, and zeros may stand in its place.
+pub record IsLeft (entries : List (List (List ℕ))) (synced : ℕ) (disk : List ℕ) : Type 0 where
+  pub front : List ℕ
+  pub more : List ℕ
+  pub lost : List ℕ
+  pub zeros : ℕ
+  pub kept : front ≡ log_bytes first_chain (take synced entries) ++ more
+  pub all : log_bytes first_chain entries ≡ front ++ lost
+  pub disk_is : disk ≡ front ++ replicate zeros 0
+
+-- of what a stop leaves of a log, the first entries are read, and at least those that were synced
+abbrev pub LeftLogIsRead : Type 0
+LeftLogIsRead = (entries read : List (List (List ℕ))) (synced : ℕ) (disk : List ℕ) → AllByRecursion IsWholeEntry entries
+    → AllByRecursion IsWholeEntry read → IsLeft entries synced disk → BeginsWith first_chain read IsEnd disk
+    → (count : ℕ) × (synced ≤ count) × (read ≡ take count entries)

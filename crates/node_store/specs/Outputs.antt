@@ -63,18 +63,21 @@ Gathers before after outputs =
 abbrev pub AppendsFront : Option (List ℕ) → Option (List ℕ) → List ℕ → Type 0
 AppendsFront old new bytes = (front back : List ℕ) × (bytes ≡ front ++ back) × Appends old new front
 
--- known bytes grew by these, and by some bytes behind them
-abbrev pub AppendsAtLeast : Option (List ℕ) → Option (List ℕ) → List ℕ → Type 0
-AppendsAtLeast old new bytes = (more : List ℕ) × Appends old new (bytes ++ more)
+-- known bytes grew by a front of all these bytes, which has at least these first ones
+abbrev pub AppendsPart : Option (List ℕ) → Option (List ℕ) → (least all : List ℕ) → Type 0
+AppendsPart old new least all =
+    (more back : List ℕ) × (all ≡ (least ++ more) ++ back) × Appends old new (least ++ more)
 
 -- the log, which ended behind this chain, keeps the entries among these outputs, and their frames were written
 abbrev pub WritesAll : (chain : ℕ) → (kept keeps held holds : Option (List ℕ)) → List Output → Type 0
 WritesAll chain kept keeps held holds outputs =
     Appends kept keeps (bytes_logged chain outputs) × Appends held holds (all_sent outputs)
 
--- The log keeps the entries among the first of these outputs, and nothing was written but a front of the frames among
--- them. So a frame was written only if the log keeps all entries that stand before it.
+-- The log keeps the entries among the first of these outputs, perhaps with a front of the bytes of the other entries.
+-- Nothing was written but a front of the frames among the first outputs. So a frame was written only if the log keeps
+-- all entries that stand before it.
 abbrev pub WritesFirst : (chain : ℕ) → (kept keeps held holds : Option (List ℕ)) → List Output → Type 0
 WritesFirst chain kept keeps held holds outputs =
     (first rest : List Output) × (outputs ≡ first ++ rest)
-    × AppendsAtLeast kept keeps (bytes_logged chain first) × AppendsFront held holds (all_sent first)
+    × AppendsPart kept keeps (bytes_logged chain first) (bytes_logged chain outputs)
+    × AppendsFront held holds (all_sent first)

@@ -1,5 +1,5 @@
 //! What holds for every log.
-ghost use Rattle.node_store.specs.Laws.{CutLogIsFront, LogIsReadOnce, MovedIsNoticed};
+ghost use Rattle.node_store.specs.Laws.{CutLogIsFront, LeftLogIsRead, LogIsReadOnce, MovedIsNoticed};
 
 use node_log::{entries_are_read_back, moved_entries_are_noticed};
 
@@ -26,4 +26,12 @@ pub fn moved_entries_stop_reading()
     ensures { MovedIsNoticed }
 {
     moved_entries_are_noticed();
+}
+
+/// A law: whatever a stop leaves of a log, its first entries are read from it, and at least those that were synced.
+pub fn left_logs_are_read()
+    ensures { LeftLogIsRead }
+{
+    cut_logs_are_fronts();
+    logs_are_read_once();
 }

@@ -4,7 +4,9 @@
 
 pub use end::LogEnd;
 pub use error::{StoreError, StoreFault};
-pub use laws::{cut_logs_are_fronts, logs_are_read_once, moved_entries_stop_reading};
+pub use laws::{
+    cut_logs_are_fronts, left_logs_are_read, logs_are_read_once, moved_entries_stop_reading,
+};
 pub use log::{Log, LogFile};
 pub use reading::recover_machine;
 pub use rewriting::{Rewriting, has_grown, is_worth_rewriting, rewrite_log};

@@ -11,7 +11,8 @@ use std::io::Write;
 /// A log: bytes can be appended to it, and bytes that are synced are still there after the computer stops.
 pub trait Log {
     ghost use Rattle.std.specs.Prelude.{◌≡◌, ℕ, List, Option, None, OnOk};
-    ghost use Rattle.std.specs.Io.KnownBytes.{Appends, Keeps};
+    ghost use Rattle.std.specs.Io.KnownBytes.{Keeps};
+    ghost use Rattle.frames.specs.Writing.{Writes};
     ghost use Rattle.node_store.specs.Logs.{Grows};
 
     // The bytes that were appended, where they are known.
@@ -20,15 +21,17 @@ pub trait Log {
     // The bytes that are there after the machine stops, where they are known.
     ghost kept: { Self → Option (List ℕ) } = { λ _. None };
 
-    /// Appends bytes. Some of them may be kept at once.
+    /// Appends bytes. Some of them may be kept at once. Where it fails, a front of them was appended.
     fn append(&mut self, bytes: &[u8]) -> io::Result<()>
-        ensures written { OnOk result (Appends (written self.old) (written self.new) bytes.now) }
-        ensures kept { Grows (kept self.old) (kept self.new) };
+        ensures written { Writes (written self.old) (written self.new) result bytes.now }
+        ensures kept { Grows (kept self.old) (kept self.new) }
+        ensures within { Grows (kept self.old) (written self.old) → Grows (kept self.new) (written self.new) };
 
     /// Makes the log keep all bytes that were appended.
     fn sync(&mut self) -> io::Result<()>
         ensures written { Keeps (written self.old) (written self.new) }
         ensures kept { Grows (kept self.old) (kept self.new) }
+        ensures within { Grows (kept self.old) (written self.old) → Grows (kept self.new) (written self.new) }
         ensures all { OnOk result (kept self.new ≡ written self.new) };
 }
 

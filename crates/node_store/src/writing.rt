@@ -2,6 +2,7 @@
 ghost use Rattle.std.specs.Prelude.{◌≡◌, ◌++◌, IfOk, OnOk, length};
 ghost use Rattle.std.specs.Io.KnownBytes.{Appends};
 ghost use Rattle.std.specs.List.{concat};
+ghost use Rattle.frames.specs.Writing.{Writes};
 ghost use Rattle.node_log.specs.Entry.{chain_behind};
 ghost use Rattle.node_store.specs.Recovery.{log_bytes};
 ghost use Rattle.node_store.specs.Logs.{Grows};
@@ -27,12 +28,11 @@ pub fn push_entries(bytes: &mut Gathered, chain: &mut Chain, entries: &[Entry]) 
 }
 
 /// Appends bytes to a log that is synced, and syncs it again. Does nothing if there are no bytes. If it fails, the log
-/// may keep some of the bytes.
+/// keeps a front of the bytes.
 pub fn append_bytes<L: Log>(log: &mut L, bytes: &Gathered) -> io::Result<()>
     requires { L.kept log.old ≡ L.written log.old }
-    ensures kept { OnOk result (Appends (L.kept log.old) (L.kept log.new) bytes.now) }
+    ensures kept { Writes (L.kept log.old) (L.kept log.new) result bytes.now }
     ensures synced { OnOk result (L.kept log.new ≡ L.written log.new) }
-    ensures grows { Grows (L.kept log.old) (L.kept log.new) }
 {
     if bytes.is_empty() {
         return Ok(());
@@ -41,10 +41,11 @@ pub fn append_bytes<L: Log>(log: &mut L, bytes: &Gathered) -> io::Result<()>
     log.sync()
 }
 
-/// Appends bytes to a log, part by part, from where each part lies. If it fails, the log may keep some of the bytes.
+/// Appends bytes to a log, part by part, from where each part lies. If it fails, a front of the bytes was appended.
 pub(crate) fn append_parts<L: Log>(log: &mut L, bytes: &Gathered) -> io::Result<()>
-    ensures written { OnOk result (Appends (L.written log.old) (L.written log.new) bytes.now) }
+    ensures written { Writes (L.written log.old) (L.written log.new) result bytes.now }
     ensures kept { Grows (L.kept log.old) (L.kept log.new) }
+    ensures within { Grows (L.kept log.old) (L.written log.old) → Grows (L.kept log.new) (L.written log.new) }
 {
     let (parts, last) = bytes.parts();
     append_each(log, parts)?;
@@ -53,8 +54,9 @@ pub(crate) fn append_parts<L: Log>(log: &mut L, bytes: &Gathered) -> io::Result<
 
 // Appends these parts to a log, one after another.
 fn append_each<L: Log>(log: &mut L, parts: &[Bytes]) -> io::Result<()>
-    ensures written { OnOk result (Appends (L.written log.old) (L.written log.new) (concat parts.now)) }
+    ensures written { Writes (L.written log.old) (L.written log.new) result (concat parts.now) }
     ensures kept { Grows (L.kept log.old) (L.kept log.new) }
+    ensures within { Grows (L.kept log.old) (L.written log.old) → Grows (L.kept log.new) (L.written log.new) }
 {
     for part in parts {
         log.append(part)?;
@@ -63,7 +65,7 @@ fn append_each<L: Log>(log: &mut L, parts: &[Bytes]) -> io::Result<()>
 }
 
 /// Appends entries to a log that is synced and ends behind this chain, and syncs it again. Returns how many bytes they
-/// have, and goes on with the chain behind them. If it fails, also for want of memory, the log may keep some of the
+/// have, and goes on with the chain behind them. If it fails, also for want of memory, the log may keep a front of the
 /// bytes.
 pub fn append_entries<L: Log>(
     alloc: Global,

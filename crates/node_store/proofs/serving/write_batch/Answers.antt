@@ -1,5 +1,4 @@
-use Rattle.std.proofs.Common.{rules}
-use Rattle.node_store.proofs.OutputLemmas.{late_unsent}
+use Rattle.node_store.proofs.OutputLemmas.{early_unsent, late_unsent, unlogged_first}
 use Rattle.node_store.proofs.serving.write_batch.Goals as goal
 
 pub returns-in-Err-write_out-clause-writes : goal.returns-in-Err-write_out-clause-writes
@@ -17,5 +16,17 @@ returns-in-Err-write_out-clause-writes g c =
       λ bytes. tt,
     )
 
+pub returns-in-Err-clause-writes : goal.returns-in-Err-clause-writes
+returns-in-Err-clause-writes g c =
+    λ chain outputs has. (
+      early_unsent chain c.args.batch.now outputs has _ _ _ c.in-Err.error c.in-Err.ensures,
+      λ bytes. tt,
+    )
+
 pub returns-in-Err-append_bytes-clause-writes : goal.returns-in-Err-append_bytes-clause-writes
-returns-in-Err-append_bytes-clause-writes g c = search rules
+returns-in-Err-append_bytes-clause-writes g c =
+    λ chain outputs has. (
+      unlogged_first chain c.args.batch.now outputs has _ _ _ _ c.in-Err-append_bytes.error c.in_default.ensures
+          c.in-Err-append_bytes.ensures.kept,
+      λ bytes. tt,
+    )

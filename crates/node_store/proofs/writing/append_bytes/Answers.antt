@@ -1,10 +1,21 @@
 use Rattle.std.proofs.Common.{arith}
 use Rattle.std.proofs.lemmas.Grind.{common_steps}
-use Rattle.node_store.proofs.GrowthLemmas.{grows_twice}
+use Rattle.std.proofs.lemmas.Result.{err_from_is_err_and}
+use Rattle.node_store.proofs.GrowthLemmas.{grows_same, grows_twice, keeps_front_of, synced_writes}
 use Rattle.node_store.proofs.writing.append_bytes.Goals as goal
-
-pub returns-clause-grows : goal.returns-clause-grows
-returns-clause-grows g c = grows_twice _ _ _ c.append_parts.ensures.kept c.sync.ensures.kept
 
 pub returns-then-is_empty-clause-kept : goal.returns-then-is_empty-clause-kept
 returns-then-is_empty-clause-kept g c = grind (arith, common_steps)
+
+pub returns-in_err-append_parts-clause-kept : goal.returns-in_err-append_parts-clause-kept
+returns-in_err-append_parts-clause-kept g c =
+    let p = err_from_is_err_and c.from_residual.result c.from_residual.ensures.1 in
+    let (front, back, parts, got) = c.in_err-append_parts.ensures.written in
+    rw p.1 (keeps_front_of _ _ _ _ c.args.bytes.now front back parts c.requires c.append_parts.ensures.kept got
+    (c.append_parts.ensures.within (grows_same _ _ c.requires)))
+
+pub returns-clause-kept : goal.returns-clause-kept
+returns-clause-kept g c =
+    synced_writes c.sync.result _ _ _ _ _ c.args.bytes.now c.requires c.in_ok-append_parts.ensures.written
+    (grows_twice _ _ _ c.append_parts.ensures.kept c.sync.ensures.kept) c.sync.ensures.written
+    (c.sync.ensures.within (c.append_parts.ensures.within (grows_same _ _ c.requires))) c.sync.ensures.all

@@ -10,3 +10,4 @@ abbrev pub invariant-loop-part : goal.invariant-loop-part
 invariant-loop-part g l =
     Appends (g.L.Log.written l.fn.log) (g.L.Log.written l.log) (flat_map as_it_is (take l.part-index l.parts))
     × Grows (g.L.Log.kept l.fn.log) (g.L.Log.kept l.log)
+    × (Grows (g.L.Log.kept l.fn.log) (g.L.Log.written l.fn.log) → Grows (g.L.Log.kept l.log) (g.L.Log.written l.log))
