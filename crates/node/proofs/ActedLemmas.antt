@@ -19,6 +19,7 @@ use Rattle.node_effects.specs.declared.effects.Effects.{Effects}
 use Rattle.letter.specs.declared.letter.NamedLetter.{NamedLetter}
 use Rattle.node_effects.specs.declared.work.Work.{Work}
 use Rattle.node_keeper.specs.Acts.{Acts}
+use Rattle.node_keeper.specs.Fitting.{IsSendable}
 use Rattle.node_keeper.specs.Keeping.{heeds, if_heeded, kept_of}
 use Rattle.node_keeper.specs.Logging.{IsReadBack}
 use Rattle.node_keeper.specs.Sendings.{IsDirected, Sending, letters_of, to_itself}
@@ -33,7 +34,7 @@ use Rattle.node.specs.Frames.{letters_in, sender_or}
 use Rattle.node.specs.Handles.{Handles, HasActed}
 use Rattle.node.specs.Serving.{ServedSince}
 use Rattle.node.specs.Peers.{IsChangedBy}
-use Rattle.node.specs.Ticks.{IsAskingAgain}
+use Rattle.node.specs.Ticks.{IsDoneFirst}
 
 -- a letter of the node to itself is one of those that it sent
 abbrev pub WasSent : List Sending → NamedLetter → Type 0
@@ -77,6 +78,7 @@ acted_first asker got a b u v within empty acts =
           (sym notices) (acts.handled within);
       outputs = acts.grown.outputs ∙ ap (λ xs. xs ++ g.outputs) empty.outputs ∙ acts.outputs;
       read = acts.read;
+      sent = acts.sent;
       own = subst (λ xs. AllByRecursion (WasSent sends) xs) (sym own) (own_were_sent a.ids.node sends);
       addressed = record {
         first = sends;
@@ -98,7 +100,7 @@ pub acted_then : (asker other : ℕ) (got more : List Named) (a b c : Keeper) (v
     HasActed asker got a c x
 acted_then asker other got more a b c v w x done outputs notices own acts itself among =
     let n = a.ids.node in
-    let sent = done.addressed in
+    let to = done.addressed in
     let g = acts.growth in
     let before = sends_in done.wants in
     let then = sends_in acts.wants in
@@ -124,6 +126,10 @@ acted_then asker other got more a b c v w x done outputs notices own acts itself
       read = subst (λ rs. AllByRecursion (IsReadBack a.digest) rs) (sym (records_append done.wants acts.wants))
           (all_append (IsReadBack a.digest) (records_in done.wants) (records_in acts.wants) done.read
           (subst (λ d. AllByRecursion (IsReadBack d) (records_in acts.wants)) done.digest acts.read));
+      sent = subst (λ xs. AllByRecursion (IsSendable n a.digest) xs) (sym all)
+          (all_append (IsSendable n a.digest) before then done.sent
+          (subst (λ d. AllByRecursion (IsSendable n d) then) done.digest
+          (subst (λ m. AllByRecursion (IsSendable m b.digest) then) done.node acts.sent)));
       own = subst (λ xs. AllByRecursion (WasSent xs) x.own.items) (sym all)
           (subst (λ xs. AllByRecursion (WasSent (before ++ then)) xs)
           (sym (acts.grown.own ∙ ap (λ xs. w.own.items ++ xs) acts.own))
@@ -132,11 +138,11 @@ acted_then asker other got more a b c v w x done outputs notices own acts itself
           (all_weaker (WasSent then) (WasSent (before ++ then)) (sent_after before then)
           (to_itself b.ids.node then) (own_were_sent b.ids.node then))));
       addressed = record {
-        first = sent.first;
-        rest = sent.rest ++ then;
-        all = all ∙ ap (λ xs. xs ++ then) sent.all ∙ append_assoc sent.first sent.rest then;
-        asked = sent.asked;
-        own = all_append (IsDirected n n) sent.rest then sent.own
+        first = to.first;
+        rest = to.rest ++ then;
+        all = all ∙ ap (λ xs. xs ++ then) to.all ∙ append_assoc to.first to.rest then;
+        asked = to.asked;
+        own = all_append (IsDirected n n) to.rest then to.own
             (subst (λ m. AllByRecursion (IsDirected n m) then) itself
             (subst (λ m. AllByRecursion (IsDirected m other) then) done.node acts.addressed));
       };
@@ -154,6 +160,7 @@ acted_same asker got a b v w done outputs notices own = record {
       (sym notices) done.handled;
   outputs = outputs ∙ done.outputs;
   read = done.read;
+  sent = done.sent;
   own = subst (λ xs. AllByRecursion (WasSent (sends_in done.wants)) xs) (sym own) done.own;
   addressed = done.addressed;
   node = done.node;
@@ -222,7 +229,7 @@ pub handles_of : (old new : Node) (frame : Strings) (work : Work) (effects : Eff
     ServedSince (arrival_at frame) old new work.to_clients.items work.notices.items →
     effects.outputs.items ≡ work.outputs.items → effects.answers.items ≡ work.to_clients.items →
     effects.notices.items ≡ work.notices.items → (NoneWaits old.desk.clients [] → NoneWaits new.desk.clients []) →
-    IsAskingAgain (arrival_at frame) old effects.outputs.items →
+    IsDoneFirst (arrival_at frame) old effects.outputs.items →
     IsChangedBy (arrival_at frame) old.keeper old.peers new.peers → Handles old frame effects new
 handles_of old new frame work effects done served outputs answers notices waits again peers = record {
   wants = done.wants;
@@ -230,10 +237,11 @@ handles_of old new frame work effects done served outputs answers notices waits 
       (kept_of new.keeper) (all_seen ns)) (sym notices) done.handled;
   outputs = outputs ∙ done.outputs;
   read = done.read;
+  sent = done.sent;
   addressed = done.addressed;
   served = subst (λ fs. ServedSince (arrival_at frame) old new fs effects.notices.items) (sym answers)
       (subst (λ ns. ServedSince (arrival_at frame) old new work.to_clients.items ns) (sym notices) served);
   waits = waits;
-  again = again;
+  first = again;
   peers = peers;
 }

@@ -18,7 +18,11 @@ use Rattle.node_keeper.specs.Sendings.{Sending, posted}
 use Rattle.node_keeper.specs.declared.keeper.Keeper.{Keeper}
 use Rattle.node_keeper.proofs.SendingLemmas.{posted_append}
 use Rattle.node.specs.Serving.{AreTicksOf, IsTickOf, ServesTicks}
-use Rattle.node.specs.Ticks.{AreFirst, AreTicked, IsAsking, IsAskingAgain, IsKeptAs, IsKeptAtAge, IsTicked, PutsOut}
+use Rattle.node_messages.specs.Reading.{message_from}
+use Rattle.node.specs.Hearing.{HearsIfRead}
+use Rattle.node.specs.Ticks.{AreFirst, AreTicked, DoesFirst, IsDoneFirst, IsKeptAs, IsKeptAtAge, IsTicked, PutsOut}
+use Rattle.node_messages.specs.Reading.{message_from}
+use Rattle.node.specs.Hearing.{HearsIfRead}
 use Rattle.node.specs.Ticks.{hearing, SendsAgain, again_if, aged_at, sent_at_age}
 use Rattle.node.specs.declared.node.Node.{Node}
 
@@ -129,10 +133,15 @@ first_stays first before after more e is =
     (is.0 ++ more, e ∙ ap (λ xs. xs ++ more) is.1 ∙ append_assoc first is.0 more)
 
 pub asked_again : (came : Option Arrival) (old middle : Node) (before first all : List Output) → before ≡ [] →
-    IsAsking came old before middle first → AreFirst first all → IsAskingAgain came old all
+    DoesFirst came old before middle first → AreFirst first all → IsDoneFirst came old all
 asked_again None old middle before first all empty is are = (middle, first, tt, are)
 asked_again (Some (arrived.Command client frame)) old middle before first all empty is are = (middle, first, tt, are)
 asked_again (Some (arrived.Left client)) old middle before first all empty is are = (middle, first, tt, are)
-asked_again (Some (arrived.Message sender frame)) old middle before first all empty is are = (middle, first, tt, are)
+asked_again (Some (arrived.Message sender frame)) old middle before first all empty is are = (
+  middle,
+  first,
+  subst (λ xs. HearsIfRead sender (message_from frame) old.keeper xs middle.keeper first) empty is,
+  are,
+)
 asked_again (Some (arrived.Tick heard)) old middle before first all empty is are =
     (middle, first, subst (λ xs. SendsAgain (keys old.desk.calls) (hearing heard old) xs middle first) empty is, are)

@@ -19,7 +19,7 @@ use Rattle.node.specs.Recovering.{CarriesOutEntry}
 use Rattle.node.specs.Starts.{cluster_entry}
 
 -- the entry that names the cluster and the node records nothing that the node did
-named_deeds : (digest : List ℕ) (number : ℕ) (it : Record) → record_strings (record_of.Cluster digest number) ≡ record_strings it →
+pub named_deeds : (digest : List ℕ) (number : ℕ) (it : Record) → record_strings (record_of.Cluster digest number) ≡ record_strings it →
     deeds_of it ≡ []
 named_deeds digest number (record_of.Cluster other node) same = refl
 named_deeds digest number record_of.Start same = absurd (let word : codes "cluster" ≡ codes "start" = cc in cc)
@@ -42,7 +42,7 @@ one_carried : (digest : List ℕ) (one : LogRecord) → IsReadBack digest one �
     CarriesOutEntry old (log_entry_of digest one) new → Recovers (one ∷ []) (kept_of old.keeper) (kept_of new.keeper)
 one_carried digest one read old new carried =
     subst (λ (rs : List LogRecord). Recovers rs (kept_of old.keeper) (kept_of new.keeper))
-    (ap deeds_if (sym carried.read) ∙ ap (λ (s : Strings). deeds_if (record_at s)) (sym carried.whole) ∙ read)
+    (ap deeds_if (sym carried.read) ∙ ap (λ (s : Strings). deeds_if (record_at s)) (sym carried.whole) ∙ read.same)
     carried.done.recovers
 
 all_carried : (digest : List ℕ) (records : List LogRecord) → AllByRecursion (IsReadBack digest) records → (old new : Node) →

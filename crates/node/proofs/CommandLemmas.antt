@@ -1,7 +1,6 @@
 -- Commands that are taken and carried out, as what a node does for its clients.
 use Rattle.std.proofs.Common.{◌≡◌, ℕ, true, false, List, [], ◌∷◌, Option, None, Some, Ok, is_some}
 use Rattle.std.proofs.Common.{Result, Err, IsSome, OnOk, refl, sym, subst, ap, ◌∙◌}
-use Rattle.cluster_file.specs.File.{FileContents}
 use Rattle.node_clients.specs.Connections.{TakesNextAt, doing, gives_next_of, has_next, waiting_on}
 use Rattle.node_clients.specs.declared.connection.Connection.{Connection}
 use Rattle.node_clients.specs.declared.connection.State.{State}
@@ -10,8 +9,6 @@ use Rattle.client_commands.specs.Reading.{command_at}
 use Rattle.client_commands.specs.declared.answer.Answer.{Answer}
 use Rattle.client_commands.specs.declared.command.Command.{Command}
 use Rattle.client_commands.specs.declared.command.Command.TheVariants as ask
-use Rattle.client_commands.specs.declared.command.Wanted.{Wanted}
-use Rattle.layout.specs.Layout.{Layout}
 use Rattle.node_strings.specs.Strings.{Strings}
 use Rattle.node_effects.specs.Work.{IsGrown}
 use Rattle.node_effects.specs.declared.error.NodeError.{NodeError}
@@ -25,8 +22,8 @@ use Rattle.node_clients.proofs.ServedLemmas.{busy_is_there}
 use Rattle.node_keeper.specs.declared.keeper.Keeper.{Keeper}
 use Rattle.indexmap.specs.IndexMap.{index_map_len}
 use Rattle.node_clients.specs.declared.counts.Counts.{Counts}
-use Rattle.node.specs.AtOnce.{IsCarriedOut, IsPlainHere, IsReplyHere}
-use Rattle.node.specs.Replies.{IsPlainReply, IsReplyTo, IsRight}
+use Rattle.node.specs.AtOnce.{IsCarriedOut, IsReplyHere}
+use Rattle.node.specs.Replies.{IsReplyTo, IsRight}
 use Rattle.node.specs.Serving.{FollowsUp, IsCommandDone, ServesClients, ServesCommand, ServesNext}
 use Rattle.node.specs.declared.node.Node.{Node}
 use Rattle.node.specs.declared.peers.Peers.{Peers}
@@ -205,50 +202,3 @@ quits client command old new u v (Ok done) is busy grown state waiting stays oth
   number = ap (λ (k : Keeper). k.ids.node) same;
 }
 quits client command old new u v (Err error) is busy grown state waiting stays others calls counts same = tt
-
--- the plain answer to a command that is no call and no QUIT
-pub plain_is_reply : (number : ℕ) (file : FileContents) (client : ℕ) (command : Command) (answer : Answer) →
-    ((wanted : Wanted) (name : List ℕ) → command ≡ ask.Read wanted name → ⊥) → ((name value : List ℕ) → command ≡ ask.Set name value → ⊥) →
-    ((name : List ℕ) (layout : Layout) → command ≡ ask.Move name layout → ⊥) → (command ≡ ask.Quit → ⊥) →
-    IsPlainReply client command answer → IsReplyTo number file client (Ok command) answer
-plain_is_reply number file client (ask.Read wanted name) answer get set move quit is = absurd (get wanted name refl)
-plain_is_reply number file client (ask.Set name value) answer get set move quit is = absurd (set name value refl)
-plain_is_reply number file client (ask.Move name layout) answer get set move quit is = absurd (move name layout refl)
-plain_is_reply number file client ask.Info answer get set move quit is = is
-plain_is_reply number file client ask.CountWritten answer get set move quit is = is
-plain_is_reply number file client (ask.ShowLayout name) answer get set move quit is = is
-plain_is_reply number file client (ask.Scan cursor options) answer get set move quit is = is
-plain_is_reply number file client (ask.Ping text) answer get set move quit is = is
-plain_is_reply number file client (ask.Echo text) answer get set move quit is = is
-plain_is_reply number file client ask.ListCommands answer get set move quit is = is
-plain_is_reply number file client ask.ClientId answer get set move quit is = is
-plain_is_reply number file client ask.DescribeClient answer get set move quit is = is
-plain_is_reply number file client ask.CountCommands answer get set move quit is = is
-plain_is_reply number file client ask.ClientName answer get set move quit is = is
-plain_is_reply number file client ask.Hello answer get set move quit is = is
-plain_is_reply number file client ask.Select answer get set move quit is = is
-plain_is_reply number file client ask.Login answer get set move quit is = is
-plain_is_reply number file client ask.Quit answer get set move quit is = absurd (quit refl)
-
-pub plain_is_here : (keeper : Keeper) (peers : Peers) (calls : ℕ) (counts : Counts) (command : Command) (answer : Answer) →
-    ((wanted : Wanted) (name : List ℕ) → command ≡ ask.Read wanted name → ⊥) → ((name value : List ℕ) → command ≡ ask.Set name value → ⊥) →
-    ((name : List ℕ) (layout : Layout) → command ≡ ask.Move name layout → ⊥) →
-    IsPlainHere keeper peers calls counts command answer → IsReplyHere keeper peers calls counts (Ok command) answer
-plain_is_here keeper peers calls counts (ask.Read wanted name) answer get set move is = absurd (get wanted name refl)
-plain_is_here keeper peers calls counts (ask.Set name value) answer get set move is = absurd (set name value refl)
-plain_is_here keeper peers calls counts (ask.Move name layout) answer get set move is = absurd (move name layout refl)
-plain_is_here keeper peers calls counts ask.Info answer get set move is = is
-plain_is_here keeper peers calls counts ask.CountWritten answer get set move is = is
-plain_is_here keeper peers calls counts (ask.ShowLayout name) answer get set move is = is
-plain_is_here keeper peers calls counts (ask.Scan cursor options) answer get set move is = is
-plain_is_here keeper peers calls counts (ask.Ping text) answer get set move is = tt
-plain_is_here keeper peers calls counts (ask.Echo text) answer get set move is = tt
-plain_is_here keeper peers calls counts ask.ListCommands answer get set move is = tt
-plain_is_here keeper peers calls counts ask.ClientId answer get set move is = tt
-plain_is_here keeper peers calls counts ask.DescribeClient answer get set move is = tt
-plain_is_here keeper peers calls counts ask.CountCommands answer get set move is = tt
-plain_is_here keeper peers calls counts ask.ClientName answer get set move is = tt
-plain_is_here keeper peers calls counts ask.Hello answer get set move is = tt
-plain_is_here keeper peers calls counts ask.Select answer get set move is = tt
-plain_is_here keeper peers calls counts ask.Login answer get set move is = tt
-plain_is_here keeper peers calls counts ask.Quit answer get set move is = tt

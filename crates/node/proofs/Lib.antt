@@ -1,8 +1,11 @@
 pub mod TellLemmas
 pub mod PeerLemmas
+pub mod ReadyLemmas
+pub mod ShownLemmas
 pub mod MoveLemmas
 pub mod ServingLemmas
 pub mod CommandLemmas
+pub mod PlainReplyLemmas
 pub mod ArrivalLemmas
 pub mod KeeperLemmas
 pub mod TickLemmas

@@ -27,6 +27,7 @@ pub record AreAnew (node : Node) (entries : List Strings) : Type 0 where
   pub records : List LogRecord
   pub those : entries ≡ cluster_entry node.keeper.digest node.keeper.ids.node
       ∷ map (log_entry_of node.keeper.digest) records
+  pub named : IsEntry (cluster_strings node.keeper.digest node.keeper.ids.node)
   pub read : AllByRecursion (IsReadBack node.keeper.digest) records
   pub recorded : HasOwnObjects (kept_of node.keeper) → HasDistinctCalls (kept_of node.keeper) →
       IsRecorded (new_node (names_of_keeper node.keeper) node.keeper.ids.node) records (kept_of node.keeper)

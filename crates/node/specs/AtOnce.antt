@@ -1,10 +1,6 @@
 -- The contracts that docs/trusted.md lists do not depend on this file; other contracts and proofs do.
 -- What a node does with a command that it carries out at once, by what it keeps before the command comes.
-use Rattle.std.specs.Prelude.{◌≡◌, ◌⊎◌, ⊤, ℕ, ◌-◌, ◌^◌, min, List, [], ◌∷◌, ◌++◌, length}
-use Rattle.std.specs.Prelude.{codes, Option, None, Some, Ok, Err}
-use Rattle.std.specs.Fmt.{decimal}
-use Rattle.std.specs.List.{concat}
-use Rattle.words.specs.Hexadecimal.{hexadecimal_text}
+use Rattle.std.specs.Prelude.{◌≡◌, ◌⊎◌, ⊤, ℕ, List, [], ◌∷◌, length, Option, None, Some, Ok, Err}
 use Rattle.indexmap.specs.IndexMap.{index_map_len}
 use Rattle.tag.specs.declared.refusal.Refusal.{Refusal}
 use Rattle.deeds.specs.CallId.{CallIds, next_given_id, with_next_epoch}
@@ -23,13 +19,14 @@ use Rattle.client_commands.specs.declared.command.Command.TheVariants as ask
 use Rattle.node_strings.specs.Strings.{Strings}
 use Rattle.node_strings.specs.declared.arrival.Arrival.{Arrival}
 use Rattle.node_strings.specs.declared.arrival.Arrival.TheVariants as came
-use Rattle.node_keeper.specs.Objects.{bytes_in_banks, heard_names, objects_of}
+use Rattle.node_keeper.specs.Objects.{objects_of}
 use Rattle.node_keeper.specs.Written.{written_names}
 use Rattle.node_clients.specs.Desk.{connection_of}
 use Rattle.node_clients.specs.Services.{Service}
 use Rattle.node_clients.specs.declared.counts.Counts.{Counts}
 use Rattle.node_clients.specs.declared.desk.Desk.{Desk}
 use Rattle.node_keeper.specs.declared.keeper.Keeper.{Keeper}
+use Rattle.node.specs.Info.{info_lines}
 use Rattle.node.specs.Moves.{move_fault}
 use Rattle.node.specs.Shown.{IsLayoutHere, IsPageHere}
 use Rattle.node.specs.declared.peers.Peers.{Peers}
@@ -51,37 +48,10 @@ IsBegunHere keeper name refusal id =
 
 -- INFO
 
--- the lines of INFO that name the program, the node, the node that moves objects, the cluster and the epoch
-abbrev pub name_lines : (node mover : ℕ) → (digest : List ℕ) → (epoch : ℕ) → List ℕ
-name_lines node mover digest epoch = concat (
-    codes "program:casd\r\nnode:" ∷ decimal node ∷ codes "\r\nmover:" ∷ decimal mover
-    ∷ codes "\r\ncluster:" ∷ hexadecimal_text digest ∷ codes "\r\nepoch:" ∷ decimal epoch ∷ codes "\r\n" ∷ [])
-
--- the lines with the numbers of objects, of bytes that their banks store, of connections, and of open calls
-abbrev pub size_lines : (objects bytes clients calls : ℕ) → List ℕ
-size_lines objects bytes clients calls = concat (
-    codes "objects:" ∷ decimal objects ∷ codes "\r\nbytes_stored:" ∷ decimal bytes
-    ∷ codes "\r\nclients:" ∷ decimal clients ∷ codes "\r\ncalls_open:" ∷ decimal calls ∷ codes "\r\n" ∷ [])
-
--- the lines with what a node has counted; `foreign` is the number of messages of nodes with another cluster file
-abbrev pub count_lines : Counts → (foreign : ℕ) → List ℕ
-count_lines counts foreign = concat (
-    codes "commands_answered:" ∷ decimal counts.answered ∷ codes "\r\ncalls_given_up:" ∷ decimal counts.given_up
-    ∷ codes "\r\nframes_dropped:" ∷ decimal counts.dropped ∷ codes "\r\nframes_of_other_clusters:" ∷ decimal foreign
-    ∷ codes "\r\nbytes_of_the_log:" ∷ decimal counts.log_bytes ∷ codes "\r\n" ∷ [])
-
--- all lines of INFO, of a node with so many connections and open calls
-abbrev pub info_lines : Keeper → Peers → (clients calls : ℕ) → Counts → List ℕ
-info_lines keeper peers clients calls counts =
-    let objects = length (heard_names keeper.objects) in
-    let bytes = min (bytes_in_banks keeper.objects) (2 ^ 64 - 1) in
-    name_lines keeper.ids.node keeper.file.fixed.mover keeper.digest keeper.ids.epoch
-    ++ (size_lines objects bytes clients calls ++ count_lines counts peers.foreign)
-
--- the answer to INFO: its lines, with some number of connections
+-- the answer to INFO: its text, with some number of connections and some number of open moves
 abbrev pub IsInfoHere : Keeper → Peers → (calls : ℕ) → Counts → Answer → Type 0
 IsInfoHere keeper peers calls counts answer =
-    (clients : ℕ) × (answer ≡ answers.Value (info_lines keeper peers clients calls counts))
+    (clients moves : ℕ) × (answer ≡ answers.Value (info_lines keeper peers clients calls moves counts))
 
 -- Commands
 

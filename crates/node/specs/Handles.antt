@@ -11,6 +11,7 @@ use Rattle.node_effects.specs.Seen.{all_seen, named_of}
 use Rattle.node_strings.specs.Strings.{Strings}
 use Rattle.node_effects.specs.declared.effects.Effects.{Effects}
 use Rattle.node_effects.specs.declared.work.Work.{Work}
+use Rattle.node_keeper.specs.Fitting.{IsSendable}
 use Rattle.node_keeper.specs.Keeping.{kept_of}
 use Rattle.node_keeper.specs.Logging.{IsReadBack}
 use Rattle.node_keeper.specs.Sendings.{IsDirected, Sending, letters_of}
@@ -20,7 +21,7 @@ use Rattle.node.specs.declared.node.Node.{Node}
 use Rattle.node.specs.Frames.{letters_in, sender_or}
 use Rattle.node.specs.Peers.{IsChangedBy}
 use Rattle.node.specs.Serving.{ServedSince}
-use Rattle.node.specs.Ticks.{IsAskingAgain}
+use Rattle.node.specs.Ticks.{IsDoneFirst}
 
 -- each letter goes to the node to which it has to go: a request to the node that it asks, and a reply to the node of
 -- number `asker` if it is one of the first letters, and to this node itself if it is one of the rest
@@ -40,6 +41,7 @@ pub record HasActed (asker : ℕ) (got : List Named) (first now : Keeper) (work 
       (all_seen work.notices.items)
   pub outputs : work.outputs.items ≡ outputs_of first.ids.node first.digest wants
   pub read : AllByRecursion (IsReadBack first.digest) (records_in wants)
+  pub sent : AllByRecursion (IsSendable first.ids.node first.digest) (sends_in wants)
   pub own : AllByRecursion (λ it. IsOneOf (letters_of (sends_in wants)) (named_of it)) work.own.items
   pub addressed : AreAddressed first.ids.node asker (sends_in wants)
   pub node : now.ids.node ≡ first.ids.node
@@ -47,18 +49,21 @@ pub record HasActed (asker : ℕ) (got : List Named) (first now : Keeper) (work 
 
 -- What a node did with a frame: deeds with the letter that the frame carries, if it carries one. The outputs are the
 -- entries of the records that the log needs of these deeds, and the frames of the letters that the node sent to other
--- nodes. They stand in such an order that the node may stop behind any of them: each frame depends only on the entries
--- before it. Behind them come the answers to clients. What the node did for its clients says which answers these are,
--- and what clients saw. If no command that may be carried out waited before, none waits now. At a tick, open calls send
--- their requests again. What the node knows of the other nodes changes exactly as `IsChangedBy` says.
+-- nodes. An entry is read back as its record, and a frame as a message with its letter. They stand in such an order
+-- that the node may stop behind any of them: each frame depends only on the entries before it. Behind them come the
+-- answers to clients. What the node did for its clients says which answers these are, and what clients saw. If no
+-- command that may be carried out waited before, none waits now. What it does first with what has come is told exactly:
+-- at a tick, open calls send their requests again; and the letter of a message that is admitted is served, taken or
+-- dropped as `Keeper::deliver` says. What the node knows of the other nodes changes exactly as `IsChangedBy` says.
 pub record Handles (old : Node) (frame : Strings) (effects : Effects) (new : Node) : Type 0 where
   pub wants : List Want
   pub handled : IsHandledSafely fragment (kept_of old.keeper) (letters_in old.keeper frame) (left_by wants)
       (kept_of new.keeper) (all_seen effects.notices.items)
   pub outputs : effects.outputs.items ≡ outputs_of old.keeper.ids.node old.keeper.digest wants
   pub read : AllByRecursion (IsReadBack old.keeper.digest) (records_in wants)
+  pub sent : AllByRecursion (IsSendable old.keeper.ids.node old.keeper.digest) (sends_in wants)
   pub addressed : AreAddressed old.keeper.ids.node (sender_or old.keeper.ids.node (arrival_at frame)) (sends_in wants)
   pub served : ServedSince (arrival_at frame) old new effects.answers.items effects.notices.items
   pub waits : NoneWaits old.desk.clients [] → NoneWaits new.desk.clients []
-  pub again : IsAskingAgain (arrival_at frame) old effects.outputs.items
+  pub first : IsDoneFirst (arrival_at frame) old effects.outputs.items
   pub peers : IsChangedBy (arrival_at frame) old.keeper old.peers new.peers

@@ -2,9 +2,11 @@ pub mod Frames
 pub mod Peers
 pub mod Moves
 pub mod Shown
+pub mod Info
 pub mod Replies
 pub mod AtOnce
 pub mod Serving
+pub mod Hearing
 pub mod Ticks
 pub mod Handles
 pub mod Recovering

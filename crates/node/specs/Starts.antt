@@ -1,6 +1,6 @@
 -- The contracts that docs/trusted.md lists do not depend on this file; other contracts and proofs do.
 -- What the log of a node gets when the node starts.
-use Rattle.std.specs.Prelude.{◌^◌, ◌<◌, ⊤, suc, ℕ, Bool, if◌then◌else◌, List, [], ◌∷◌, ◌++◌}
+use Rattle.std.specs.Prelude.{◌≡◌, ◌^◌, ◌<◌, ⊤, false, suc, ℕ, Bool, if◌then◌else◌, List, [], ◌∷◌, ◌++◌}
 use Rattle.deeds.specs.CallId.{CallIds}
 use Rattle.node_log.specs.Entry.{IsEntry}
 use Rattle.node_strings.specs.Record.{record_strings}
@@ -31,6 +31,10 @@ name_growth node = growth_unless node.is_named node.keeper.digest node.keeper.id
 -- entry of a new epoch
 abbrev pub start_entries : Node → List (List (List ℕ))
 start_entries node = entries_in (name_growth node).outputs ++ start_entry ∷ []
+
+-- the entry that names the cluster and the node is one, unless the log has it already
+abbrev pub CanBeNamed : Node → Type 0
+CanBeNamed node = node.is_named ≡ false → IsEntry (cluster_strings node.keeper.digest node.keeper.ids.node)
 
 -- why a node of this number, with the cluster file of this digest, does not start: there is no memory, it has begun all
 -- epochs, or the entry that names the cluster and the node is too long

@@ -19,6 +19,8 @@ use Rattle.node_keeper.specs.Resending.{sendings_again}
 use Rattle.node_keeper.specs.Sendings.{Sending, posted}
 use Rattle.node_keeper.specs.declared.keeper.Keeper.{Keeper}
 use Rattle.node_strings.specs.declared.heard.Heard.{Heard}
+use Rattle.node_messages.specs.Reading.{message_from}
+use Rattle.node.specs.Hearing.{HearsIfRead}
 use Rattle.node.specs.Peers.{heard_at}
 use Rattle.node.specs.Serving.{IsTickOf}
 use Rattle.node.specs.declared.node.Node.{Node}
@@ -79,19 +81,23 @@ pub record SendsAgain (ids : List ℕ) (old : Node) (before : List Output) (new 
 abbrev pub hearing : Heard → Node → Node
 hearing heard node = record node { peers = record node.peers { heard = heard_at heard } }
 
--- at a tick, the node notes which nodes its host hears, and open calls send requests again; else this says nothing
-abbrev pub IsAsking : Option Arrival → (old : Node) → (before : List Output) → (new : Node) → (after : List Output) →
+-- At a tick, the node notes which nodes its host hears, and open calls send requests again. Of a message, the node
+-- hears the letter, if the message is admitted. Of all else, this says nothing.
+abbrev pub DoesFirst : Option Arrival → (old : Node) → (before : List Output) → (new : Node) → (after : List Output) →
     Type 0
-IsAsking (Some (came.Tick heard)) old before new after =
+DoesFirst (Some (came.Tick heard)) old before new after =
     SendsAgain (keys old.desk.calls) (hearing heard old) before new after
-IsAsking arrival old before new after = ⊤
+DoesFirst (Some (came.Message sender frame)) old before new after =
+    HearsIfRead sender (message_from frame) old.keeper before new.keeper after
+DoesFirst arrival old before new after = ⊤
 
 -- these are the first outputs
 abbrev pub AreFirst : (first outputs : List Output) → Type 0
 AreFirst first outputs = (more : List Output) × (outputs ≡ first ++ more)
 
--- At a tick, the first outputs are the frames of the requests that the open calls send again. Then the node handles its
--- letters to itself and the next commands of its clients.
-abbrev pub IsAskingAgain : Option Arrival → (old : Node) → List Output → Type 0
-IsAskingAgain arrival old outputs =
-    (ticked : Node) × (first : List Output) × IsAsking arrival old [] ticked first × AreFirst first outputs
+-- The first outputs are those of what the node does first with what has come: at a tick, the frames of the requests
+-- that the open calls send again; of a message, what comes of its letter. Then the node handles its letters to itself
+-- and the next commands of its clients.
+abbrev pub IsDoneFirst : Option Arrival → (old : Node) → List Output → Type 0
+IsDoneFirst arrival old outputs =
+    (middle : Node) × (first : List Output) × DoesFirst arrival old [] middle first × AreFirst first outputs

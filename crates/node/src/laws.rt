@@ -2,6 +2,7 @@
 ghost use Rattle.node.specs.Anew.{AnewGivesCopies, HandledFramesKeepOwn, HandledFramesKeepOwnCalls};
 ghost use Rattle.node.specs.Anew.{OwnCallsAreDistinct, RecoveredEntriesKeepOwn, StartedNodesKeepOwn};
 ghost use Rattle.node.specs.Anew.{StartingNodesHaveOwn};
+ghost use Rattle.node.specs.Info.{ReadyNodesHearQuorums};
 ghost use Rattle.node.specs.Peers.{OthersAreToldOnce};
 
 /// A law: what a new node has from the entries that `Node::entries_anew` returns is a copy of the node.
@@ -45,4 +46,10 @@ pub fn own_calls_are_distinct()
 /// cluster file of which is told. So each is told of once for each digest.
 pub fn others_are_told_once()
     ensures { OthersAreToldOnce }
+{}
+
+/// A law: a node that is ready, as `INFO` says it by `cluster_state:ok`, hears a quorum of the layout that any name has
+/// before any move.
+pub fn ready_nodes_hear_quorums()
+    ensures { ReadyNodesHearQuorums }
 {}

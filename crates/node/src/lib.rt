@@ -4,8 +4,8 @@
 
 pub use laws::{
     anew_gives_copies, handled_frames_keep_own, handled_frames_keep_own_calls, new_nodes_have_own,
-    others_are_told_once, own_calls_are_distinct, recovered_entries_keep_own,
-    started_nodes_keep_own,
+    others_are_told_once, own_calls_are_distinct, ready_nodes_hear_quorums,
+    recovered_entries_keep_own, started_nodes_keep_own,
 };
 pub use node::Node;
 

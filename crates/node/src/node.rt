@@ -18,9 +18,9 @@ ghost use Rattle.node.specs.Frames.{letter_of_arrival, letters_in, sender_of, se
 ghost use Rattle.node.specs.Handles.{HasActed};
 ghost use Rattle.node.specs.Peers.{IsChangedBy, KnowsNothing};
 ghost use Rattle.node.specs.Serving.{ServedSince, ServesArrival};
-ghost use Rattle.node.specs.Ticks.{AreFirst, IsAsking};
+ghost use Rattle.node.specs.Ticks.{AreFirst, DoesFirst};
 ghost use Rattle.node.specs.declared.node.Node.{Node as Was};
-ghost use Rattle.node.specs.Starts.{IsNotStarted, cluster_strings, name_growth, start_entries};
+ghost use Rattle.node.specs.Starts.{CanBeNamed, IsNotStarted, cluster_strings, name_growth, start_entries};
 
 use crate::peers::Peers;
 use cluster_file::ClusterFile;
@@ -40,6 +40,7 @@ mod messages;
 mod moves;
 mod recovery;
 mod rewriting;
+mod sections;
 mod ticks;
 
 /// A node of a cluster: what it keeps of each object, the calls that it carries out, and its clients.
@@ -72,6 +73,7 @@ impl Node {
     pub fn new(alloc: Global, file: ClusterFile, number: u8) -> Node
         ensures kept { kept_of result.keeper ≡ new_node (names_of file) number }
         ensures digest { result.keeper.digest ≡ fixed_digest file.fixed }
+        ensures named { result.is_named ≡ false }
         ensures waits { NoneWaits result.desk.clients [] }
         ensures peers { KnowsNothing result.peers }
     {
@@ -91,6 +93,7 @@ impl Node {
     pub fn start(&mut self) -> Result<Vec<Entry>, NodeError>
         ensures started { OnOk result (IsStarted (kept_of self.old.keeper) (kept_of self.new.keeper)) }
         ensures entries { IfOk result (λ entries. entries.items ≡ start_entries self.old) }
+        ensures named { OnOk result (CanBeNamed self.old) }
         ensures refused { IfErr result (IsNotStarted self.old.keeper.digest self.old.keeper.ids) }
     {
         let mut work = Work::new(self.alloc);
@@ -103,6 +106,7 @@ impl Node {
     // A new log gets the entry that names the cluster and the node.
     fn name_log(&mut self, work: &mut Work) -> Result<(), NodeError>
         ensures grown { OnOk result (IsGrown work.old work.new (name_growth self.old)) }
+        ensures named { OnOk result (CanBeNamed self.old) }
         ensures keeper { self.new.keeper ≡ self.old.keeper }
         ensures refused { IfErr result (IsUnwritten
             (IsEntry (cluster_strings self.old.keeper.digest self.old.keeper.ids.node))) }
@@ -126,7 +130,7 @@ impl Node {
         ensures serves { OnOk result (ServesArrival (arrival_at frame) self.old work.old self.new work.new) }
         ensures waits { OnOk result (NoneWaits self.old.desk.clients work.old.due.items
             → NoneWaits self.new.desk.clients work.new.due.items) }
-        ensures again { OnOk result (IsAsking (arrival_at frame) self.old work.old.outputs.items
+        ensures again { OnOk result (DoesFirst (arrival_at frame) self.old work.old.outputs.items
             self.new work.new.outputs.items) }
         ensures peers { OnOk result
             (IsChangedBy (arrival_at frame) self.old.keeper self.old.peers self.new.peers) }
@@ -147,7 +151,7 @@ impl Node {
         ensures serves { OnOk result (ServesArrival (Some arrival) self.old work.old self.new work.new) }
         ensures waits { OnOk result (NoneWaits self.old.desk.clients work.old.due.items
             → NoneWaits self.new.desk.clients work.new.due.items) }
-        ensures again { OnOk result (IsAsking (Some arrival) self.old work.old.outputs.items
+        ensures again { OnOk result (DoesFirst (Some arrival) self.old work.old.outputs.items
             self.new work.new.outputs.items) }
         ensures peers { OnOk result (IsChangedBy (Some arrival) self.old.keeper self.old.peers self.new.peers) }
     {

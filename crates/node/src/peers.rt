@@ -1,5 +1,7 @@
 //! What a node knows of the other nodes, beside what their messages say.
-ghost use Rattle.std.specs.Prelude.{◌≡◌, OnOk};
+ghost use Rattle.std.specs.Prelude.{◌≡◌, ◌≤◌, OnOk, length};
+ghost use Rattle.std.specs.List.{count_by};
+ghost use Rattle.node.specs.Info.{hears_now};
 ghost use Rattle.node.specs.Peers.{HasNoted, KnowsNothing, heard_at, is_known, is_same_report};
 ghost use Rattle.node.specs.Peers.{next_report, with_next_told};
 
@@ -56,6 +58,28 @@ impl Peers {
         } else {
             None
         };
+    }
+
+    /// Returns whether the node of this number hears a node: itself, and those that its host hears. It hears none
+    /// before the host has told which nodes it hears.
+    pub(crate) fn hears(&self, number: u8, node: u8) -> bool
+        ensures { result ≡ hears_now number self.now.heard node }
+    {
+        match &self.heard {
+            Some(heard) => node == number || heard.has(node),
+            None => false,
+        }
+    }
+
+    /// Returns how many of these nodes the node of this number hears.
+    pub(crate) fn count_heard(&self, number: u8, nodes: &[u8]) -> usize
+        ensures heard { result ≡ count_by (hears_now number self.now.heard) nodes.now }
+        ensures within { result ≤ length nodes.now }
+    {
+        nodes
+            .iter()
+            .filter(|node| self.hears(number, **node))
+            .count()
     }
 
     /// A message of a node with another cluster file has come. Fails with `NoMemory`.

@@ -48,8 +48,8 @@ fn push_nodes(alloc: Global, line: &mut Vec<u8>, layout: &Layout) -> Result<(), 
     Ok(())
 }
 
-// Appends the number of a node behind a space.
-fn push_node(alloc: Global, line: &mut Vec<u8>, node: u8) -> Result<(), AllocError>
+/// Appends the number of a node behind a space.
+pub(super) fn push_node(alloc: Global, line: &mut Vec<u8>, node: u8) -> Result<(), AllocError>
     ensures { OnOk result (line.new.items ≡ line.old.items ++ node_word node) }
 {
     let word = format!(in alloc; " {node}")?;

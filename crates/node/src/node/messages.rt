@@ -6,6 +6,7 @@ ghost use Rattle.node_effects.specs.Seen.{named_of};
 ghost use Rattle.node_keeper.specs.Keeping.{if_heeded, kept_of};
 ghost use Rattle.node_keeper.specs.Sendings.{IsFrameOf};
 ghost use Rattle.node.specs.Frames.{is_admitted, is_from_cluster, letter_from, letter_if_read};
+ghost use Rattle.node.specs.Hearing.{Hears, HearsIfRead, HearsMessage};
 ghost use Rattle.node.specs.Peers.{IsChangedByMessage, IsChangedIfRead};
 ghost use Rattle.node.specs.Serving.{ServesMore};
 
@@ -30,6 +31,8 @@ impl Node {
         ensures serves { OnOk result (ServesMore self.old work.old self.new work.new) }
         ensures peers { OnOk result
             (IsChangedIfRead self.old.keeper sender (message_from frame) self.old.peers self.new.peers) }
+        ensures hears { OnOk result (HearsIfRead sender (message_from frame) self.old.keeper work.old.outputs.items
+            self.new.keeper work.new.outputs.items) }
     {
         match read_message(self.alloc, &frame) {
             Ok(message) => self.admit(sender, message, frame, work),
@@ -55,6 +58,8 @@ impl Node {
         ensures serves { OnOk result (ServesMore self.old work.old self.new work.new) }
         ensures peers { OnOk result
             (IsChangedByMessage self.old.keeper sender message self.old.peers self.new.peers) }
+        ensures hears { OnOk result (HearsMessage sender message self.old.keeper work.old.outputs.items
+            self.new.keeper work.new.outputs.items) }
     {
         if message.digest != self.keeper.digest {
             self.desk.drop_frame();
@@ -100,6 +105,8 @@ impl Node {
             self.old.keeper work.old self.new.keeper work.new) }
         ensures serves { OnOk result (ServesMore self.old work.old self.new work.new) }
         ensures peers { self.new.peers ≡ self.old.peers }
+        ensures hears { OnOk result (Hears sender it self.old.keeper work.old.outputs.items
+            self.new.keeper work.new.outputs.items) }
     {
         match self.keeper.deliver(sender, it, came, work)? {
             Delivered::Dropped => {

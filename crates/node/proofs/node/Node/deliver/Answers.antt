@@ -1,4 +1,5 @@
-use Rattle.std.proofs.Common.{[], refl, subst}
+use Rattle.std.proofs.Common.{[], refl, sym, subst, ◌∙◌}
+use Rattle.std.proofs.lemmas.List.{append-nil}
 use Rattle.std.proofs.lemmas.Result.{on_ok_weaker}
 use Rattle.node_effects.specs.Seen.{named_of}
 use Rattle.node_keeper.specs.Keeping.{if_heeded, kept_of}
@@ -46,3 +47,35 @@ returns-in-Ended-clause-serves c =
     c.in-Ended.is c.in_ok-deliver.ensures.delivers)
     grown (record { who = refl; gone = c.end.ensures.gone; others = c.end.ensures.others; idle = c.end.ensures.idle })
     c.end.ensures.counts) c.end.ensures.told
+
+pub returns-in-Dropped-clause-hears : goal.returns-in-Dropped-clause-hears
+returns-in-Dropped-clause-hears c = record {
+  first = c.args.work.now;
+  then = c.deliver.new.work;
+  result = _;
+  delivers = c.in_ok-deliver.ensures.delivers;
+  before_are = refl;
+  after_are = refl;
+}
+
+pub returns-in-Handled-clause-hears : goal.returns-in-Handled-clause-hears
+returns-in-Handled-clause-hears c = record {
+  first = c.args.work.now;
+  then = c.deliver.new.work;
+  result = _;
+  delivers = c.in_ok-deliver.ensures.delivers;
+  before_are = refl;
+  after_are = refl;
+}
+
+pub returns-in-Ended-clause-hears : goal.returns-in-Ended-clause-hears
+returns-in-Ended-clause-hears c =
+    on_ok_weaker c.end.result
+    (λ tells. record {
+      first = c.args.work.now;
+      then = c.deliver.new.work;
+      result = _;
+      delivers = c.in_ok-deliver.ensures.delivers;
+      before_are = refl;
+      after_are = sym (tells.grown.outputs ∙ append-nil c.deliver.new.work.outputs.items);
+    }) c.end.ensures.tells

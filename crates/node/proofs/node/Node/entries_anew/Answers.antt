@@ -17,6 +17,7 @@ returns-clause-anew c =
       those = c.in_ok-log_anew.ensures.appended
           ∙ ap (λ (es : List Strings). es ++ entries) (c.in_ok-push_cluster.ensures.appended
           ∙ ap (λ (es : List Strings). es ++ named) c.new-entries.ensures.items);
+      named = c.in_ok-push_cluster.ensures.writes;
       read = c.in_ok-log_anew.ensures.read;
       recorded = λ own calls. rewritten_record (kept_of keeper) (heard_names keeper.objects) (c.in_ok-log_anew.ensures.names own)
           (c.may_rewrite.ensures.0 c.if-not-may_rewrite.false) own calls;

@@ -4,7 +4,8 @@ use Rattle.indexmap.specs.IndexMap.{index_map_len}
 use Rattle.node.specs.AtOnce.{IsReplyHere}
 use Rattle.node.specs.Replies.{IsReplyTo}
 use Rattle.node.specs.declared.node.Node.{Node}
-use Rattle.node.proofs.CommandLemmas.{answer_is_sent, answered_now, plain_is_here, plain_is_reply, quits, replied}
+use Rattle.node.proofs.CommandLemmas.{answer_is_sent, answered_now, quits, replied}
+use Rattle.node.proofs.PlainReplyLemmas.{plain_is_here, plain_is_reply}
 use Rattle.node.proofs.TellLemmas.{tells_acts}
 use Rattle.node.proofs.node.Node.obey.Goals as goal
 

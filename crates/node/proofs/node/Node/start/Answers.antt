@@ -19,6 +19,7 @@ returns c =
           (started_of c.name_log.new.self.keeper c.begin_epoch.new.self c.in_ok-begin_epoch.ensures.more
           c.in_ok-begin_epoch.ensures.ids c.in_ok-begin_epoch.ensures.objects c.in_ok-begin_epoch.ensures.file);
       entries = c.in_ok-entries.ensures.entries ∙ done.entries;
+      named = c.in_ok-name_log.ensures.named;
       refused = tt;
     }
 

@@ -13,7 +13,7 @@ use Rattle.node.proofs.ArrivalLemmas.{arrival_alone, arrival_more, arrival_then}
 use Rattle.node.proofs.ServingLemmas.{serves_beside, unsent_one}
 use Rattle.node.proofs.TellLemmas.{idle}
 use Rattle.node.specs.Peers.{IsChangedBy}
-use Rattle.node.specs.Ticks.{IsAsking, SendsAgain}
+use Rattle.node.specs.Ticks.{DoesFirst, SendsAgain}
 use Rattle.node.specs.declared.peers.Peers.{Peers}
 use Rattle.node.proofs.node.Node.take_arrival.Goals as goal
 
@@ -122,26 +122,26 @@ returns-in-Left-clause-again c =
     let old = c.args.self.now in
     let new : Node = record old { desk = record old.desk { clients = c.leave.new.self } } in
     let outputs = c.args.work.now.outputs.items in
-    subst (λ a. IsAsking (Some a) old outputs new outputs) (sym c.in-Left.is) tt
+    subst (λ a. DoesFirst (Some a) old outputs new outputs) (sym c.in-Left.is) tt
 
 pub returns-in_ok-push-in-Command-clause-again : goal.returns-in_ok-push-in-Command-clause-again
 returns-in_ok-push-in-Command-clause-again c =
     on_ok_weaker c.go_on.result
-    (λ next. subst (λ a. IsAsking (Some a) c.args.self.now c.args.work.now.outputs.items c.go_on.new.self
+    (λ next. subst (λ a. DoesFirst (Some a) c.args.self.now c.args.work.now.outputs.items c.go_on.new.self
     c.go_on.new.work.outputs.items) (sym c.in-Command.is) tt) c.go_on.ensures.serves
 
 pub returns-in-Message-clause-again : goal.returns-in-Message-clause-again
 returns-in-Message-clause-again c =
     on_ok_weaker c.receive.result
-    (λ more. subst (λ a. IsAsking (Some a) c.args.self.now c.args.work.now.outputs.items c.receive.new.self
-    c.receive.new.work.outputs.items) (sym c.in-Message.is) tt) c.receive.ensures.serves
+    (λ hears. subst (λ a. DoesFirst (Some a) c.args.self.now c.args.work.now.outputs.items c.receive.new.self
+    c.receive.new.work.outputs.items) (sym c.in-Message.is) hears) c.receive.ensures.hears
 
 pub returns-in-Tick-clause-again : goal.returns-in-Tick-clause-again
 returns-in-Tick-clause-again c =
     let old = c.args.self.now in
     let outputs = c.args.work.now.outputs.items in
     on_ok_weaker c.tick.result
-    (λ again. subst (λ a. IsAsking (Some a) old outputs c.tick.new.self c.tick.new.work.outputs.items) (sym c.in-Tick.is)
+    (λ again. subst (λ a. DoesFirst (Some a) old outputs c.tick.new.self c.tick.new.work.outputs.items) (sym c.in-Tick.is)
     (subst (λ (peers : Peers). SendsAgain (keys old.desk.calls) (record old { peers = peers }) outputs c.tick.new.self
     c.tick.new.work.outputs.items) c.hear.ensures again)) c.tick.ensures.again
 

@@ -9,7 +9,7 @@ use Rattle.node.proofs.ServingLemmas.{drops_one}
 use Rattle.node.proofs.TellLemmas.{idle}
 use Rattle.node_clients.specs.Desk.{NoneWaits}
 use Rattle.node.specs.Peers.{IsChangedBy}
-use Rattle.node.specs.Ticks.{IsAsking}
+use Rattle.node.specs.Ticks.{DoesFirst}
 use Rattle.node.proofs.node.Node.take_frame.Goals as goal
 
 pub returns-in-Some-clause-acts : goal.returns-in-Some-clause-acts
@@ -43,14 +43,14 @@ returns-in-None-clause-waits c =
 
 pub returns-in-Some-clause-again : goal.returns-in-Some-clause-again
 returns-in-Some-clause-again c =
-    subst (λ came. OnOk c.take_arrival.result (IsAsking came c.args.self.now c.args.work.now.outputs.items
+    subst (λ came. OnOk c.take_arrival.result (DoesFirst came c.args.self.now c.args.work.now.outputs.items
     c.take_arrival.new.self c.take_arrival.new.work.outputs.items)) c.in-Some.ensures.exact c.take_arrival.ensures.again
 
 pub returns-in-None-clause-again : goal.returns-in-None-clause-again
 returns-in-None-clause-again c =
     let old = c.args.self.now in
     let outputs = c.args.work.now.outputs.items in
-    subst (λ came. IsAsking came old outputs (record old { desk = c.drop_frame.new.self }) outputs) c.in-None.ensures.exact tt
+    subst (λ came. DoesFirst came old outputs (record old { desk = c.drop_frame.new.self }) outputs) c.in-None.ensures.exact tt
 
 pub returns-in-Some-clause-peers : goal.returns-in-Some-clause-peers
 returns-in-Some-clause-peers c =
