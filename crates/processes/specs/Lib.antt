@@ -1,0 +1,5 @@
+pub mod Processes
+pub mod Letters
+pub mod Events
+pub mod Runs
+pub mod Laws

@@ -1,0 +1,27 @@
+-- The contracts that docs/trusted.md lists do not depend on this file; other contracts and proofs do.
+-- What processes reach by events that may happen.
+use Rattle.std.specs.Prelude.{◌≡◌, ⊤, ℕ, List, [], ◌∷◌}
+use Rattle.layout.specs.Layout.{IsLawful}
+use Rattle.deeds.specs.Kept.{FileOfNames}
+use Rattle.processes.specs.Events.{MayHappenTo, ProcessEvent, processes_after}
+use Rattle.processes.specs.Processes.{Processes, new_processes}
+
+-- the processes after these events
+abbrev pub processes_run : List ProcessEvent → Processes → Processes
+processes_run [] processes = processes
+processes_run (event ∷ events) processes = processes_run events (processes_after processes event)
+
+-- these events may happen one after another
+abbrev pub MayAllHappenTo : FileOfNames → List ProcessEvent → Processes → Type 0
+MayAllHappenTo names [] processes = ⊤
+MayAllHappenTo names (event ∷ events) processes =
+    MayHappenTo names processes event × MayAllHappenTo names events (processes_after processes event)
+
+-- the processes of a cluster have come this far, from before the first start, by events that may happen; all cluster
+-- files have the same settings, which give each name a lawful layout
+pub record AreReached (processes : Processes) : Type 0 where
+  pub names : FileOfNames
+  pub lawful : (name : List ℕ) → IsLawful (names.first name)
+  pub events : List ProcessEvent
+  pub may : MayAllHappenTo names events new_processes
+  pub result : processes_run events new_processes ≡ processes

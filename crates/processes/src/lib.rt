@@ -1,0 +1,10 @@
+//! Clusters of node programs: processes that stop at any moment, logs of which a stop leaves the synced entries and
+//! perhaps more, and frames that are lost, delayed, repeated and reordered.
+//!
+//! The definitions, which a reader has to believe, are in `specs/`. Each law is the contract of a function with an
+//! empty body.
+#![tactic(auto)]
+
+pub use laws::{processes_are_atomic, processes_have_clusters, processes_keep_values};
+
+mod laws;
