@@ -55,11 +55,15 @@ class Survey:
         self.failed = {}   # why a node was not asked for all that it knows, by its number
 
     def make(self):
-        self.at_all(self.take_names)
+        self.find_names()
         names = list(self.layouts)
         self.at_all(lambda client: self.take_layouts(client, names))
         self.layouts = {name: layout for name, layout in self.layouts.items() if layout is not None}
         return self
+
+    def find_names(self):
+        """All names, whose layouts stay unknown."""
+        self.at_all(self.take_names)
 
     def at_all(self, take):
         """Asks all nodes at the same time."""

@@ -72,6 +72,7 @@ static bool tick(struct host *host) {
         clients_report(&host->clients);
     }
     clients_tick(&host->clients, &host->child);
+    peers_miss(&host->bus.peers);
     size_t count = peers_list(&host->bus.peers, heard, &length);
     return child_tick(&host->child, count, heard, length);
 }

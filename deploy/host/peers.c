@@ -111,6 +111,23 @@ bool peers_must_tell(struct peers *peers, uint64_t node) {
     return true;
 }
 
+/* Whether a node was heard within the last seconds. */
+static bool is_heard(const struct peer *peer, uint64_t time) {
+    return peer->heard != 0 && time - peer->heard <= HEARD_LATELY;
+}
+
+void peers_miss(struct peers *peers) {
+    uint64_t time = now();
+    for (uint64_t node = 0; node < MOST_NODES; node++) {
+        struct peer *peer = &peers->nodes[node];
+        if (peer->heard == 0 || peer->is_missed != is_heard(peer, time))
+            continue;
+        peer->is_missed = !peer->is_missed;
+        say(peer->is_missed ? "node %" PRIu64 " has not been heard for three seconds"
+            : "node %" PRIu64 " is heard again", node);
+    }
+}
+
 /* Adds a number as a string of a frame. */
 static size_t put_number(char *to, uint64_t number) {
     char digits[4];
@@ -123,8 +140,7 @@ size_t peers_list(const struct peers *peers, char *strings, size_t *length) {
     size_t count = 1;
     *length = put_number(strings, peers->own);
     for (uint64_t node = 0; node < MOST_NODES; node++) {
-        uint64_t heard = peers->nodes[node].heard;
-        if (heard != 0 && time - heard <= HEARD_LATELY) {
+        if (is_heard(&peers->nodes[node], time)) {
             *length += put_number(strings + *length, node);
             count++;
         }

@@ -25,6 +25,7 @@ struct peer {
     uint64_t strangers[MOST_STRANGERS];     /* those that were named on standard error */
     unsigned stranger_count;
     bool has_named;                         /* whether it said that it knows this node under another identity */
+    bool is_missed;                         /* whether it was said that it is not heard any more */
 };
 
 struct peers {
@@ -57,6 +58,10 @@ void peers_echo(struct peers *peers);
 
 /* Whether a node has to be told now under which identity it is known here: at most once a second. */
 bool peers_must_tell(struct peers *peers, uint64_t node);
+
+/* Says which nodes that were heard before have not been heard for three seconds, and which of these are heard again:
+ * each once. */
+void peers_miss(struct peers *peers);
 
 /* Lists the nodes that were heard within three seconds, this node first, as the strings of a frame. Their count. */
 size_t peers_list(const struct peers *peers, char *strings, size_t *length);

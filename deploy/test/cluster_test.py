@@ -120,7 +120,7 @@ class BadMessages(unittest.TestCase):
 
     def dropped(self, client):
         """How many frames the node program has dropped since it started, or None where it does not say so."""
-        lines = dict(line.split(b":") for line in client.ask(b"INFO").split(b"\r\n") if line)
+        lines = dict(line.split(b":") for line in client.ask(b"INFO").split(b"\r\n") if b":" in line)
         return int(lines[b"frames_dropped"]) if b"frames_dropped" in lines else None
 
     def test_frames_of_one_message(self):

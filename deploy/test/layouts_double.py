@@ -71,8 +71,8 @@ class Layouts:
     def info(self, node):
         lines = ["program:double", f"node:{node}", "cluster:c0ffee"]
         if self.tells:
-            lines += [f"nodes:{' '.join(map(str, self.members))}", f"later:{' '.join(map(str, self.later))}",
-                      f"mover:{self.mover}"]
+            lines += ["nodes:" + "".join(f" {node}" for node in self.members),
+                      "later:" + "".join(f" {node}" for node in self.later), f"mover:{self.mover}"]
         return bulk("".join(line + "\r\n" for line in lines).encode())
 
     def scan(self, node, cursor, count):

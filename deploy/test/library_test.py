@@ -41,7 +41,15 @@ class Library(unittest.TestCase):
         self.assertEqual(self.client.get("number"), b"42")
 
     def test_info(self):
-        self.assertEqual([client.info()["node"] for client in self.clients], [1, 2, 3])
+        """The library reads the sections, and the only database as it reads those of Redis."""
+        self.client.set("counted", "x")
+        found = [client.info() for client in self.clients]
+        self.assertEqual([info["node"] for info in found], [1, 2, 3])
+        for info in found:
+            self.assertEqual((info["cluster_state"], info["cluster_nodes_heard"]), ("ok", 3))
+            self.assertGreaterEqual(info["connected_clients"], 1)
+            self.assertEqual({**info["db0"], "keys": 0}, {"keys": 0, "expires": 0, "avg_ttl": 0})
+        self.assertGreaterEqual(sum(info["db0"]["keys"] for info in found), 2)
 
     def test_pipeline(self):
         pipeline = self.client.pipeline(transaction=False)

@@ -131,8 +131,11 @@ class Greetings(Case):
         self.assertTrue(1 <= more <= 40, more)
         three.process.send_signal(signal.SIGCONT)
         self.wait("a node that goes on is not named", lambda: self.last_tick(one) == "tick 1 2 3")
+        self.assertNotIn("node 2", one.said())
         for host in (one, two, three):
             self.assertNotIn("dropped", self.ended(host))
+        for told in ("node 3 has not been heard for three seconds\n", "node 3 is heard again\n"):
+            self.assertEqual(one.said().count(f"host of node 1: {told}"), 1, told)
 
     def test_strangers_are_not_named(self):
         one = self.start(1)

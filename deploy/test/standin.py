@@ -67,6 +67,7 @@ class Node:
         if "--forgets" in options:
             self.start = time_of_start()
         self.calls, self.clients, self.out = {}, {}, []
+        self.heard = []  # the numbers of the nodes that the host hears
         self.ready = deque()  # connections whose open call has ended
 
     # Between nodes.
@@ -185,14 +186,22 @@ class Node:
 
     def info(self):
         stored = sum(len(value) for _, value in self.kept.values())
-        lines = [("program", "stand-in"), ("node", self.number), ("objects", len(self.kept)), ("bytes_stored", stored),
-                 ("calls_open", len(self.calls)), ("calls_answered", self.answered),
-                 ("bytes_of_the_log", self.log.file.tell())]
-        return "".join(f"{key}:{value}\r\n" for key, value in lines).encode()
+        has_quorum = len(self.heard) > len(self.nodes) // 2
+        sections = {
+            "Clients": {"connected_clients": len(self.clients)},
+            "Stats": {"total_commands_processed": self.answered},
+            "Cluster": {"cluster_state": "ok" if has_quorum else "fail", "cluster_known_nodes": len(self.nodes),
+                        "cluster_nodes_heard": len(self.heard)},
+            "Keyspace": {"db0": f"keys={len(self.kept)},expires=0,avg_ttl=0"},
+            "Node": {"program": "stand-in", "node": self.number, "objects": len(self.kept), "bytes_stored": stored,
+                     "calls_open": len(self.calls), "bytes_of_the_log": self.log.file.tell()}}
+        return "\r\n".join(f"# {name}\r\n" + "".join(f"{key}:{value}\r\n" for key, value in lines.items())
+                           for name, lines in sections.items()).encode()
 
     def take(self, frame):
         address = frame[0].split()
         if address[0] == b"tick":
+            self.heard = frame[1:]
             self.tick()
         elif address[0] == b"node":
             self.take_from_node(int(address[1]), frame[1:])

@@ -106,12 +106,12 @@ class LiveCluster:
         path.write_text(text)
         return Process([*self.words_on(number), "nats-server", "-c", path], self.folder / f"nats-{number}.log")
 
-    def make_node(self, number):
+    def make_node(self, number, program=None):
         (self.folder / f"node-{number}").mkdir(exist_ok=True)
         index = 0 if self.network is None else number - 1
         port = self.relays.get(number, self.nats_ports[index])
         return Process([*self.words_on(number), self.host, "--node", number, "--cluster", self.file,
-                        "--folder", self.folder / f"node-{number}", "--program", self.program,
+                        "--folder", self.folder / f"node-{number}", "--program", program or self.program,
                         "--listen", self.address_of(number), "--port", self.ports[number],
                         "--nats", f"nats://{self.address_of(number)}:{port}"], self.folder / f"node-{number}.log")
 
@@ -126,19 +126,23 @@ class LiveCluster:
         for process in [*self.nodes.values(), *self.servers]:
             process.end(signal.SIGTERM)
 
-    def kill(self, number):
-        """Kills the host; the system then kills the node program, whose lock on its folder says when it has ended."""
-        self.nodes[number].end()
+    def kill(self, number, how=signal.SIGKILL):
+        """Kills the host; the system then kills the node program, whose lock on its folder says when it has ended. With
+        another signal, the host ends both."""
+        self.nodes[number].end(how)
         folder = os.open(self.folder / f"node-{number}", os.O_RDONLY)
         fcntl.flock(folder, fcntl.LOCK_EX)
         os.close(folder)
 
+    def programs_of(self, number):
+        """The processes of the node program that a host has started."""
+        host = self.nodes[number].child
+        return [int(child) for child in Path(f"/proc/{host.pid}/task/{host.pid}/children").read_text().split()]
+
     def kill_program(self, number):
         """Kills the node program; the host then ends by itself."""
-        host = self.nodes[number].child
-        children = Path(f"/proc/{host.pid}/task/{host.pid}/children").read_text().split()
-        for child in children:
-            os.kill(int(child), signal.SIGKILL)
+        for child in self.programs_of(number):
+            os.kill(child, signal.SIGKILL)
         self.nodes[number].wait()
         self.kill(number)
 

@@ -9,6 +9,7 @@ from pathlib import Path
 
 from live_cluster import Broken
 from live_replacement import replacement
+from live_upgrade import upgrade
 
 sys.path.append(str(Path(__file__).resolve().parent.parent.parent / "deploy" / "test"))
 from frames import encode  # noqa: E402
@@ -234,5 +235,5 @@ def noise(test):
 # The stories in which each node has a machine of its own, and those in which all nodes have loopback addresses.
 ON_MACHINES = {"cuts": cuts, "delays": delays}
 ON_LOOPBACK = {"kills": kills, "nats": nats, "relays": relays, "disk": disk, "moves": moves, "noise": noise,
-               "replacement": replacement}
+               "replacement": replacement, "upgrade": upgrade}
 NEED_NAMESPACES = {"cuts", "delays", "disk"}

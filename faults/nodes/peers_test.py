@@ -1,7 +1,7 @@
 #!/usr/bin/env python3
 """Tests what a node program does by what it knows of other nodes: peers_test.py PROGRAM. Its host tells at each tick
-which nodes it hears, so that a move to nodes of which too few are heard is refused; and nodes with another cluster file
-are told of once and counted."""
+which nodes it hears, so that a move to nodes of which too few are heard is refused, and INFO says whether a quorum is
+heard; and nodes with another cluster file are told of once and counted."""
 import subprocess
 import sys
 import tempfile
@@ -117,6 +117,61 @@ class Moves(unittest.TestCase):
         return next(line.partition(b":")[2] for line in lines if line.startswith(key + b":"))
 
 
+class Readiness(unittest.TestCase):
+    """INFO says which nodes are heard, and whether a quorum of each layout is that a name has before any move."""
+    program = None
+
+    def info(self, node, *heard):
+        """The lines of INFO behind a tick, at which the host tells that it hears these nodes, if it tells of any."""
+        if heard:
+            node.give(tick(*heard))
+        [frame] = [frame for frame in node.give([b"client 9", b"INFO"]) if frame[0] == b"client 9"]
+        lines = b"".join(frame[1:]).decode().split("\r\n")
+        return dict(line.split(":", 1) for line in lines if ":" in line)
+
+    def start(self, nodes):
+        home = Path(self.enterContext(tempfile.TemporaryDirectory()))
+        (home / "cluster").write_text(f"nodes {nodes}\nn 5\nk 3\ndelta 2\nmover 1\nlater 7 8\nticks 50\n")
+        (home / "1").mkdir()
+        node = Node([self.program], 1, home / "1", home / "cluster")
+        self.addCleanup(lambda: node.process and node.kill())
+        node.start()
+        return node
+
+    def test_state(self):
+        """A quorum of five nodes with k = 3 is four of them. Nodes of `later` keep no name before a move."""
+        node = self.start("1 2 3 4 5")
+        for heard, state, count in ((), "fail", 0), ((1, 2, 3, 4), "ok", 4), ((1, 2, 3), "fail", 3), \
+                ((1, 2, 3, 7, 8), "fail", 5), ((5, 4, 3), "ok", 4), ((2, 3, 4, 5, 9), "ok", 5):
+            info = self.info(node, *heard)
+            self.assertEqual((info["cluster_state"], info["cluster_nodes_heard"]), (state, str(count)), heard)
+        self.assertEqual((info["cluster_known_nodes"], info["nodes"].split(), info["later"].split()),
+                         ("7", ["1", "2", "3", "4", "5"], ["7", "8"]))
+        self.assertEqual({key: value for key, value in info.items() if key.endswith("_heard")},
+                         {"cluster_nodes_heard": "5", **{f"cluster_node_{node}_heard": "1" for node in range(1, 6)},
+                          "cluster_node_7_heard": "0", "cluster_node_8_heard": "0"})
+
+    def test_more_nodes_than_n(self):
+        """Of six nodes one may be missing, since each name is at some five of them."""
+        node = self.start("1 2 3 4 5 6")
+        self.assertEqual(self.info(node, 1, 2, 3, 4, 6)["cluster_state"], "ok")
+        self.assertEqual(self.info(node, 1, 2, 3, 4)["cluster_state"], "fail")
+
+    def test_moves(self):
+        """An open move is an open call too; it stays open, although a read is given up."""
+        node = self.start("1 2 3 4 5")
+        node.give(tick(1, 2, 3, 4, 5))
+        node.give([b"client 1", b"MOVE", b"a", b"3", b"1", b"2", b"3", b"4", b"7"])
+        node.give([b"client 2", b"GET", b"b"])
+        info = self.info(node)
+        self.assertEqual((info["cluster_calls_open"], info["cluster_moves_open"]), ("2", "1"))
+        for _ in range(60):
+            node.give(tick(1, 2))
+        info = self.info(node)
+        self.assertEqual((info["cluster_calls_open"], info["cluster_moves_open"]), ("1", "1"))
+        self.assertEqual((info["cluster_calls_given_up"], info["calls_given_up"]), ("1", "1"))
+
+
 class OtherClusters(unittest.TestCase):
     program = None
 
@@ -180,5 +235,5 @@ class OtherClusters(unittest.TestCase):
 
 
 if __name__ == "__main__":
-    Moves.program = OtherClusters.program = str(Path(sys.argv.pop(1)).resolve())
+    Moves.program = Readiness.program = OtherClusters.program = str(Path(sys.argv.pop(1)).resolve())
     unittest.main()
