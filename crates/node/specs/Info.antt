@@ -1,0 +1,154 @@
+-- The contracts that docs/trusted.md lists do not depend on this file; other contracts and proofs do.
+-- What a node tells about itself: the text of INFO, in sections as Redis has them.
+use Rattle.std.specs.Prelude.{◌+◌, ◌/◌, ◌-◌, ◌^◌, ◌≤◌, ℕ, min, Bool, true, false, IsTrue, nat_le, if◌then◌else◌}
+use Rattle.std.specs.Prelude.{List, [], ◌∷◌, ◌++◌, length, codes, Option, None, Some}
+use Rattle.std.specs.Fmt.{decimal}
+use Rattle.std.specs.List.{concat, count_by, flat_map}
+use Rattle.words.specs.Hexadecimal.{hexadecimal_text}
+use Rattle.cluster_file.specs.File.{Fixed, IsLawfulFixed, placement_of}
+use Rattle.cluster_file.specs.Placement.{placed}
+use Rattle.layout.specs.Layout.{quorum_of}
+use Rattle.node_strings.specs.declared.heard.Heard.{Heard}
+use Rattle.node_keeper.specs.Objects.{bytes_in_banks, heard_names}
+use Rattle.node_keeper.specs.Written.{written_names}
+use Rattle.node_clients.specs.declared.counts.Counts.{Counts}
+use Rattle.node_clients.specs.declared.open_call.OpenCall.{OpenCall}
+use Rattle.node_keeper.specs.declared.keeper.Keeper.{Keeper}
+use Rattle.node.specs.Moves.{hears}
+use Rattle.node.specs.Shown.{node_word}
+use Rattle.node.specs.declared.peers.Peers.{Peers}
+
+-- Nodes that are heard
+
+-- whether the node of this number hears a node: itself, and those that its host hears; none before the host has told
+-- which nodes it hears
+abbrev pub hears_now : (number : ℕ) → Option Heard → (node : ℕ) → Bool
+hears_now number None node = false
+hears_now number (Some heard) node = hears number heard node
+
+-- the least size of a quorum of a layout that a name has before any move
+abbrev pub first_quorum : Fixed → ℕ
+first_quorum fixed = (fixed.n + fixed.k + 1) / 2
+
+-- whether each such layout has a quorum that is heard, if so many of the nodes are heard among which placement chooses:
+-- so at most n minus a quorum of them are not heard
+abbrev pub is_ready : Fixed → (heard : ℕ) → Bool
+is_ready fixed heard = nat_le (length fixed.nodes + first_quorum fixed) (heard + fixed.n)
+
+-- a node that is ready hears a quorum of the layout that any name has before any move
+abbrev pub ReadyNodesHearQuorums : Type 0
+ReadyNodesHearQuorums = (fixed : Fixed) (hears : ℕ → Bool) (name : List ℕ) → IsLawfulFixed fixed →
+    IsTrue (is_ready fixed (count_by hears fixed.nodes)) →
+    quorum_of (placed (placement_of fixed) name) ≤ count_by hears (placed (placement_of fixed) name).members
+
+-- how Redis says whether a cluster can serve: ok or fail
+abbrev pub state_word : Bool → List ℕ
+state_word true = codes "ok"
+state_word false = codes "fail"
+
+-- whether a call is a move
+abbrev pub is_move_open : OpenCall → Bool
+is_move_open call = call.is_move
+
+-- Sections
+
+-- the sections that Redis has, as far as a node has something to tell there: of so many connections, so many bytes of
+-- fragments, the bytes of the log, and the commands that were answered
+abbrev pub redis_lines : (clients bytes : ℕ) → Counts → List ℕ
+redis_lines clients bytes counts = concat (
+    codes "# Server\r\nredis_version:1.0.0\r\nredis_mode:standalone\r\n\r\n# Clients\r\nconnected_clients:"
+    ∷ decimal clients ∷ codes "\r\n\r\n# Memory\r\nused_memory_dataset:" ∷ decimal bytes
+    ∷ codes "\r\n\r\n# Persistence\r\nloading:0\r\naof_enabled:1\r\naof_current_size:" ∷ decimal counts.log_bytes
+    ∷ codes "\r\n\r\n# Stats\r\ntotal_commands_processed:" ∷ decimal counts.answered
+    ∷ codes "\r\n\r\n# Replication\r\nrole:master\r\nconnected_slaves:0\r\n\r\n" ∷ [])
+
+-- the section on the cluster: whether it can serve, how many nodes it has and how many of them are heard, and how many
+-- calls and moves are open
+abbrev pub cluster_lines : (ready : Bool) → (nodes heard calls moves : ℕ) → List ℕ
+cluster_lines ready nodes heard calls moves = concat (
+    codes "# Cluster\r\ncluster_enabled:0\r\ncluster_state:" ∷ state_word ready
+    ∷ codes "\r\ncluster_known_nodes:" ∷ decimal nodes ∷ codes "\r\ncluster_nodes_heard:" ∷ decimal heard
+    ∷ codes "\r\ncluster_calls_open:" ∷ decimal calls ∷ codes "\r\ncluster_moves_open:" ∷ decimal moves
+    ∷ codes "\r\n" ∷ [])
+
+-- the lines of that section with what was given up and dropped; `foreign` is the number of messages of nodes with
+-- another cluster file
+abbrev pub lost_lines : Counts → (foreign : ℕ) → List ℕ
+lost_lines counts foreign = concat (
+    codes "cluster_calls_given_up:" ∷ decimal counts.given_up
+    ∷ codes "\r\ncluster_frames_dropped:" ∷ decimal counts.dropped
+    ∷ codes "\r\ncluster_frames_of_other_clusters:" ∷ decimal foreign ∷ codes "\r\n" ∷ [])
+
+-- the line that says whether a node is heard: 1 or 0
+abbrev pub heard_line : (heard : Bool) → (node : ℕ) → List ℕ
+heard_line heard node = concat (
+    codes "cluster_node_" ∷ decimal node ∷ codes "_heard:" ∷ decimal (if heard then 1 else 0) ∷ codes "\r\n" ∷ [])
+
+-- for each of these nodes the line that says whether the node of this number hears it
+abbrev pub heard_lines : (number : ℕ) → Option Heard → List ℕ → List ℕ
+heard_lines number heard nodes = flat_map (λ node. heard_line (hears_now number heard node) node) nodes
+
+-- the section on the only database, which has so many names, and the head of the section of the node's own lines
+abbrev pub keyspace_lines : (names : ℕ) → List ℕ
+keyspace_lines names = concat (
+    codes "\r\n# Keyspace\r\ndb0:keys=" ∷ decimal names ∷ codes ",expires=0,avg_ttl=0\r\n\r\n# Node\r\n" ∷ [])
+
+-- the lines that name the program, the node, the node that moves objects, the cluster and the epoch
+abbrev pub name_lines : (node mover : ℕ) → (digest : List ℕ) → (epoch : ℕ) → List ℕ
+name_lines node mover digest epoch = concat (
+    codes "program:casd\r\nnode:" ∷ decimal node ∷ codes "\r\nmover:" ∷ decimal mover
+    ∷ codes "\r\ncluster:" ∷ hexadecimal_text digest ∷ codes "\r\nepoch:" ∷ decimal epoch ∷ codes "\r\n" ∷ [])
+
+-- the lines with the numbers of objects, of bytes that their banks store, of connections, and of open calls
+abbrev pub size_lines : (objects bytes clients calls : ℕ) → List ℕ
+size_lines objects bytes clients calls = concat (
+    codes "objects:" ∷ decimal objects ∷ codes "\r\nbytes_stored:" ∷ decimal bytes
+    ∷ codes "\r\nclients:" ∷ decimal clients ∷ codes "\r\ncalls_open:" ∷ decimal calls ∷ codes "\r\n" ∷ [])
+
+-- the lines with what a node has counted; `foreign` is the number of messages of nodes with another cluster file
+abbrev pub count_lines : Counts → (foreign : ℕ) → List ℕ
+count_lines counts foreign = concat (
+    codes "commands_answered:" ∷ decimal counts.answered ∷ codes "\r\ncalls_given_up:" ∷ decimal counts.given_up
+    ∷ codes "\r\nframes_dropped:" ∷ decimal counts.dropped ∷ codes "\r\nframes_of_other_clusters:" ∷ decimal foreign
+    ∷ codes "\r\nbytes_of_the_log:" ∷ decimal counts.log_bytes ∷ codes "\r\n" ∷ [])
+
+-- the lines with the nodes of the cluster file, each behind a space
+abbrev pub file_lines : (nodes later : List ℕ) → List ℕ
+file_lines nodes later =
+    codes "nodes:" ++ flat_map node_word nodes ++ codes "\r\nlater:" ++ flat_map node_word later ++ codes "\r\n"
+
+-- The whole text
+
+-- how many bytes of fragments a node keeps
+abbrev pub stored_bytes : Keeper → ℕ
+stored_bytes keeper = min (bytes_in_banks keeper.objects) (2 ^ 64 - 1)
+
+-- how many of these nodes a node hears
+abbrev pub count_heard : Keeper → Peers → List ℕ → ℕ
+count_heard keeper peers nodes = count_by (hears_now keeper.ids.node peers.heard) nodes
+
+-- the sections up to the lines of single nodes, of a node with so many connections, open calls, and moves among these
+abbrev pub first_sections : Keeper → Peers → (clients calls moves : ℕ) → Counts → List ℕ
+first_sections keeper peers clients calls moves counts =
+    let fixed = keeper.file.fixed in
+    let later = keeper.file.later in
+    let heard = count_heard keeper peers fixed.nodes in
+    redis_lines clients (stored_bytes keeper) counts
+    ++ (cluster_lines (is_ready fixed heard) (length fixed.nodes + length later)
+    (heard + count_heard keeper peers later) calls moves ++ lost_lines counts peers.foreign)
+
+-- the node's own lines up to those with the nodes of the cluster file, of a node with so many connections and calls
+abbrev pub about_node : Keeper → Peers → (clients calls : ℕ) → Counts → List ℕ
+about_node keeper peers clients calls counts =
+    name_lines keeper.ids.node keeper.file.fixed.mover keeper.digest keeper.ids.epoch
+    ++ (size_lines (length (heard_names keeper.objects)) (stored_bytes keeper) clients calls
+    ++ count_lines counts peers.foreign)
+
+-- the text of INFO, of a node with so many connections, open calls, and moves among these
+abbrev pub info_lines : Keeper → Peers → (clients calls moves : ℕ) → Counts → List ℕ
+info_lines keeper peers clients calls moves counts =
+    first_sections keeper peers clients calls moves counts
+    ++ heard_lines keeper.ids.node peers.heard keeper.file.fixed.nodes
+    ++ heard_lines keeper.ids.node peers.heard keeper.file.later
+    ++ (keyspace_lines (length (written_names keeper.objects)) ++ about_node keeper peers clients calls counts)
+    ++ file_lines keeper.file.fixed.nodes keeper.file.later

@@ -1,0 +1,174 @@
+//! The lines of `INFO`.
+ghost use Rattle.std.specs.Prelude.{◌≡◌, Some};
+ghost use Rattle.node.specs.Info.{cluster_lines, count_lines, keyspace_lines, lost_lines, name_lines, redis_lines};
+ghost use Rattle.node.specs.Info.{size_lines, state_word};
+
+use node_clients::Counts;
+use std::fmt;
+use words::Hexadecimal;
+
+/// The sections that Redis has, as far as a node has something to tell there.
+#[derive(Clone, Copy)]
+pub(super) struct RedisLines {
+    pub clients: usize,
+    pub bytes: u64,
+    pub counts: Counts,
+}
+
+impl fmt::Display for RedisLines {
+    ghost output = { λ it. Some (redis_lines it.clients it.bytes it.counts) };
+
+    fn fmt<W: fmt::Write>(&self, f: &mut fmt::Formatter<W>) -> fmt::Result {
+        write!(
+            f,
+            "# Server\r\nredis_version:1.0.0\r\nredis_mode:standalone\r\n\r\n\
+            # Clients\r\nconnected_clients:{}\r\n\r\n\
+            # Memory\r\nused_memory_dataset:{}\r\n\r\n\
+            # Persistence\r\nloading:0\r\naof_enabled:1\r\naof_current_size:{}\r\n\r\n\
+            # Stats\r\ntotal_commands_processed:{}\r\n\r\n\
+            # Replication\r\nrole:master\r\nconnected_slaves:0\r\n\r\n",
+            self.clients, self.bytes, self.counts.log_bytes, self.counts.answered
+        )
+    }
+}
+
+/// The lines on the whole cluster: whether it can serve, how many nodes it has and how many are heard, and what is
+/// open.
+#[derive(Clone, Copy)]
+pub(super) struct ClusterLines {
+    pub is_ready: bool,
+    pub nodes: usize,
+    pub heard: usize,
+    pub calls: usize,
+    pub moves: usize,
+}
+
+impl fmt::Display for ClusterLines {
+    ghost output = { λ it. Some (cluster_lines it.is_ready it.nodes it.heard it.calls it.moves) };
+
+    fn fmt<W: fmt::Write>(&self, f: &mut fmt::Formatter<W>) -> fmt::Result {
+        write!(
+            f,
+            "# Cluster\r\ncluster_enabled:0\r\ncluster_state:{}\r\ncluster_known_nodes:{}\r\n\
+            cluster_nodes_heard:{}\r\ncluster_calls_open:{}\r\ncluster_moves_open:{}\r\n",
+            state_word(self.is_ready),
+            self.nodes,
+            self.heard,
+            self.calls,
+            self.moves
+        )
+    }
+}
+
+// How Redis says whether a cluster can serve.
+fn state_word(is_ready: bool) -> &'static str
+    ensures { result.now ≡ state_word is_ready }
+{
+    if is_ready { "ok" } else { "fail" }
+}
+
+/// The lines of the section on the cluster with what was given up and dropped.
+#[derive(Clone, Copy)]
+pub(super) struct LostLines {
+    pub counts: Counts,
+    pub foreign: u64,
+}
+
+impl fmt::Display for LostLines {
+    ghost output = { λ it. Some (lost_lines it.counts it.foreign) };
+
+    fn fmt<W: fmt::Write>(&self, f: &mut fmt::Formatter<W>) -> fmt::Result {
+        write!(
+            f,
+            "cluster_calls_given_up:{}\r\ncluster_frames_dropped:{}\r\ncluster_frames_of_other_clusters:{}\r\n",
+            self.counts.given_up, self.counts.dropped, self.foreign
+        )
+    }
+}
+
+/// The section on the only database, and the head of the section of the node's own lines.
+#[derive(Clone, Copy)]
+pub(super) struct KeyspaceLines {
+    pub names: u64,
+}
+
+impl fmt::Display for KeyspaceLines {
+    ghost output = { λ it. Some (keyspace_lines it.names) };
+
+    fn fmt<W: fmt::Write>(&self, f: &mut fmt::Formatter<W>) -> fmt::Result {
+        write!(
+            f,
+            "\r\n# Keyspace\r\ndb0:keys={},expires=0,avg_ttl=0\r\n\r\n# Node\r\n",
+            self.names
+        )
+    }
+}
+
+/// The lines that name the program, the node, the node that moves objects, the cluster and the epoch.
+#[derive(Clone, Copy)]
+pub(super) struct NameLines<'a> {
+    pub node: u8,
+    pub mover: u8,
+    pub digest: &'a [u8],
+    pub epoch: u32,
+}
+
+impl fmt::Display for NameLines<'_> {
+    ghost output = { λ it. Some (name_lines it.node it.mover it.digest.now it.epoch) };
+
+    fn fmt<W: fmt::Write>(&self, f: &mut fmt::Formatter<W>) -> fmt::Result {
+        write!(
+            f,
+            "program:casd\r\nnode:{}\r\nmover:{}\r\ncluster:{}\r\nepoch:{}\r\n",
+            self.node,
+            self.mover,
+            Hexadecimal(self.digest),
+            self.epoch
+        )
+    }
+}
+
+/// The lines with the numbers of objects, bytes, connections and open calls.
+#[derive(Clone, Copy)]
+pub(super) struct SizeLines {
+    pub objects: usize,
+    pub bytes: u64,
+    pub clients: usize,
+    pub calls: usize,
+}
+
+impl fmt::Display for SizeLines {
+    ghost output = { λ it. Some (size_lines it.objects it.bytes it.clients it.calls) };
+
+    fn fmt<W: fmt::Write>(&self, f: &mut fmt::Formatter<W>) -> fmt::Result {
+        write!(
+            f,
+            "objects:{}\r\nbytes_stored:{}\r\nclients:{}\r\ncalls_open:{}\r\n",
+            self.objects, self.bytes, self.clients, self.calls
+        )
+    }
+}
+
+/// The lines with what was counted.
+#[derive(Clone, Copy)]
+pub(super) struct CountLines {
+    pub counts: Counts,
+    pub foreign: u64,
+}
+
+impl fmt::Display for CountLines {
+    ghost output = { λ it. Some (count_lines it.counts it.foreign) };
+
+    fn fmt<W: fmt::Write>(&self, f: &mut fmt::Formatter<W>) -> fmt::Result {
+        write!(
+            f,
+            "commands_answered:{}\r\ncalls_given_up:{}\r\nframes_dropped:{}\r\n\
+            frames_of_other_clusters:{}\r\nbytes_of_the_log:{}\r\n",
+            self.counts.answered,
+            self.counts.given_up,
+            self.counts.dropped,
+            self.foreign,
+            self.counts.log_bytes
+        )
+    }
+}
