@@ -1,5 +1,6 @@
 pub mod FateLemmas
 pub mod LogLemmas
+pub mod PlaceLemmas
 pub mod WantLemmas
 pub mod StandingLemmas
 pub mod HandledFrameLemmas

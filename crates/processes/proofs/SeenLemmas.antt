@@ -9,41 +9,9 @@ use Rattle.refinement.specs.Clusters.{NodeCluster}
 use Rattle.processes.specs.Events.{ProcessEvent, is_begun, is_told, number_of, processes_after, seen_in}
 use Rattle.processes.specs.Laws.{IsClusterOf}
 use Rattle.processes.specs.Processes.{Processes}
+use Rattle.processes.proofs.LogLemmas.{some_is}
+use Rattle.processes.proofs.PlaceLemmas.{slice_first, slice_second, slice_split, slice_within}
 use Rattle.processes.proofs.StandingLemmas.{IsAmong}
-
--- Places in lists
-
-pub slice_first : (xs ys : List Notice) (i : ℕ) (x : Notice) → slice_get xs i ≡ Some x → slice_get (xs ++ ys) i ≡ Some x
-slice_first [] ys i x e = absurd (cc)
-slice_first (y ∷ xs) ys zero x e = e
-slice_first (y ∷ xs) ys (suc i) x e = slice_first xs ys i x e
-
-slice_second : (xs ys : List Notice) (k : ℕ) → slice_get (xs ++ ys) (length xs + k) ≡ slice_get ys k
-slice_second [] ys k = ap (slice_get ys) (omega arith)
-slice_second (x ∷ xs) ys k = ap (slice_get (x ∷ (xs ++ ys))) (longer (length xs)) ∙ slice_second xs ys k
-  where
-    longer : (n : ℕ) → suc n + k ≡ suc (n + k)
-    longer n = omega arith
-
-slice_within : (xs : List Notice) (i : ℕ) (x : Notice) → slice_get xs i ≡ Some x → i < length xs
-slice_within [] i x e = absurd (cc)
-slice_within (y ∷ xs) zero x e = omega arith
-slice_within (y ∷ xs) (suc i) x e = let rest = slice_within xs i x e in omega arith
-
--- a place of two lists is one of the first list, or so many places behind it
-slice_split : (xs ys : List Notice) (i : ℕ) (x : Notice) → slice_get (xs ++ ys) i ≡ Some x →
-    (slice_get xs i ≡ Some x) ⊎ ((k : ℕ) × (i ≡ length xs + k) × (slice_get ys k ≡ Some x))
-slice_split [] ys i x e = inr (i, omega arith, e)
-slice_split (y ∷ xs) ys zero x e = inl e
-slice_split (y ∷ xs) ys (suc i) x e = go (slice_split xs ys i x e)
-  where
-    go : (slice_get xs i ≡ Some x) ⊎ ((k : ℕ) × (i ≡ length xs + k) × (slice_get ys k ≡ Some x)) →
-        (slice_get xs i ≡ Some x) ⊎ ((k : ℕ) × (suc i ≡ suc (length xs) + k) × (slice_get ys k ≡ Some x))
-    go (inl is) = inl is
-    go (inr is) = let far = is.1 in inr (is.0, omega arith, is.2)
-
-some_same : (x y : Notice) → Some x ≡ Some y → x ≡ y
-some_same x y e = cc
 
 -- Notices that pass a test
 
@@ -53,7 +21,7 @@ passed_place : (p : Notice → Bool) (xs ys : List Notice) (k : ℕ) (notice : N
 passed_place p [] ys k notice e passes = absurd (cc)
 passed_place p (x ∷ xs) ys zero notice e passes =
     subst (λ b. slice_get (cond b (x ∷ filter p (xs ++ ys)) (filter p (xs ++ ys))) 0 ≡ Some notice)
-    (sym (ap p (some_same x notice e) ∙ passes)) e
+    (sym (ap p (some_is x notice e) ∙ passes)) e
 passed_place p (x ∷ xs) ys (suc k) notice e passes = go (p x) (passed_place p xs ys k notice e passes)
   where
     first : List Notice
@@ -74,7 +42,7 @@ passed p (x ∷ xs) i notice e = go (p x) refl i e (passed p xs)
   where
     go : (b : Bool) → p x ≡ b → (i : ℕ) → slice_get (cond b (x ∷ filter p xs) (filter p xs)) i ≡ Some notice →
         ((i : ℕ) (notice : Notice) → slice_get (filter p xs) i ≡ Some notice → p notice ≡ true) → p notice ≡ true
-    go true e zero at later = subst (λ n. p n ≡ true) (some_same x notice at) e
+    go true e zero at later = subst (λ n. p n ≡ true) (some_is x notice at) e
     go true e (suc i) at later = later i notice at
     go false e i at later = later i notice at
 

@@ -16,6 +16,7 @@ use Rattle.node.specs.declared.node.Node.{Node}
 use Rattle.node_store.specs.Recovery.{IsWholeEntry}
 use Rattle.processes.specs.Processes.{Process, WaitingAnswers, WaitingFrame}
 use Rattle.processes.proofs.FateLemmas.{remaining}
+use Rattle.processes.proofs.PlaceLemmas.{slice_first}
 use Rattle.processes.proofs.LogLemmas.{all_records}
 use Rattle.processes.specs.Letters.{IsCarried}
 use Rattle.processes.proofs.WantLemmas.{carried_among}
@@ -76,12 +77,7 @@ pub record HandlesBeside (names : FileOfNames) (number : ℕ) (fate : Option ℕ
 -- Lists of notices
 
 pub among_first : (xs ys : List Notice) (notice : Notice) → IsAmong xs notice → IsAmong (xs ++ ys) notice
-among_first xs ys notice is = (is.0, go xs is.0 is.1)
-  where
-    go : (xs : List Notice) (i : ℕ) → slice_get xs i ≡ Some notice → slice_get (xs ++ ys) i ≡ Some notice
-    go [] i e = absurd (cc)
-    go (x ∷ xs) zero e = e
-    go (x ∷ xs) (suc i) e = go xs i e
+among_first xs ys notice is = (is.0, slice_first xs ys is.0 notice is.1)
 
 pub among_second : (xs ys : List Notice) (notice : Notice) → IsAmong ys notice → IsAmong (xs ++ ys) notice
 among_second [] ys notice is = is
