@@ -1,4 +1,3 @@
--- The contracts that docs/trusted.md lists do not depend on this file; other contracts and proofs do.
 -- What a bank forgets. The floor of a bank is the least tag of its window, once the window is full. Each tag below the
 -- floor has at least delta + 1 finalized tags above it, so no answer depends on it any more.
 use Rattle.std.specs.Prelude.{Bool, false, not, ◌&&◌, ◌==◌, if◌then◌else◌, Option, Some, None}

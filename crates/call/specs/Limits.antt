@@ -1,4 +1,3 @@
--- The contracts that docs/trusted.md lists do not depend on this file; other contracts and proofs do.
 -- Whether the positions and tags that a call needs have successors that fit the machine's numbers.
 use Rattle.std.specs.Prelude.{ℕ, ◌+◌, ◌^◌, Bool, true, ◌&&◌, nat_lt, List, Option, Some, None}
 use Rattle.tag.specs.declared.tag.Tag.{Tag}

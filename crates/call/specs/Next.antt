@@ -1,4 +1,3 @@
--- The contracts that docs/trusted.md lists do not depend on this file; other contracts and proofs do.
 -- What a call does next.
 use Rattle.std.specs.Prelude.{ℕ, Bool, ◌&&◌, not, is_some, if◌then◌else◌, Option, Some, None}
 use Rattle.bank.specs.declared.kind.Kind.{Kind}

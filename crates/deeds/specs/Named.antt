@@ -1,4 +1,3 @@
--- The contracts that docs/trusted.md lists do not depend on this file; other contracts and proofs do.
 -- Objects and letters by the names of objects.
 use Rattle.std.specs.Prelude.{◌≡◌, ℕ, nat_eq, Bool, if◌then◌else◌, List, map, Some, slice_get}
 use Rattle.std.specs.Cmp.Lexicographic.{pointwise}

@@ -1,4 +1,3 @@
--- The contracts that docs/trusted.md lists do not depend on this file; other contracts and proofs do.
 -- Whether the layouts in a letter are those that the node has heard of.
 use Rattle.std.specs.Prelude.{suc, ◌&&◌, ◌==◌, Bool, true, false, nat_eq, Option, None, Some}
 use Rattle.std.specs.Cmp.Lexicographic.{pointwise}

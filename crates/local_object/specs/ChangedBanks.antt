@@ -1,4 +1,3 @@
--- The contracts that docs/trusted.md lists do not depend on this file; other contracts and proofs do.
 -- Which requests may change a bank, and which bank a node keeps after it served a request.
 use Rattle.std.specs.Prelude.{ℕ, if◌then◌else◌, not, ◌||◌, Bool, false, Option, None, Some}
 use Rattle.tag.specs.Tag.{tag_eq}

@@ -1,4 +1,3 @@
--- The contracts that docs/trusted.md lists do not depend on this file; other contracts and proofs do.
 -- Which letters change more than what the node has heard of, once it serves them; and how many bytes its banks store.
 use Rattle.std.specs.Prelude.{◌≡◌, ℕ, ◌&&◌, Bool, false, Option, None, Some, sum_by}
 use Rattle.encoder.specs.Fragment.{fragment}

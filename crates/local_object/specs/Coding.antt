@@ -1,4 +1,3 @@
--- The contracts that docs/trusted.md lists do not depend on this file; other contracts and proofs do.
 -- The values that calls encode.
 use Rattle.std.specs.Prelude.{ℕ, Bool, true, nat_le, List, length, Option, Some, None}
 use Rattle.tag.specs.declared.limits.TheConstants.{LONGEST_VALUE}

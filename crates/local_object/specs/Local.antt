@@ -1,4 +1,3 @@
--- The contracts that docs/trusted.md lists do not depend on this file; other contracts and proofs do.
 -- What one node keeps of one object: the layouts that it has heard of, its banks, and the calls that it carries out.
 use Rattle.std.specs.Prelude.{ℕ, ◌==◌, if◌then◌else◌, List, [], ◌∷◌, ◌++◌, Option, None, Some, nat_lt}
 use Rattle.layout.specs.Layout.{Layout}

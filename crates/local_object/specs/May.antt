@@ -1,4 +1,3 @@
--- The contracts that docs/trusted.md lists do not depend on this file; other contracts and proofs do.
 -- When an event may happen at a node's object, as far as the node can tell from what it keeps.
 use Rattle.std.specs.Prelude.{◌≡◌, ◌≢◌, ◌⊎◌, ℕ, List, [], ◌∷◌, None, Some, IsSome, false, slice_get}
 use Rattle.std.specs.List.{AllByRecursion}

@@ -1,4 +1,3 @@
--- The contracts that docs/trusted.md lists do not depend on this file; other contracts and proofs do.
 -- What a node keeps of an object where it stops and starts again.
 use Rattle.std.specs.Prelude.{◌≡◌, ℕ, Some, IsSome, slice_get}
 use Rattle.std.specs.List.{filter}

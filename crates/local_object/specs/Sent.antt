@@ -1,4 +1,3 @@
--- The contracts that docs/trusted.md lists do not depend on this file; other contracts and proofs do.
 -- The letters of a call's current phase.
 use Rattle.std.specs.Prelude.{not, if◌then◌else◌, List, map, filter}
 use Rattle.encoder.specs.Fragment.{fragment}

@@ -1,4 +1,3 @@
--- The contracts that docs/trusted.md lists do not depend on this file; other contracts and proofs do.
 -- Exactly which events happen after a call took a reply. A call whose complete fetch lacks pieces does not begin anew
 -- at once, since it might lack pieces again, and so on for ever. It waits until it sends its requests again, and begins
 -- anew when a member replies that had replied before.

@@ -1,4 +1,3 @@
--- The contracts that docs/trusted.md lists do not depend on this file; other contracts and proofs do.
 -- The world of one object: what its nodes keep of it, and all messages that they ever sent.
 use Rattle.std.specs.Prelude.{ℕ, suc, ◌==◌, ◌&&◌, not, List, [], ◌∷◌, Option, get_or}
 use Rattle.std.specs.List.{filter}

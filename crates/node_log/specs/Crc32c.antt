@@ -1,4 +1,3 @@
--- The contracts that docs/trusted.md lists do not depend on this file; other contracts and proofs do.
 -- CRC-32C. A state is a polynomial over two elements of degree below 32, with bit 31 - i as the coefficient of x^i.
 use Rattle.std.specs.Prelude.{◌≢◌, ◌*◌, ◌/◌, ◌-◌, ◌^◌, ◌<◌, ◌++◌, ◌∷◌, ℕ, zero, suc, List, bit_xor}
 use Rattle.std.specs.Int.{bit_at}

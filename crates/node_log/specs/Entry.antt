@@ -1,4 +1,3 @@
--- The contracts that docs/trusted.md lists do not depend on this file; other contracts and proofs do.
 -- Entries of a log, and the bytes of each: a head of 16 bytes, and a body.
 use Rattle.std.specs.Prelude.{◌≡◌, ◌<◌, ◌+◌, ◌*◌, ◌/◌, ◌%◌, ◌^◌, ◌++◌, ℕ, List, [], ◌∷◌, length, take, drop, bit_xor, ⊤}
 use Rattle.std.specs.Int.{w32, w64, to_be_bytes, from_be_bytes}

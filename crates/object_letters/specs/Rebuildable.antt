@@ -1,4 +1,3 @@
--- The contracts that docs/trusted.md lists do not depend on this file; other contracts and proofs do.
 -- Objects whose banks came to be by letters alone, as all objects do that a node keeps.
 use Rattle.std.specs.Prelude.{◌≡◌, ◌≢◌, ℕ, List, [], ◌∷◌, Option, None, Some, slice_get}
 use Rattle.std.specs.List.{AllByRecursion}

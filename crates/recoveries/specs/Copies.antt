@@ -1,4 +1,3 @@
--- The contracts that docs/trusted.md lists do not depend on this file; other contracts and proofs do.
 -- When what a log gives back is enough, and which records a log needs for that.
 use Rattle.std.specs.Prelude.{◌≡◌, ℕ, true, List}
 use Rattle.layout.specs.Layout.{IsLawful}

@@ -1,4 +1,3 @@
--- The contracts that docs/trusted.md lists do not depend on this file; other contracts and proofs do.
 -- What the log of a node records, and what the node keeps after it has carried the records out again.
 use Rattle.std.specs.Prelude.{◌≡◌, ◌<◌, ◌^◌, ℕ, suc, List, [], ◌∷◌}
 use Rattle.layout.specs.Layout.{IsLawful, Layout}

@@ -1,4 +1,3 @@
--- The contracts that docs/trusted.md lists do not depend on this file; other contracts and proofs do.
 -- The laws: if each node acts by what it keeps itself, all nodes together keep the promise for each object.
 use Rattle.std.specs.Prelude.{◌≡◌, ℕ, List}
 use Rattle.record.specs.declared.call.Entry.{Entry}

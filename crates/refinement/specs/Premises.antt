@@ -1,4 +1,3 @@
--- The contracts that docs/trusted.md lists do not depend on this file; other contracts and proofs do.
 -- The premises of the laws: what is assumed of the network, of disks, and of how nodes are set up. Besides these, only
 -- one process at a time uses a node number: a cluster has one node for each number.
 use Rattle.std.specs.Prelude.{◌≡◌, ℕ, List, [], ◌∷◌}

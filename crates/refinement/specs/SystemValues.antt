@@ -1,4 +1,3 @@
--- The contracts that docs/trusted.md lists do not depend on this file; other contracts and proofs do.
 -- Which values tags have according to the history of the calls, and that nodes keep and send fragments of these values.
 use Rattle.std.specs.Prelude.{◌≡◌, ◌<◌, ◌⊎◌, ℕ, List, [], Option, Some, IsSome, slice_get}
 use Rattle.std.specs.List.{AllByRecursion}

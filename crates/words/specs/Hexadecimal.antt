@@ -1,4 +1,3 @@
--- The contracts that docs/trusted.md lists do not depend on this file; other contracts and proofs do.
 -- Bytes as hexadecimal digits, and no bytes as `.`.
 use Rattle.std.specs.Prelude.{◌≡◌, ◌<◌, ◌⊎◌, ℕ, List, [], ◌∷◌, length, codes, Ok}
 use Rattle.hex.specs.Hex.{decode_of, encode_lower}

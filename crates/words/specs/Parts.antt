@@ -1,4 +1,3 @@
--- The contracts that docs/trusted.md lists do not depend on this file; other contracts and proofs do.
 -- What is read, part by part.
 use Rattle.std.specs.Prelude.{◌≡◌, Result, Ok, Err}
 
