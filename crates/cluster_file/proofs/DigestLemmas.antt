@@ -60,4 +60,4 @@ hashed_again a b is_a is_b e =
     same_fixed a b parts.1 n k parts.0 mover
 
 pub placed_again : PlacedLayoutsAreLawful
-placed_again file name lawful = placed-IsLawful (placement_of file.fixed) name lawful.fixed.placed
+placed_again file name lawful = placed-IsLawful (placement_of file.fixed) name lawful.placed

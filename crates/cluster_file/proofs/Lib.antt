@@ -1,6 +1,7 @@
 pub mod DigestLemmas
 pub mod FirstNodesLemmas
 pub mod LineLemmas
+pub mod MoverLemmas
 pub mod NodeLemmas
 pub mod NodeOrderLemmas
 pub mod NumberLemmas
@@ -9,3 +10,4 @@ pub mod ScoredListLemmas
 pub mod SettingLemmas
 pub mod ValueLemmas
 pub mod WrittenLemmas
+pub mod WrittenWordLemmas

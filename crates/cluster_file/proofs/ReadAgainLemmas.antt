@@ -1,80 +1,28 @@
 -- A text of a lawful file is read as that file.
-use Rattle.std.proofs.Common.{◌≡◌, ◌==◌, ◌<◌, ◌≤◌, ◌^◌, ◌+◌, ℕ, Bool, true, false, ltb, nat_eq}
-use Rattle.std.proofs.Common.{List, [], ◌∷◌, ◌++◌, length, map, Option, Some, None, Result, Ok}
+use Rattle.std.proofs.Common.{◌≡◌, ◌==◌, ◌||◌, ◌<◌, ◌^◌, ◌+◌, ℕ, Bool, true, false, nat_eq}
+use Rattle.std.proofs.Common.{List, [], ◌∷◌, ◌++◌, length, map, None, Result, Ok}
 use Rattle.std.proofs.Common.{refl, sym, ap, subst, ◌∙◌, append_assoc, codes, arith}
 use Rattle.std.specs.List.{IsDistinct, AllByRecursion}
-use Rattle.std.specs.Str.{bytes_eq}
-use Rattle.std.proofs.lemmas.Bool.Decides.{nat_tests}
 use Rattle.std.proofs.lemmas.List.{append-nil, length-append}
 use Rattle.std.proofs.lemmas.List.Folds.{list_any-append}
-use Rattle.std.proofs.lemmas.Slice.Eq.{bytes_eq-Decides}
 use Rattle.layout.specs.Quorum.{has}
 use Rattle.tag.specs.declared.limits.TheConstants.{MOST_SERVERS}
 use Rattle.cluster_file.specs.declared.error.Fault.{Fault}
-use Rattle.cluster_file.specs.declared.number.Range.{Range}
 use Rattle.cluster_file.specs.declared.setting.Setting.{Setting}
 use Rattle.cluster_file.specs.declared.setting.Setting.TheVariants as setting
 use Rattle.cluster_file.specs.File.{FileContents, AreApart, IsLawfulFile}
 use Rattle.cluster_file.specs.Lines.{Line, lines_of, end_line}
 use Rattle.words.specs.Word.{Word}
 use Rattle.cluster_file.specs.Settings.{word_of, setting_from, due_fault}
-use Rattle.cluster_file.specs.Numbers.{is_decimal, number_from, delta_from, mover_from, node_from}
-use Rattle.words.specs.Parts.{and_then}
-use Rattle.cluster_file.specs.Numbers.{of_a_byte, of_32_bits}
+use Rattle.cluster_file.specs.Numbers.{number_from, delta_from, node_from, is_among}
 use Rattle.cluster_file.specs.Reading.{placed_at, first_value, value_of_line, setting_value, setting_at, nodes_from}
-use Rattle.cluster_file.specs.Reading.{nodes_at, later_at, of_n, of_k, of_ticks, fixed_at, unless_line_left, file_at}
-use Rattle.cluster_file.specs.Written.{Values, WritesNumber, WriteEach, WritesDelta, WriteFile, settings_of, said, IsDelta, AreInRange}
+use Rattle.cluster_file.specs.Reading.{nodes_at, mover_at, later_at, later_words, of_n, of_k, of_ticks, fixed_at, unless_line_left, file_at}
+use Rattle.cluster_file.specs.Written.{Values, WritesNumber, WriteEach, WriteFile, settings_of, said, AreInRange}
 use Rattle.cluster_file.specs.Written.{WrittenFilesAreRead}
 use Rattle.cluster_file.proofs.ValueLemmas.{neither_is}
 use Rattle.cluster_file.proofs.NodeLemmas.{neither}
-
-join : {E A B : Type 0} (r : Result A E) (f : A → Result B E) (x : A) (y : B) → r ≡ Ok x → f x ≡ Ok y → and_then r f ≡ Ok y
-join r f x y e next = ap (λ q. and_then q f) e ∙ next
-
-not_less : (a b : ℕ) → b ≤ a → ltb a b ≡ false
-not_less a b le = grind (arith, nat_tests)
-
-less : (a b : ℕ) → a < b → ltb a b ≡ true
-less a b lt = grind (arith, nat_tests)
-
--- ---- words
-
-number_there : (range : Range) (word : Word) (n : ℕ) → WritesNumber word n → range.least ≤ n → n ≤ range.most
-    → number_from range word ≡ Ok n
-unfolding number_from
-number_there range word n written low high =
-    rw (written.0, written.1, not_less n range.least low, not_less range.most n high) refl
-
-has_small : (nodes : List ℕ) (m : ℕ) → AllByRecursion (λ node. node < 2 ^ 8) nodes → has nodes m ≡ true → m < 2 ^ 8
-has_small [] m small there = absurd cc
-has_small (node ∷ nodes) m small there = grind (arith, nat_tests, small.0, has_small nodes m small.1)
-
-mover_there : (nodes : List ℕ) (word : Word) (m : ℕ) → WritesNumber word m → AllByRecursion (λ node. node < 2 ^ 8) nodes
-    → has nodes m ≡ true → mover_from nodes word ≡ Ok m
-unfolding mover_from
-mover_there nodes word m written small there =
-    let below = has_small nodes m small there in
-    join (number_from of_a_byte word) _ m m (number_there of_a_byte word m written (omega arith) (omega arith)) (rw there refl)
-
-node_there : (others listed : List ℕ) (word : Word) (n : ℕ) → WritesNumber word n → n < 2 ^ 8 → has others n ≡ false
-    → has listed n ≡ false → length others + length listed < MOST_SERVERS → node_from others listed word ≡ Ok n
-unfolding node_from
-node_there others listed word n written small none none_listed room =
-    join (number_from of_a_byte word) _ n n (number_there of_a_byte word n written (omega arith) (omega arith))
-    (rw (none, none_listed, less (length others + length listed) MOST_SERVERS room) refl)
-
-not_none : (t : Bool) (word : Word) → bytes_eq word (codes "none") ≡ t → is_decimal word ≡ true → t ≡ false
-not_none false word test decimal = refl
-not_none true word test decimal =
-    let same = (bytes_eq-Decides word (codes "none")).0 test in
-    let clash : is_decimal (codes "none") ≡ true = subst (λ (w : Word). is_decimal w ≡ true) same decimal in absurd cc
-
-delta_there : (word : Word) (delta : Option ℕ) → WritesDelta word delta → IsDelta delta → delta_from word ≡ Ok delta
-unfolding delta_from
-delta_there word None written small = rw ((bytes_eq-Decides word (codes "none")).1 written) refl
-delta_there word (Some n) written small =
-    let test = not_none (bytes_eq word (codes "none")) word refl written.0 in
-    rw test (join (number_from of_32_bits word) _ n (Some n) (number_there of_32_bits word n written (omega arith) (omega arith)) refl)
+use Rattle.cluster_file.proofs.MoverLemmas.{words_name, words_of_later}
+use Rattle.cluster_file.proofs.WrittenWordLemmas.{join, number_there, are_nodes, mover_small, mover_there, node_there, delta_there}
 
 -- ---- lines
 
@@ -111,6 +59,26 @@ value_there due from end lines word entries v e writes =
     let line = setting_there due end lines (word ∷ []) entries e in (
       line.0.1,
       join (setting_at due end lines) _ line.0 (v, line.0.1) line.1 (rw (line.2, writes) refl),
+      line.3,
+    )
+
+mover_line : (nodes : List ℕ) (end : ℕ) (lines : List Line) (word : Word) (words : List Word) (later : List ℕ) (more : List Entry)
+    (m : ℕ) → map said lines ≡ (codes "mover", word ∷ []) ∷ (codes "later", words) ∷ more → WritesNumber word m
+    → WriteEach words later → AllByRecursion (λ node. node < 2 ^ 8) nodes → AllByRecursion (λ node. node < 2 ^ 8) later
+    → (has nodes m || has later m) ≡ true
+    → (rest : List Line) × (mover_at nodes end lines ≡ Ok (m, rest)) × (map said rest ≡ (codes "later", words) ∷ more)
+unfolding mover_at value_of_line
+mover_line nodes end lines word words later more m e written each small small_later named =
+    let line = setting_there setting.Mover end lines (word ∷ []) ((codes "later", words) ∷ more) e in
+    let said_later = words_of_later line.0.1 words more line.3 in
+    let same = words_name m words later (are_nodes words later each small_later) in
+    let among : is_among nodes (later_words line.0.1) m ≡ true =
+    subst (λ (ws : List Word). is_among nodes ws m ≡ true) (sym said_later)
+    (subst (λ (b : Bool). (has nodes m || b) ≡ true) (sym same) named) in
+    let below = mover_small nodes later m (has nodes m) small small_later refl named in
+    let writes = mover_there nodes (later_words line.0.1) word m written below among in (
+      line.0.1,
+      join (setting_at setting.Mover end lines) _ line.0 (m, line.0.1) line.1 (rw (line.2, writes) refl),
       line.3,
     )
 
@@ -189,19 +157,19 @@ alone_apart : (file : FileContents) → IsLawfulFile file → AreApart [] file.f
 alone_apart file lawful =
     let few = lawful.nodes.few in
     record {
-      distinct = lawful.fixed.placed.distinct;
+      distinct = lawful.placed.distinct;
       few = omega (arith, few, length-append file.fixed.nodes file.later);
     }
 
-fixed_lines : (end : ℕ) (lines : List Line) (values : Values) (file : FileContents) (entries : List Entry) → WriteFile values file
+fixed_lines : (end : ℕ) (lines : List Line) (values : Values) (file : FileContents) (more : List Entry) → WriteFile values file
     → IsLawfulFile file → AreInRange file
     → map said lines ≡ (codes "nodes", values.nodes) ∷ (codes "n", values.n ∷ []) ∷ (codes "k", values.k ∷ [])
-    ∷ (codes "delta", values.delta ∷ []) ∷ (codes "mover", values.mover ∷ []) ∷ entries
-    → (rest : List Line) × (fixed_at end lines ≡ Ok (file.fixed, rest)) × (map said rest ≡ entries)
+    ∷ (codes "delta", values.delta ∷ []) ∷ (codes "mover", values.mover ∷ []) ∷ (codes "later", values.later) ∷ more
+    → (rest : List Line) × (fixed_at end lines ≡ Ok (file.fixed, rest)) × (map said rest ≡ (codes "later", values.later) ∷ more)
 unfolding fixed_at
-fixed_lines end lines values file entries written lawful small e =
+fixed_lines end lines values file more written lawful small e =
     let fixed = file.fixed in
-    let rules = lawful.fixed.placed in
+    let rules = lawful.placed in
     let few = lawful.nodes.few in
     let total = length-append fixed.nodes file.later in
     let some = rules.some in
@@ -214,14 +182,14 @@ fixed_lines end lines values file entries written lawful small e =
     (number_there (of_k fixed.n) values.k fixed.k written.k (omega arith) (omega arith)) in
     let f = value_there setting.Delta delta_from end d.0 values.delta _ fixed.delta d.2
     (delta_there values.delta fixed.delta written.delta small.delta) in
-    let g = value_there setting.Mover (mover_from fixed.nodes) end f.0 values.mover entries fixed.mover f.2
-    (mover_there fixed.nodes values.mover fixed.mover written.mover small.nodes lawful.fixed.mover) in (
+    let g = mover_line fixed.nodes end f.0 values.mover values.later file.later more fixed.mover f.2 written.mover written.later
+    small.nodes small.later lawful.mover in (
       g.0,
       join (nodes_at end lines) _ (fixed.nodes, a.0) (fixed, g.0) a.1
           (join (setting_value setting.N (number_from (of_n (length fixed.nodes))) end a.0) _ (fixed.n, b.0) (fixed, g.0) b.1
           (join (setting_value setting.K (number_from (of_k fixed.n)) end b.0) _ (fixed.k, d.0) (fixed, g.0) d.1
           (join (setting_value setting.Delta delta_from end d.0) _ (fixed.delta, f.0) (fixed, g.0) f.1
-          (join (setting_value setting.Mover (mover_from fixed.nodes) end f.0) _ (fixed.mover, g.0) (fixed, g.0) g.1 refl)))),
+          (join (mover_at fixed.nodes end f.0) _ (fixed.mover, g.0) (fixed, g.0) g.1 refl)))),
       g.2,
     )
 

@@ -1,15 +1,14 @@
 -- What is known of a value that was read.
-use Rattle.std.proofs.Common.{◌≡◌, ◌≤◌, ℕ, ◌||◌, Bool, true, false, cond, ltb}
+use Rattle.std.proofs.Common.{◌≡◌, ◌≤◌, ℕ, ◌||◌, Bool, true, false, ltb}
 use Rattle.std.proofs.Common.{List, [], ◌∷◌, Result, Ok, Err, refl, ap, subst, arith}
 use Rattle.std.specs.Str.Parse.{digits_value}
 use Rattle.std.proofs.lemmas.Bool.{ltb-false}
-use Rattle.layout.specs.Quorum.{has}
 use Rattle.cluster_file.specs.declared.error.Fault.{Fault}
-use Rattle.cluster_file.specs.declared.error.Fault.TheVariants.{NoNode, NotANumber}
+use Rattle.cluster_file.specs.declared.error.Fault.TheVariants.{NotANumber}
 use Rattle.cluster_file.specs.declared.number.Range.{Range}
 use Rattle.cluster_file.specs.Lines.{Line}
 use Rattle.words.specs.Word.{Word}
-use Rattle.cluster_file.specs.Numbers.{is_decimal, within, number_from, mover_from, of_a_byte}
+use Rattle.cluster_file.specs.Numbers.{is_decimal, within, number_from}
 use Rattle.words.specs.Parts.{and_then}
 use Rattle.words.proofs.PartLemmas.{bind_ok, guarded, guarded_above, ok_is}
 use Rattle.cluster_file.specs.Reading.{placed_at, first_value, without_second, value_of_line}
@@ -30,7 +29,7 @@ alone line (v ∷ []) x y e = cc
 alone line (v ∷ w ∷ ws) x y e = absurd cc
 
 -- some word writes the value of a line
-value_ok : {A : Type 0} (from : Word → Result A Fault) (line : Line) (x : A) → value_of_line from line ≡ Ok x
+pub value_ok : {A : Type 0} (from : Word → Result A Fault) (line : Line) (x : A) → value_of_line from line ≡ Ok x
     → (word : Word) × (from word ≡ Ok x)
 unfolding value_of_line
 value_ok from line x e =
@@ -56,14 +55,3 @@ in_range range word n e =
 pub number_in_range : (range : Range) (line : Line) (n : ℕ) → value_of_line (number_from range) line ≡ Ok n
     → (range.least ≤ n) × (n ≤ range.most)
 number_in_range range line n e = let found = value_ok (number_from range) line n e in in_range range found.0 n found.1
-
--- the mover is one of the nodes
-one_of : (nodes : List ℕ) (word : Word) (n : ℕ) → mover_from nodes word ≡ Ok n → has nodes n ≡ true
-unfolding mover_from
-one_of nodes word n e =
-    let a = bind_ok (number_from of_a_byte word) (λ m. cond (has nodes m) (Ok m) (Err NoNode)) n e in
-    let b = guarded (has nodes a.0) (Ok a.0) NoNode n a.2 in
-    subst (λ m. has nodes m ≡ true) (ok_is a.0 n b.1) b.0
-
-pub mover_is_a_node : (nodes : List ℕ) (line : Line) (n : ℕ) → value_of_line (mover_from nodes) line ≡ Ok n → has nodes n ≡ true
-mover_is_a_node nodes line n e = let found = value_ok (mover_from nodes) line n e in one_of nodes found.0 n found.1

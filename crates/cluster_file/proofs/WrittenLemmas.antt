@@ -1,11 +1,9 @@
 -- A text that is read as a file writes it.
-use Rattle.std.proofs.Common.{◌≡◌, ℕ, Bool, true, false, cond, ltb, ◌||◌, List, [], ◌∷◌, ◌++◌, ◌+◌, length, map, Option, Some, None}
-use Rattle.std.proofs.Common.{Result, Ok, refl, sym, ap, subst, ◌∙◌, append_assoc, codes}
+use Rattle.std.proofs.Common.{◌≡◌, ℕ, Bool, true, false, cond, ltb, ◌||◌, List, [], ◌∷◌, length, map, Option, Some, None}
+use Rattle.std.proofs.Common.{Result, Ok, refl, sym, ap, subst, ◌∙◌, codes}
 use Rattle.std.specs.Str.{bytes_eq}
 use Rattle.std.specs.Str.Parse.{digits_value}
-use Rattle.std.proofs.lemmas.List.{append-nil}
 use Rattle.std.proofs.lemmas.Slice.Eq.{bytes_eq-Decides}
-use Rattle.layout.specs.Quorum.{has}
 use Rattle.cluster_file.specs.declared.error.Fault.{Fault}
 use Rattle.cluster_file.specs.declared.error.Fault.TheVariants.{NotANumber}
 use Rattle.cluster_file.specs.declared.number.Range.{Range}
@@ -15,14 +13,15 @@ use Rattle.cluster_file.specs.File.{Fixed, FileContents}
 use Rattle.cluster_file.specs.Lines.{Line, lines_of, end_line}
 use Rattle.words.specs.Word.{Word}
 use Rattle.cluster_file.specs.Settings.{word_of}
-use Rattle.cluster_file.specs.Numbers.{is_decimal, within, number_from, delta_from, mover_from, node_from}
+use Rattle.cluster_file.specs.Numbers.{is_decimal, within, number_from, delta_from, mover_from, is_among}
 use Rattle.words.specs.Parts.{and_then}
 use Rattle.cluster_file.specs.Numbers.{of_a_byte, of_32_bits}
-use Rattle.cluster_file.specs.Reading.{placed_at, first_value, without_second, value_of_line, setting_value, nodes_from, nodes_at, later_at}
-use Rattle.cluster_file.specs.Reading.{of_n, of_k, of_ticks, fixed_at, unless_line_left, file_at}
+use Rattle.cluster_file.specs.Reading.{first_value, without_second, value_of_line, setting_at, setting_value, nodes_from, nodes_at}
+use Rattle.cluster_file.specs.Reading.{mover_at, later_at, later_words, of_n, of_k, of_ticks, fixed_at, unless_line_left, file_at}
 use Rattle.cluster_file.specs.Written.{WritesNumber, WriteEach, WritesDelta, said, IsTextOf, ReadFilesAreWritten}
 use Rattle.cluster_file.proofs.SettingLemmas.{setting_ok}
 use Rattle.cluster_file.proofs.ValueLemmas.{placed_ok}
+use Rattle.cluster_file.proofs.MoverLemmas.{AreNodes, nodes_read}
 use Rattle.words.proofs.PartLemmas.{bind_ok, guarded, guarded_above, ok_is}
 
 -- ---- words
@@ -38,20 +37,18 @@ number_writes range word n e =
     let b = guarded_above (ltb m range.least || ltb range.most m) range.outside (Ok m) n a.1 in
     (a.0, ok_is m n b.1)
 
-mover_writes : (nodes : List ℕ) (word : Word) (n : ℕ) → mover_from nodes word ≡ Ok n → WritesNumber word n
+mover_writes : (nodes : List ℕ) (later : List Word) (word : Word) (n : ℕ) → mover_from nodes later word ≡ Ok n → WritesNumber word n
 unfolding mover_from
-mover_writes nodes word n e =
+mover_writes nodes later word n e =
     let a = bind_ok (number_from of_a_byte word) _ n e in
-    let b = guarded (has nodes a.0) (Ok a.0) _ n a.2 in
+    let b = guarded (is_among nodes later a.0) (Ok a.0) _ n a.2 in
     subst (WritesNumber word) (ok_is a.0 n b.1) (number_writes of_a_byte word a.0 a.1)
 
-node_writes : (others listed : List ℕ) (word : Word) (n : ℕ) → node_from others listed word ≡ Ok n → WritesNumber word n
-unfolding node_from
-node_writes others listed word n e =
-    let a = bind_ok (number_from of_a_byte word) _ n e in
-    let b = guarded_above (has others a.0 || has listed a.0) _ _ n a.2 in
-    let d = guarded _ (Ok a.0) _ n b.1 in
-    subst (WritesNumber word) (ok_is a.0 n d.1) (number_writes of_a_byte word a.0 a.1)
+each_writes : (words : List Word) (nodes : List ℕ) → AreNodes words nodes → WriteEach words nodes
+each_writes [] [] are = tt
+each_writes [] (n ∷ ns) are = absurd are
+each_writes (word ∷ words) [] are = absurd are
+each_writes (word ∷ words) (n ∷ ns) are = (number_writes of_a_byte word n are.0, each_writes words ns are.1)
 
 delta_by : (t : Bool) (word : Word) (delta : Option ℕ) → bytes_eq word (codes "none") ≡ t
     → cond t (Ok None) (and_then (number_from of_32_bits word) (λ n. Ok (Some n))) ≡ Ok delta → WritesDelta word delta
@@ -75,35 +72,54 @@ single line (v ∷ []) word x y first e =
     let same : v ≡ word = cc in let value : x ≡ y = cc in (ap (λ (w : Word). w ∷ []) same, value)
 single line (v ∷ w ∷ ws) word x y first e = absurd cc
 
--- a setting with one value
+-- the one value of a line
+read_line : {X : Type 0} (from : Word → Result X Fault) (line : Line) (x : X) → value_of_line from line ≡ Ok x
+    → (word : Word) × (from word ≡ Ok x) × (line.values ≡ word ∷ [])
+unfolding value_of_line
+read_line from line x e =
+    let first = bind_ok _ _ x e in
+    let placed = bind_ok _ _ x first.2 in
+    let alone = single line.number line.values first.0 placed.0 x first.1 placed.2 in
+    (first.0, placed_ok _ _ (from first.0) placed.0 placed.1 ∙ ap (λ z. Ok z) alone.1, alone.0)
+
+-- a setting with one value, on its line before the rest
+read_setting : {X : Type 0} (due : Setting) (from : Word → Result X Fault) (end : ℕ) (lines : List Line) (line : Line × List Line)
+    (value : X) (x : X × List Line) → setting_at due end lines ≡ Ok line → value_of_line from line.0 ≡ Ok value
+    → (value, line.1) ≡ x
+    → (word : Word) × (from word ≡ Ok x.0) × (map said lines ≡ (word_of due, word ∷ []) ∷ map said x.1)
+read_setting due from end lines line value x at writes whole =
+    let read = read_line from line.0 value writes in (
+      read.0,
+      read.1 ∙ ap (λ z. Ok z) (ap (λ p. p.0) whole),
+      setting_ok due end lines line at ∙ ap (λ (ws : List Word). (word_of due, ws) ∷ map said line.1) read.2
+          ∙ ap (λ (ls : List Line). (word_of due, read.0 ∷ []) ∷ map said ls) (ap (λ p. p.1) whole),
+    )
+
 read_value : {X : Type 0} (due : Setting) (from : Word → Result X Fault) (end : ℕ) (lines : List Line) (x : X × List Line)
     → setting_value due from end lines ≡ Ok x
     → (word : Word) × (from word ≡ Ok x.0) × (map said lines ≡ (word_of due, word ∷ []) ∷ map said x.1)
-unfolding setting_value value_of_line
+unfolding setting_value
 read_value due from end lines x e =
     let line = bind_ok _ _ x e in
     let value = bind_ok _ _ x line.2 in
-    let first = bind_ok _ _ value.0 value.1 in
-    let placed = bind_ok _ _ value.0 first.2 in
-    let alone = single line.0.0.number line.0.0.values first.0 placed.0 value.0 first.1 placed.2 in
-    let whole : (value.0, line.0.1) ≡ x = ok_of _ _ value.2 in
-    let said_so = setting_ok due end lines line.0 line.1 in (
-      first.0,
-      placed_ok _ _ (from first.0) placed.0 placed.1 ∙ ap (λ z. Ok z) (alone.1 ∙ ap (λ p. p.0) whole),
-      said_so ∙ ap (λ (ws : List Word). (word_of due, ws) ∷ map said line.0.1) alone.0
-          ∙ ap (λ (ls : List Line). (word_of due, first.0 ∷ []) ∷ map said ls) (ap (λ p. p.1) whole),
-    )
+    read_setting due from end lines line.0 value.0 x line.1 value.1 (ok_of _ _ value.2)
+
+read_mover : (nodes : List ℕ) (end : ℕ) (lines : List Line) (x : ℕ × List Line) → mover_at nodes end lines ≡ Ok x
+    → (word : Word) × WritesNumber word x.0 × (map said lines ≡ (codes "mover", word ∷ []) ∷ map said x.1)
+unfolding mover_at
+read_mover nodes end lines x e =
+    let line = bind_ok _ _ x e in
+    let value = bind_ok _ _ x line.2 in
+    let from = mover_from nodes (later_words line.0.1) in
+    let read = read_setting setting.Mover from end lines line.0 value.0 x line.1 value.1 (ok_of _ _ value.2) in
+    (read.0, mover_writes nodes (later_words line.0.1) read.0 x.0 read.1, read.2)
 
 -- the nodes of a line
-nodes_write : (others listed : List ℕ) (line : ℕ) (words : List Word) (nodes : List ℕ) → nodes_from others listed line words ≡ Ok nodes
-    → (new : List ℕ) × (nodes ≡ listed ++ new) × WriteEach words new
-unfolding nodes_from
-nodes_write others listed line [] nodes e = ([], sym (ok_of listed nodes e) ∙ sym (append-nil listed), tt)
-nodes_write others listed line (word ∷ words) nodes e =
-    let a = bind_ok (placed_at line (length listed + 2) (node_from others listed word)) _ nodes e in
-    let rest = nodes_write others (listed ++ a.0 ∷ []) line words nodes a.2 in
-    let first = node_writes others listed word a.0 (placed_ok _ _ (node_from others listed word) a.0 a.1) in
-    (a.0 ∷ rest.0, rest.1 ∙ append_assoc listed (a.0 ∷ []) rest.0, (first, rest.2))
+nodes_write : (others : List ℕ) (line : ℕ) (words : List Word) (nodes : List ℕ) → nodes_from others [] line words ≡ Ok nodes
+    → WriteEach words nodes
+nodes_write others line words nodes e =
+    let new = nodes_read others [] line words nodes e in
+    subst (WriteEach words) (sym new.1) (each_writes words new.0 new.2)
 
 read_later : (others : List ℕ) (end : ℕ) (lines : List Line) (x : List ℕ × List Line) → later_at others end lines ≡ Ok x
     → (words : List Word) × WriteEach words x.0 × (map said lines ≡ (codes "later", words) ∷ map said x.1)
@@ -111,10 +127,10 @@ unfolding later_at
 read_later others end lines x e =
     let line = bind_ok _ _ x e in
     let nodes = bind_ok _ _ x line.2 in
-    let new = nodes_write others [] line.0.0.number line.0.0.values nodes.0 nodes.1 in
+    let new = nodes_write others line.0.0.number line.0.0.values nodes.0 nodes.1 in
     let whole : (nodes.0, line.0.1) ≡ x = ok_of _ _ nodes.2 in (
       line.0.0.values,
-      subst (WriteEach line.0.0.values) (sym new.1 ∙ ap (λ p. p.0) whole) new.2,
+      subst (WriteEach line.0.0.values) (ap (λ p. p.0) whole) new,
       setting_ok setting.Later end lines line.0 line.1
           ∙ ap (λ (ls : List Line). (codes "later", line.0.0.values) ∷ map said ls) (ap (λ p. p.1) whole),
     )
@@ -126,10 +142,10 @@ read_nodes end lines x e =
     let line = bind_ok _ _ x e in
     let first = bind_ok (first_value line.0.0.number line.0.0.values) _ x line.2 in
     let nodes = bind_ok (nodes_from [] [] line.0.0.number line.0.0.values) _ x first.2 in
-    let new = nodes_write [] [] line.0.0.number line.0.0.values nodes.0 nodes.1 in
+    let new = nodes_write [] line.0.0.number line.0.0.values nodes.0 nodes.1 in
     let whole : (nodes.0, line.0.1) ≡ x = ok_of _ _ nodes.2 in (
       line.0.0.values,
-      subst (WriteEach line.0.0.values) (sym new.1 ∙ ap (λ p. p.0) whole) new.2,
+      subst (WriteEach line.0.0.values) (ap (λ p. p.0) whole) new,
       setting_ok setting.Nodes end lines line.0 line.1
           ∙ ap (λ (ls : List Line). (codes "nodes", line.0.0.values) ∷ map said ls) (ap (λ p. p.1) whole),
     )
@@ -165,12 +181,12 @@ fixed_write end lines x e =
     let n = bind_ok (setting_value setting.N (number_from (of_n (length nodes.0.0))) end nodes.0.1) _ x nodes.2 in
     let k = bind_ok (setting_value setting.K (number_from (of_k n.0.0)) end n.0.1) _ x n.2 in
     let delta = bind_ok (setting_value setting.Delta delta_from end k.0.1) _ x k.2 in
-    let mover = bind_ok (setting_value setting.Mover (mover_from nodes.0.0) end delta.0.1) _ x delta.2 in
+    let mover = bind_ok (mover_at nodes.0.0 end delta.0.1) _ x delta.2 in
     let a = read_nodes end lines nodes.0 nodes.1 in
     let b = read_value setting.N (number_from (of_n (length nodes.0.0))) end nodes.0.1 n.0 n.1 in
     let d = read_value setting.K (number_from (of_k n.0.0)) end n.0.1 k.0 k.1 in
     let f = read_value setting.Delta delta_from end k.0.1 delta.0 delta.1 in
-    let g = read_value setting.Mover (mover_from nodes.0.0) end delta.0.1 mover.0 mover.1 in
+    let g = read_mover nodes.0.0 end delta.0.1 mover.0 mover.1 in
     let held : Fixed = record { nodes = nodes.0.0; n = n.0.0; k = k.0.0; delta = delta.0.0; mover = mover.0.0 } in
     let whole : (held, mover.0.1) ≡ x = ok_of _ _ mover.2 in
     let written : FixedWritten lines held mover.0.1 = record {
@@ -184,7 +200,7 @@ fixed_write end lines x e =
       n_written = number_writes (of_n (length nodes.0.0)) b.0 n.0.0 b.1;
       k_written = number_writes (of_k n.0.0) d.0 k.0.0 d.1;
       delta_written = delta_writes f.0 delta.0.0 f.1;
-      mover_written = mover_writes nodes.0.0 g.0 mover.0.0 g.1;
+      mover_written = g.1;
     } in
     subst (λ (p : Fixed × List Line). FixedWritten lines p.0 p.1) whole written
 

@@ -1,4 +1,3 @@
--- The contracts that docs/trusted.md lists do not depend on this file; other contracts and proofs do.
 -- What functions that read give.
 use Rattle.std.specs.Prelude.{◌≡◌, List, map, Result, Ok, Err}
 use denote.Ref.{Bor}

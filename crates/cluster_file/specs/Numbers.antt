@@ -1,8 +1,8 @@
 -- The contracts that docs/trusted.md lists do not depend on this file; other contracts and proofs do.
 -- The values that one word writes, from left to right, up to the first fault.
-use Rattle.std.specs.Prelude.{ℕ, ◌+◌, ◌-◌, ◌^◌, ◌&&◌, ◌||◌, Bool, false, nat_lt, if◌then◌else◌}
+use Rattle.std.specs.Prelude.{ℕ, ◌+◌, ◌-◌, ◌^◌, ◌&&◌, ◌||◌, Bool, false, nat_eq, nat_lt, if◌then◌else◌}
 use Rattle.std.specs.Prelude.{List, [], ◌∷◌, length, Result, Ok, Err, Option, Some, None, codes}
-use Rattle.std.specs.List.{list_all}
+use Rattle.std.specs.List.{list_all, list_any}
 use Rattle.std.specs.Char.{is_ascii_digit}
 use Rattle.std.specs.Str.{bytes_eq}
 use Rattle.std.specs.Str.Parse.{digits_value}
@@ -42,10 +42,23 @@ delta_from word =
     if bytes_eq word (codes "none") then Ok None
     else and_then (number_from of_32_bits word) (λ delta. Ok (Some delta))
 
--- the node that a word writes, which is one of these
-unfoldable pub mover_from : List ℕ → Word → Result ℕ Fault
-mover_from nodes word =
-    and_then (number_from of_a_byte word) (λ node. if has nodes node then Ok node else Err NoNode)
+-- whether what was read is this node
+abbrev pub is_node : ℕ → Result ℕ Fault → Bool
+is_node node (Ok found) = nat_eq found node
+is_node node (Err fault) = false
+
+-- whether a word writes this node
+abbrev pub writes_node : ℕ → Word → Bool
+writes_node node word = is_node node (number_from of_a_byte word)
+
+-- whether a node is one of these, or one of these words writes it
+abbrev pub is_among : List ℕ → List Word → ℕ → Bool
+is_among nodes later node = has nodes node || list_any (writes_node node) later
+
+-- the node that a word writes, which is one of these, or which one of these words writes
+unfoldable pub mover_from : List ℕ → List Word → Word → Result ℕ Fault
+mover_from nodes later word =
+    and_then (number_from of_a_byte word) (λ node. if is_among nodes later node then Ok node else Err NoNode)
 
 -- the node that a word writes, if it is in neither list and there is room for one more
 unfoldable pub node_from : List ℕ → List ℕ → Word → Result ℕ Fault

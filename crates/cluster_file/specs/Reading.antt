@@ -1,6 +1,8 @@
 -- The contracts that docs/trusted.md lists do not depend on this file; other contracts and proofs do.
 -- Reading a file from top to bottom and each line from left to right, up to the first fault.
-use Rattle.std.specs.Prelude.{ℕ, ◌+◌, ◌^◌, ◌-◌, ◌++◌, List, [], ◌∷◌, length, Option, Some, None, Result, Ok, Err}
+use Rattle.std.specs.Prelude.{ℕ, ◌+◌, ◌^◌, ◌-◌, ◌++◌, if◌then◌else◌, codes, List, [], ◌∷◌, length}
+use Rattle.std.specs.Prelude.{Option, Some, None, Result, Ok, Err}
+use Rattle.std.specs.Str.{bytes_eq}
 use Rattle.cluster_file.specs.declared.error.Fault.{Fault}
 use Rattle.cluster_file.specs.declared.error.Fault.TheVariants.{SettingMissing, ValueMissing, WordBehind}
 use Rattle.cluster_file.specs.declared.error.Fault.TheVariants.{OutOfRange, BadN, BadK}
@@ -86,6 +88,18 @@ later_at others end lines =
     and_then (nodes_from others [] line.0.number line.0.values) (λ nodes.
     Ok (nodes, line.1)))
 
+-- the words of the first of these lines, if it has the setting `later`
+abbrev pub later_words : List Line → List Word
+later_words [] = []
+later_words (line ∷ rest) = if bytes_eq line.name (codes "later") then line.values else []
+
+-- the node that moves objects: one of the nodes, or one that the next line names as a node that joined later
+unfoldable pub mover_at : List ℕ → ℕ → List Line → OrFault (ℕ × List Line)
+mover_at nodes end lines =
+    and_then (setting_at setting.Mover end lines) (λ line.
+    and_then (value_of_line (mover_from nodes (later_words line.1)) line.0) (λ mover.
+    Ok (mover, line.1)))
+
 -- the numbers that n may be, if there are this many nodes
 abbrev pub of_n : ℕ → Range
 of_n count = record { least = 1; most = count; outside = BadN }
@@ -101,7 +115,7 @@ fixed_at end lines =
     and_then (setting_value setting.N (number_from (of_n (length nodes.0))) end nodes.1) (λ n.
     and_then (setting_value setting.K (number_from (of_k n.0)) end n.1) (λ k.
     and_then (setting_value setting.Delta delta_from end k.1) (λ delta.
-    and_then (setting_value setting.Mover (mover_from nodes.0) end delta.1) (λ mover.
+    and_then (mover_at nodes.0 end delta.1) (λ mover.
     Ok (record { nodes = nodes.0; n = n.0; k = k.0; delta = delta.0; mover = mover.0 }, mover.1))))))
 
 -- the ticks after which a call may be given up

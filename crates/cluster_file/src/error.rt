@@ -39,8 +39,8 @@ pub enum Fault {
     /// `MOST_SERVERS` nodes are named already.
     #[error("too many nodes")]
     TooManyNodes,
-    /// `mover` is none of `nodes`.
-    #[error("the mover is none of the nodes")]
+    /// `mover` is neither one of `nodes` nor one of `later`.
+    #[error("the mover is named neither under nodes nor under later")]
     NoNode,
 }
 

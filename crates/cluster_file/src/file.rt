@@ -1,7 +1,8 @@
 //! What all nodes of a cluster agree on.
-ghost use Rattle.std.specs.Prelude.{◌≡◌, ◌≤◌, ◌++◌, ◌||◌, [], length};
+ghost use Rattle.std.specs.Prelude.{◌≡◌, ◌≤◌, ◌++◌, ◌||◌, [], IsTrue, length};
 ghost use Rattle.layout.specs.Quorum.{has};
-ghost use Rattle.cluster_file.specs.File.{AreApart, IsLawfulFile, IsLawfulFixed, placement_of};
+ghost use Rattle.cluster_file.specs.File.{AreApart, IsLawfulFile, placement_of};
+ghost use Rattle.cluster_file.specs.Placement.{AreLawfulNodes};
 ghost use Rattle.cluster_file.specs.Digest.{fixed_digest};
 ghost use Rattle.cluster_file.specs.Gives.{shown};
 
@@ -70,8 +71,9 @@ impl Model for ClusterFile {
 impl ClusterFile {
     // The file of these parts.
     pub(crate) fn new(fixed: Fixed, later: ArrayVec<u8, MOST_SERVERS>, ticks: u32) -> ClusterFile
-        requires fixed { IsLawfulFixed (shown fixed) }
+        requires placed { AreLawfulNodes (placement_of (shown fixed)) }
         requires later { AreApart fixed.nodes.items later.items }
+        requires mover { IsTrue (has fixed.nodes.items fixed.mover || has later.items fixed.mover) }
         requires ticks { 1 ≤ ticks }
         ensures { result ≡ record { fixed = shown fixed; later = later.items; ticks = ticks } }
     {
@@ -112,7 +114,7 @@ impl ClusterFile {
         self.fixed.delta
     }
 
-    /// The node that moves objects. It is one of those among which placement chooses.
+    /// The node that moves objects. It is one of those among which placement chooses, or one that joined later.
     pub fn mover(&self) -> u8
         ensures { result ≡ self.now.fixed.mover }
     {

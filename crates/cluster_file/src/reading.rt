@@ -1,13 +1,15 @@
 //! A cluster file from its text.
 ghost use Rattle.std.specs.Prelude.{◌≡◌, ◌≤◌, [], IfOk, IsTrue, length, map};
-ghost use Rattle.layout.specs.Quorum.{has};
-ghost use Rattle.cluster_file.specs.File.{AreApart, IsLawfulFixed};
+ghost use Rattle.cluster_file.specs.File.{AreApart, placement_of};
+ghost use Rattle.cluster_file.specs.Placement.{AreLawfulNodes};
 ghost use Rattle.cluster_file.specs.Gives.{GivesFile, SeesLines, seen, shown};
-ghost use Rattle.cluster_file.specs.Numbers.{number_from, delta_from, mover_from};
+ghost use Rattle.cluster_file.specs.Numbers.{number_from, delta_from, is_among};
 ghost use Rattle.cluster_file.specs.Reading.{
   setting_at,
   setting_value,
   nodes_at,
+  mover_at,
+  later_words,
   later_at,
   fixed_at,
   file_at,
@@ -21,7 +23,7 @@ use crate::file::{ClusterFile, Fixed};
 use crate::lines::{Line, lines_of};
 use crate::nodes::nodes_of;
 use crate::number::Range;
-use crate::setting::{Setting, behind_fault, due_fault};
+use crate::setting::{Setting, behind_fault, due_fault, is_text};
 use crate::values::{delta_in, first_value, mover_in, number_in};
 use arrayvec::ArrayVec;
 use std::alloc::Global;
@@ -73,8 +75,9 @@ fn ended(file: ClusterFile, lines: &[Line<'_>]) -> Result<ClusterFile, FileFault
 // What is fixed.
 #[tactic(auto, unfolding(crate::specs::Reading::fixed_at))]
 fn fixed_at<'a, 'b>(lines: &'b [Line<'a>], end: u64) -> Result<(Fixed, &'b [Line<'a>]), FileFault>
-    ensures lawful { IfOk result (λ x. IsLawfulFixed (shown x.0)) }
+    ensures placed { IfOk result (λ x. AreLawfulNodes (placement_of (shown x.0))) }
     ensures apart { IfOk result (λ x. AreApart x.0.nodes.items []) }
+    ensures mover { IfOk result (λ x. IsTrue (is_among x.0.nodes.items (later_words (map seen x.1.now)) x.0.mover)) }
     ensures exact { SeesLines shown result (fixed_at end (map seen lines.now)) }
 {
     let (nodes, rest) = nodes_at(lines, end)?;
@@ -165,19 +168,32 @@ fn delta_at<'a, 'b>(
 }
 
 // The node that moves objects.
-#[tactic(auto, unfolding(crate::specs::Reading::setting_value))]
+#[tactic(auto, unfolding(crate::specs::Reading::mover_at))]
 fn mover_at<'a, 'b>(
     nodes: &[u8],
     lines: &'b [Line<'a>],
     end: u64,
 ) -> Result<(u8, &'b [Line<'a>]), FileFault>
-    ensures found { IfOk result (λ x. IsTrue (has nodes.now x.0)) }
-    ensures exact { SeesLines (λ node. node) result
-        (setting_value setting.Mover (mover_from nodes.now) end (map seen lines.now)) }
+    ensures found { IfOk result (λ x. IsTrue (is_among nodes.now (later_words (map seen x.1.now)) x.0)) }
+    ensures exact { SeesLines (λ node. node) result (mover_at nodes.now end (map seen lines.now)) }
 {
     let (line, rest) = setting_at(Setting::Mover, lines, end)?;
-    let mover = mover_in(line, nodes)?;
+    let mover = mover_in(line, nodes, later_words(rest))?;
     Ok((mover, rest))
+}
+
+// The words of the first line, if it has the setting `later`.
+fn later_words<'a, 'b>(lines: &'b [Line<'a>]) -> &'b [&'a [u8]]
+    ensures { map (λ word. word.now) result.now ≡ later_words (map seen lines.now) }
+{
+    let [line, ..] = lines else {
+        return &[];
+    };
+    if is_text(line.name, b"later") {
+        &line.values
+    } else {
+        &[]
+    }
 }
 
 // The line of the setting that is due, and the lines behind it.

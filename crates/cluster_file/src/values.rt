@@ -1,8 +1,9 @@
 //! The values of one line.
 ghost use Rattle.std.specs.Prelude.{◌≡◌, map};
+ghost use Rattle.std.specs.List.{list_any};
 ghost use Rattle.cluster_file.specs.Gives.{seen};
 ghost use Rattle.words.specs.Parts.{Sees};
-ghost use Rattle.cluster_file.specs.Numbers.{number_from, delta_from, mover_from};
+ghost use Rattle.cluster_file.specs.Numbers.{number_from, delta_from, mover_from, is_among, writes_node};
 ghost use Rattle.cluster_file.specs.Reading.{placed_at, first_value, without_second, value_of_line};
 
 use crate::error::{Fault, FileFault};
@@ -71,13 +72,13 @@ pub(crate) fn delta_in(line: &Line<'_>) -> Result<Option<u32>, FileFault>
     without_second(line, delta)
 }
 
-/// Returns the one value of a line, one of these nodes.
+/// Returns the one value of a line, one of these nodes or one that these words write.
 #[tactic(auto, unfolding(crate::specs::Reading::value_of_line))]
-pub(crate) fn mover_in(line: &Line<'_>, nodes: &[u8]) -> Result<u8, FileFault>
-    ensures { result ≡ value_of_line (mover_from nodes.now) (seen line.now) }
+pub(crate) fn mover_in(line: &Line<'_>, nodes: &[u8], later: &[&[u8]]) -> Result<u8, FileFault>
+    ensures { result ≡ value_of_line (mover_from nodes.now (map (λ word. word.now) later.now)) (seen line.now) }
 {
     let word = first_value(line)?;
-    let mover = placed_at(line.number, 2, mover_of(word, nodes))?;
+    let mover = placed_at(line.number, 2, mover_of(word, nodes, later))?;
     without_second(line, mover)
 }
 
@@ -97,14 +98,38 @@ fn delta_of(word: &[u8]) -> Result<Option<u32>, Fault>
     Ok(Some(number_of(word, range)?))
 }
 
-// The node that a word writes, which is one of these.
+// The node that a word writes, which is one of these, or which one of these words writes.
 #[tactic(auto, unfolding(crate::specs::Numbers::mover_from))]
-fn mover_of(word: &[u8], nodes: &[u8]) -> Result<u8, Fault>
-    ensures { result ≡ mover_from nodes.now word.now }
+fn mover_of(word: &[u8], nodes: &[u8], later: &[&[u8]]) -> Result<u8, Fault>
+    ensures { result ≡ mover_from nodes.now (map (λ word. word.now) later.now) word.now }
 {
     let node = byte_of(word)?;
-    if !has(nodes, node) {
+    if !is_among(node, nodes, later) {
         return Err(Fault::NoNode);
     }
     Ok(node)
+}
+
+// Whether the node is one of these, or one of these words writes it.
+fn is_among(node: u8, nodes: &[u8], later: &[&[u8]]) -> bool
+    ensures { result ≡ is_among nodes.now (map (λ word. word.now) later.now) node }
+{
+    has(nodes, node) || are_writing(later, node)
+}
+
+// Whether one of these words writes this node.
+fn are_writing(words: &[&[u8]], node: u8) -> bool
+    ensures { result ≡ list_any (λ word. writes_node node word.now) words.now }
+{
+    words.iter().any(|word| is_writing(word, node))
+}
+
+// Whether the word writes this node.
+fn is_writing(word: &[u8], node: u8) -> bool
+    ensures { result ≡ writes_node node word.now }
+{
+    match byte_of(word) {
+        Ok(found) => found == node,
+        Err(_) => false,
+    }
 }

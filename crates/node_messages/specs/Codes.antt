@@ -1,4 +1,3 @@
--- The contracts that docs/trusted.md lists do not depend on this file; other contracts and proofs do.
 -- The codes in a head, and what each stands for.
 use Rattle.std.specs.Prelude.{◌==◌, ℕ, Result, Ok, Err, Bool, true, false, if◌then◌else◌}
 use Rattle.bank.specs.declared.kind.Kind.{Kind}

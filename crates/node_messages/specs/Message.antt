@@ -1,4 +1,3 @@
--- The contracts that docs/trusted.md lists do not depend on this file; other contracts and proofs do.
 -- Which values are messages between nodes.
 use Rattle.std.specs.Prelude.{◌≡◌, ◌<◌, ◌≤◌, ◌^◌, length, IfSome, is_some, Bool, true, false}
 use Rattle.tag.specs.declared.limits.TheConstants.{LONGEST_NAME}

@@ -1,4 +1,3 @@
--- The contracts that docs/trusted.md lists do not depend on this file; other contracts and proofs do.
 -- Layouts that are lawful, and the string of a layout.
 use Rattle.std.specs.Prelude.{ℕ, List, [], ◌∷◌, length, Bool, true, Result, Ok, Err}
 use Rattle.std.specs.Prelude.{nat_le, nat_eq, ◌&&◌, not, if◌then◌else◌}

@@ -1,4 +1,3 @@
--- The contracts that docs/trusted.md lists do not depend on this file; other contracts and proofs do.
 -- The strings of a frame, or of an entry of a log.
 use Rattle.std.specs.Prelude.{ℕ, List}
 

@@ -8,7 +8,7 @@ unreachable-requires c =
     let listed : c.deref.result.now ≡ fixed.nodes.items = c.deref.ensures.0 in
     let none = c.in-Err.ensures.lawful.1 (subst (λ (nodes : List ℕ).
     AreLawfulNodes (let p : ClusterNodes = record { k = fixed.k; n = fixed.n; nodes = nodes } in p)) (sym listed)
-    c.self.invariant.fixed.placed) in
+    c.self.invariant.placed) in
     cc none
 
 pub returns : goal.returns
