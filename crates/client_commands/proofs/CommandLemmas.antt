@@ -16,6 +16,7 @@ use Rattle.client_commands.specs.Reading.{exists_from, list_from, select_from, s
 use Rattle.client_commands.specs.Reading.{Found, read_from, set_from, move_from, ping_from, echo_from, counted, subcommand_from}
 use Rattle.client_commands.specs.Reading.{client_from, command_from, command_named, command_at}
 use Rattle.client_commands.specs.Scanning.{cursor_from, default_options, options_from, scan_from}
+use Rattle.client_commands.specs.Sections.{sections_from}
 use Rattle.client_commands.specs.declared.scanning.ScanOptions.{ScanOptions}
 use Rattle.node_strings.proofs.NumberLemmas.{number_ok}
 use Rattle.client_commands.specs.Words.{is_word, command_text, name_of_word, reading_word}
@@ -29,6 +30,7 @@ use Rattle.client_commands.specs.declared.fault.CommandFault.{CommandFault}
 use Rattle.client_commands.specs.declared.fault.CommandFault.TheVariants.{BadCursor, NoDatabase, SeveralNames}
 use Rattle.client_commands.specs.declared.fault.CommandFault.TheVariants.{UnknownSubcommand, WrongCount}
 use Rattle.words.proofs.PartLemmas.{bind_ok, guarded, guarded_above, chosen, ok_is}
+use Rattle.client_commands.proofs.DeleteLemmas.{delete_ok}
 use Rattle.client_commands.proofs.WordLemmas.{named_ok}
 use Rattle.client_commands.proofs.ArgumentLemmas.{only_ok, both_ok, name_ok, value_ok}
 use Rattle.client_commands.proofs.MoveLemmas.{layout_from_ok}
@@ -209,7 +211,7 @@ from_ok : (name : CommandName) (word : List ℕ) (args : Strings) (c : Command) 
 from_ok of.Get word args c w e = read_ok of.Get wanted.Value word args c w e
 from_ok of.Set word args c w e = set_ok word args c w e
 from_ok of.Move word args c w e = move_ok word args c w e
-from_ok of.Info word args c w e = subst (AskFor (word ∷ args)) (ok_is ask.Info c e) w
+from_ok of.Info word args c w e = subst (AskFor (word ∷ args)) (ok_is (ask.Info (sections_from args)) c e) (w, refl)
 from_ok of.Ping word args c w e = ping_ok word args c w e
 from_ok of.Echo word args c w e = echo_ok word args c w e
 from_ok of.Command word args c w e = list_ok word args c w e
@@ -223,6 +225,7 @@ from_ok of.Strlen word args c w e = read_ok of.Strlen wanted.Length word args c 
 from_ok of.Dbsize word args c w e = size_ok word args c w e
 from_ok of.Layout word args c w e = show_ok word args c w e
 from_ok of.Scan word args c w e = scan_ok word args c w e
+from_ok of.Del word args c w e = delete_ok word args c w e
 
 named_case : (found : Option CommandName) (word : List ℕ) (args : Strings) (c : Command) → name_of_word word ≡ found
     → command_named word found args ≡ Ok c → AskFor (word ∷ args) c

@@ -1,6 +1,7 @@
 pub mod WordLemmas
 pub mod ArgumentLemmas
 pub mod MoveLemmas
+pub mod DeleteLemmas
 pub mod CommandLemmas
 pub mod WrittenCommandLemmas
 pub mod PatternLemmas

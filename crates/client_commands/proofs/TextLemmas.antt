@@ -52,6 +52,7 @@ count_text of.Strlen = is_text _ refl
 count_text of.Dbsize = is_text _ refl
 count_text of.Layout = is_text _ refl
 count_text of.Scan = is_text _ refl
+count_text of.Del = is_text _ refl
 
 fault_is_text : (f : CommandFault) → IsText (fault_text f)
 fault_is_text fault.UnknownCommand = is_text _ refl

@@ -49,6 +49,7 @@ each_name of.Strlen = refl
 each_name of.Dbsize = refl
 each_name of.Layout = refl
 each_name of.Scan = refl
+each_name of.Del = refl
 
 by_small : (word : List ℕ) → name_of_word word ≡ named_by (str_to_ascii_lowercase word)
 unfolding name_of_word

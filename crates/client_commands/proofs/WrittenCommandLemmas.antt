@@ -15,7 +15,9 @@ use Rattle.client_commands.specs.Reading.{exists_from, list_from, select_from, s
 use Rattle.client_commands.specs.Reading.{Found, read_from, set_from, move_from, ping_from, echo_from, counted, subcommand_from}
 use Rattle.client_commands.specs.Reading.{client_from, command_from, command_named, command_at}
 use Rattle.client_commands.specs.Scanning.{AskToScan, cursor_from, default_options, options_from, scan_from}
+use Rattle.client_commands.specs.Sections.{sections_from}
 use Rattle.client_commands.specs.declared.scanning.ScanOptions.{ScanOptions}
+use Rattle.client_commands.specs.declared.sections.Sections.{Sections}
 use Rattle.node_strings.proofs.NumberLemmas.{number_again}
 use Rattle.client_commands.specs.Words.{is_word, command_text, reading_word}
 use Rattle.client_commands.specs.declared.command.Command.{Command}
@@ -26,6 +28,8 @@ use Rattle.client_commands.specs.declared.command.CommandName.{CommandName}
 use Rattle.client_commands.specs.declared.command.CommandName.TheVariants as of
 use Rattle.client_commands.specs.declared.fault.CommandFault.{CommandFault}
 use Rattle.client_commands.specs.declared.fault.CommandFault.TheVariants.{BadCursor, UnknownSubcommand, WrongCount}
+use Rattle.client_commands.specs.Deleting.{AskToDelete}
+use Rattle.client_commands.proofs.DeleteLemmas.{delete_again}
 use Rattle.client_commands.proofs.WordLemmas.{named_again, small_is}
 use Rattle.client_commands.proofs.ArgumentLemmas.{name_again, value_again}
 use Rattle.client_commands.proofs.MoveLemmas.{layout_from_again}
@@ -178,11 +182,15 @@ command_again strings (ask.Set name value) h =
     says of.Set (name ∷ value ∷ []) strings (ask.Set name value) h.0 (set_again name value h.1 h.2)
 command_again strings (ask.Move name l) h =
     says of.Move (name ∷ layout_strings l) strings (ask.Move name l) h.0 (move_again name l (layout_from_again name l h.1 h.2 h.3))
-command_again strings ask.Info h = begins of.Info strings ask.Info h (λ args. refl)
+command_again strings (ask.Info sections) h =
+    word_and of.Info (λ words. sections_from words ≡ sections) strings (ask.Info sections) h
+    (λ args e. ap (λ (s : Sections). Ok (ask.Info s)) e)
 command_again strings ask.CountWritten h = says of.Dbsize [] strings ask.CountWritten h size_again
 command_again strings (ask.ShowLayout name) h = says of.Layout (name ∷ []) strings (ask.ShowLayout name) h.0 (show_again name h.1)
 command_again strings (ask.Scan cursor options) h =
     word_and of.Scan (AskToScan cursor options) strings (ask.Scan cursor options) h (λ args asks. scan_again cursor options args asks)
+command_again strings (ask.Delete deletion) h =
+    word_and of.Del (AskToDelete deletion) strings (ask.Delete deletion) h (λ args asks. delete_again deletion args asks)
 command_again strings (ask.Ping None) h = says of.Ping [] strings (ask.Ping None) h no_text_again
 command_again strings (ask.Ping (Some text)) h = says of.Ping (text ∷ []) strings (ask.Ping (Some text)) h (ping_again text)
 command_again strings (ask.Echo text) h = says of.Echo (text ∷ []) strings (ask.Echo text) h (echo_again text)

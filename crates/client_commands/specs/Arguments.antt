@@ -1,4 +1,3 @@
--- The contracts that docs/trusted.md lists do not depend on this file; other contracts and proofs do.
 -- The arguments of a command: the strings after its name.
 use Rattle.std.specs.Prelude.{ℕ, List, [], ◌∷◌, length, Bool, Option, None, Some, Result, Ok, Err, nat_lt, codes}
 use Rattle.std.specs.Prelude.{if◌then◌else◌}

@@ -8,7 +8,9 @@ use Rattle.tag.specs.declared.limits.TheConstants.{LONGEST_NAME, LONGEST_VALUE}
 use Rattle.layout.specs.Layout.{Layout, IsLawful}
 use Rattle.node_strings.specs.Strings.{Strings}
 use Rattle.client_commands.specs.Arguments.{hello_fault, login_fault}
+use Rattle.client_commands.specs.Deleting.{AskToDelete}
 use Rattle.client_commands.specs.Scanning.{AskToScan}
+use Rattle.client_commands.specs.Sections.{sections_from}
 use Rattle.client_commands.specs.Words.{is_word, reading_word}
 use Rattle.client_commands.specs.declared.command.Command.{Command}
 use Rattle.client_commands.specs.declared.command.Command.TheVariants as ask
@@ -75,10 +77,11 @@ AskFor strings (ask.Set name value) =
 AskFor strings (ask.Move name layout) =
     AreWordAndRest (codes "move") (name ∷ layout_strings layout) strings × IsShortName name × IsLawful layout
     × AreNodes layout.members
-AskFor strings ask.Info = Begins (codes "info") strings
+AskFor strings (ask.Info sections) = AreWordAnd (codes "info") (λ words. sections_from words ≡ sections) strings
 AskFor strings ask.CountWritten = AreWordAndRest (codes "dbsize") [] strings
 AskFor strings (ask.ShowLayout name) = AreWordAndRest (codes "layout") (name ∷ []) strings × IsShortName name
 AskFor strings (ask.Scan cursor options) = AreWordAnd (codes "scan") (AskToScan cursor options) strings
+AskFor strings (ask.Delete deletion) = AreWordAnd (codes "del") (AskToDelete deletion) strings
 AskFor strings (ask.Ping text) = AreWordAndRest (codes "ping") (text_strings text) strings
 AskFor strings (ask.Echo text) = AreWordAndRest (codes "echo") (text ∷ []) strings
 AskFor strings ask.ListCommands = Begins (codes "command") strings × (counts_commands strings ≡ false)

@@ -1,7 +1,10 @@
 pub mod Words
+pub mod Sections
 pub mod Patterns
 pub mod Scanning
 pub mod Arguments
+pub mod Deletion
+pub mod Deleting
 pub mod Layouts
 pub mod Command
 pub mod Reading

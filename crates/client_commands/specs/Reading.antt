@@ -1,4 +1,3 @@
--- The contracts that docs/trusted.md lists do not depend on this file; other contracts and proofs do.
 -- Which command the strings of a frame are, or what the first fault is.
 use Rattle.std.specs.Prelude.{ℕ, List, [], ◌∷◌, length, get_or, Option, Some, None, Result, Ok, Err, ◌==◌, codes}
 use Rattle.std.specs.Prelude.{if◌then◌else◌, nat_lt}
@@ -7,8 +6,10 @@ use Rattle.words.specs.Parts.{and_then}
 use Rattle.node_strings.specs.Strings.{Strings}
 use Rattle.client_commands.specs.Arguments.{checked_name, checked_value, only_argument, name_and_value}
 use Rattle.client_commands.specs.Arguments.{hello_fault, login_fault}
+use Rattle.client_commands.specs.Deleting.{delete_from}
 use Rattle.client_commands.specs.Layouts.{layout_from}
 use Rattle.client_commands.specs.Scanning.{scan_from}
+use Rattle.client_commands.specs.Sections.{sections_from}
 use Rattle.client_commands.specs.Words.{is_word, name_of_word, word_fault}
 use Rattle.client_commands.specs.declared.command.Command.{Command}
 use Rattle.client_commands.specs.declared.command.Command.TheVariants as ask
@@ -110,7 +111,7 @@ abbrev pub command_from : CommandName → Strings → Found
 command_from of.Get arguments = read_from of.Get wanted.Value arguments
 command_from of.Set arguments = set_from arguments
 command_from of.Move arguments = move_from arguments
-command_from of.Info arguments = Ok ask.Info
+command_from of.Info arguments = Ok (ask.Info (sections_from arguments))
 command_from of.Ping arguments = ping_from arguments
 command_from of.Echo arguments = echo_from arguments
 command_from of.Command arguments = list_from arguments
@@ -124,6 +125,7 @@ command_from of.Strlen arguments = read_from of.Strlen wanted.Length arguments
 command_from of.Dbsize arguments = size_from arguments
 command_from of.Layout arguments = show_from arguments
 command_from of.Scan arguments = scan_from arguments
+command_from of.Del arguments = delete_from arguments
 
 -- the command that a word names, if it names this one, or why it names none
 abbrev pub command_named : (word : List ℕ) → Option CommandName → Strings → Found

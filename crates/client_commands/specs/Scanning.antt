@@ -1,4 +1,3 @@
--- The contracts that docs/trusted.md lists do not depend on this file; other contracts and proofs do.
 -- The arguments of a SCAN.
 use Rattle.std.specs.Prelude.{◌≡◌, ◌<◌, ℕ, ◌-◌, ◌^◌, min, List, [], ◌∷◌, length, None, Some, codes}
 use Rattle.std.specs.Prelude.{Result, Ok, Err, ◌==◌, false, if◌then◌else◌, nat_lt}

@@ -1,4 +1,3 @@
--- The contracts that docs/trusted.md lists do not depend on this file; other contracts and proofs do.
 -- The names of commands.
 use Rattle.std.specs.Prelude.{ℕ, List, [], ◌∷◌, length, Bool, ◌||◌, if◌then◌else◌, Option, codes}
 use Rattle.std.specs.List.{find}
@@ -34,11 +33,13 @@ command_text of.Strlen = codes "strlen"
 command_text of.Dbsize = codes "dbsize"
 command_text of.Layout = codes "layout"
 command_text of.Scan = codes "scan"
+command_text of.Del = codes "del"
 
 -- the names of commands for a connection, for what a node knows of a value, and for what it keeps
 abbrev pub later_names : List CommandName
 later_names =
-    of.Hello ∷ of.Select ∷ of.Auth ∷ of.Exists ∷ of.Strlen ∷ of.Dbsize ∷ of.Layout ∷ of.Scan ∷ []
+    of.Hello ∷ of.Select ∷ of.Auth ∷ of.Exists ∷ of.Strlen ∷ of.Dbsize ∷ of.Layout ∷ of.Scan ∷ of.Del
+    ∷ []
 
 -- all names of commands
 abbrev pub all_names : List CommandName

@@ -1,13 +1,15 @@
 ghost use Rattle.std.specs.Prelude.{◌≡◌, Some};
 ghost use Rattle.client_commands.specs.Words.{command_text, count_of_names};
 
+use crate::deletion::Deletion;
 use crate::scanning::ScanOptions;
+use crate::sections::Sections;
 use bytes::Bytes;
 use layout::Layout;
 use std::fmt;
 
 /// A client's command. The names, the values and the texts are strings of the frame, and no byte of them is copied.
-#[derive(Debug, PartialEq, Eq, Drop)]
+#[derive(Debug, Drop)]
 pub enum Command {
     /// `GET name`, `STRLEN name` or `EXISTS name`: reads a name, and tells this of its value.
     Read { wanted: Wanted, name: Bytes },
@@ -15,14 +17,16 @@ pub enum Command {
     Set { name: Bytes, value: Bytes },
     /// `MOVE name k node ..`: moves a name to the layout of this k and these nodes.
     Move { name: Bytes, layout: Layout },
-    /// `INFO`: what the node tells about itself.
-    Info,
+    /// `INFO section ..`: what the node tells about itself, in these sections.
+    Info(Sections),
     /// `DBSIZE`: of how many names the node keeps a written version.
     CountWritten,
     /// `LAYOUT name`: the last layout of a name that the node knows.
     ShowLayout(Bytes),
     /// `SCAN cursor MATCH pattern COUNT count`: the next names of which the node keeps a written version.
     Scan { cursor: u64, options: ScanOptions },
+    /// `DEL name ..`: writes the empty value to each of these names, and so frees what it keeps of older values.
+    Delete(Deletion),
     /// `PING` or `PING text`: whether the node answers.
     Ping(Option<Bytes>),
     /// `ECHO text`: the text.
@@ -79,6 +83,7 @@ pub enum CommandName {
     Dbsize,
     Layout,
     Scan,
+    Del,
 }
 
 impl CommandName {
@@ -104,6 +109,7 @@ impl CommandName {
             CommandName::Dbsize => "dbsize",
             CommandName::Layout => "layout",
             CommandName::Scan => "scan",
+            CommandName::Del => "del",
         }
     }
 }
@@ -112,7 +118,7 @@ impl CommandName {
 pub fn count_names() -> u64
     ensures { result ≡ count_of_names }
 {
-    17
+    18
 }
 
 /// The name in small letters.

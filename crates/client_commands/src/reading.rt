@@ -26,9 +26,11 @@ use crate::arguments::{
     take_first,
 };
 use crate::command::{Command, CommandName, Wanted};
+use crate::deletion::read_delete;
 use crate::fault::CommandFault;
 use crate::layouts::read_layout;
 use crate::scanning::read_scan;
+use crate::sections::read_sections;
 use crate::vocabulary::{fault_of, is_word, name_of};
 use bytes::Bytes;
 use frames::Frame;
@@ -70,7 +72,7 @@ fn read_arguments(name: CommandName, arguments: Vec<Bytes>) -> Result<Command, C
         CommandName::Get => read_name(name, Wanted::Value, arguments),
         CommandName::Set => read_set(arguments),
         CommandName::Move => read_move(arguments),
-        CommandName::Info => Ok(Command::Info),
+        CommandName::Info => Ok(Command::Info(read_sections(&arguments))),
         CommandName::Ping => read_ping(arguments),
         CommandName::Echo => read_echo(arguments),
         CommandName::Command => read_list(&arguments),
@@ -84,6 +86,7 @@ fn read_arguments(name: CommandName, arguments: Vec<Bytes>) -> Result<Command, C
         CommandName::Dbsize => read_size(&arguments),
         CommandName::Layout => read_show(arguments),
         CommandName::Scan => read_scan(arguments),
+        CommandName::Del => read_delete(arguments),
     }
 }
 

@@ -63,6 +63,8 @@ fn later_name_of(word: &[u8]) -> Option<CommandName>
         Some(CommandName::Layout)
     } else if is_word(word, b"scan") {
         Some(CommandName::Scan)
+    } else if is_word(word, b"del") {
+        Some(CommandName::Del)
     } else {
         None
     }
