@@ -1,4 +1,3 @@
--- The contracts that docs/trusted.md lists do not depend on this file; other contracts and proofs do.
 -- Letters and notices of this crate's code, as values of the definitions of `deeds`.
 use Rattle.std.specs.Prelude.{List, map}
 use Rattle.deeds.specs.Named.{NamedLetter as Named}

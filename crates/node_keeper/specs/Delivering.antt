@@ -1,4 +1,3 @@
--- The contracts that docs/trusted.md lists do not depend on this file; other contracts and proofs do.
 -- What becomes of a letter that has come.
 use Rattle.std.specs.Prelude.{◌≡◌, ℕ, Bool, true, false, if◌then◌else◌, List, [], ◌∷◌}
 use Rattle.std.specs.Prelude.{Option, None, Some, option_to_list}

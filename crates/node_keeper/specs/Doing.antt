@@ -1,4 +1,3 @@
--- The contracts that docs/trusted.md lists do not depend on this file; other contracts and proofs do.
 -- What a node does with the object of a name.
 use Rattle.std.specs.Prelude.{ℕ, List}
 use Rattle.letter.specs.declared.letter.Letter.{Letter}

@@ -1,4 +1,3 @@
--- The contracts that docs/trusted.md lists do not depend on this file; other contracts and proofs do.
 -- What a node keeps of all objects, by name.
 use Rattle.std.specs.Prelude.{◌≡◌, ◌≢◌, ℕ, nat_eq, List, Option, None, Some, slice_get, sum_by}
 use Rattle.std.specs.Cmp.Lexicographic.{pointwise}

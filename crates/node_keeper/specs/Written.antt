@@ -1,4 +1,3 @@
--- The contracts that docs/trusted.md lists do not depend on this file; other contracts and proofs do.
 -- Of which objects a node keeps a written version.
 use Rattle.std.specs.Prelude.{ℕ, Bool, false, not, List, length, slice_range, min, Option, None, Some}
 use Rattle.std.specs.Prelude.{◌==◌, if◌then◌else◌}
