@@ -1,3 +1,4 @@
 pub mod TellLemmas
 pub mod ServedLemmas
+pub mod EndLemmas
 pub mod WaitLemmas

@@ -15,11 +15,11 @@ use Rattle.node_clients.specs.Services.{service_dues, service_frames, service_no
 use Rattle.node_clients.specs.declared.desk.Desk.{Desk}
 
 -- one thing after another, and then more
-pub served_then : (ticks : ℕ) (a b c : Desk) (first second : List Service) → AreServicesDone ticks a first b →
-    AreServicesDone ticks b second c → AreServicesDone ticks a (first ++ second) c
-served_then ticks a b c [] second same rest = subst (λ d. AreServicesDone ticks d second c) same rest
-served_then ticks a b c (service ∷ first) second done rest =
-    (done.0, done.1, served_then ticks done.0 b c first second done.2 rest)
+pub served_then : (ticks : ℕ) (delta : Option ℕ) (a b c : Desk) (first second : List Service) → AreServicesDone ticks delta a first b →
+    AreServicesDone ticks delta b second c → AreServicesDone ticks delta a (first ++ second) c
+served_then ticks delta a b c [] second same rest = subst (λ d. AreServicesDone ticks delta d second c) same rest
+served_then ticks delta a b c (service ∷ first) second done rest =
+    (done.0, done.1, served_then ticks delta done.0 b c first second done.2 rest)
 
 pub frames_append : (first second : List Service) → all_frames (first ++ second) ≡ all_frames first ++ all_frames second
 frames_append [] second = refl
@@ -44,10 +44,10 @@ more_grown u v w x y z first second both =
     second ∙ ap (λ xs. xs ++ y) first ∙ append_assoc u x y ∙ ap (λ xs. u ++ xs) (sym both)
 
 -- the same, with what there is to do
-pub has_served_then : (ticks : ℕ) (a b c : Desk) (u v w : Work) (first second : List Service) →
-    HasServed ticks a u first b v → HasServed ticks b v second c w → HasServed ticks a u (first ++ second) c w
-has_served_then ticks a b c u v w first second f s = record {
-  served = served_then ticks a b c first second f.served s.served;
+pub has_served_then : (ticks : ℕ) (delta : Option ℕ) (a b c : Desk) (u v w : Work) (first second : List Service) →
+    HasServed ticks delta a u first b v → HasServed ticks delta b v second c w → HasServed ticks delta a u (first ++ second) c w
+has_served_then ticks delta a b c u v w first second f s = record {
+  served = served_then ticks delta a b c first second f.served s.served;
   told = more_grown u.to_clients.items v.to_clients.items w.to_clients.items (all_frames first) (all_frames second)
       (all_frames (first ++ second)) f.told s.told (frames_append first second);
   due = more_grown u.due.items v.due.items w.due.items (all_dues first) (all_dues second) (all_dues (first ++ second))
@@ -57,10 +57,10 @@ has_served_then ticks a b c u v w first second f s = record {
 }
 
 -- one thing happens
-pub one_served : (ticks : ℕ) (a b : Desk) (u v : Work) (service : Service) → IsServiceDone ticks a service b →
+pub one_served : (ticks : ℕ) (delta : Option ℕ) (a b : Desk) (u v : Work) (service : Service) → IsServiceDone ticks delta a service b →
     v.to_clients.items ≡ u.to_clients.items ++ service_frames service → v.due.items ≡ u.due.items ++ service_dues service →
-    v.notices.items ≡ u.notices.items ++ service_notices service → HasServed ticks a u (service ∷ []) b v
-one_served ticks a b u v service served told due notices = record {
+    v.notices.items ≡ u.notices.items ++ service_notices service → HasServed ticks delta a u (service ∷ []) b v
+one_served ticks delta a b u v service served told due notices = record {
   served = (b, served, refl);
   told = told ∙ ap (λ xs. u.to_clients.items ++ xs) (sym (append-nil (service_frames service)));
   due = due ∙ ap (λ xs. u.due.items ++ xs) (sym (append-nil (service_dues service)));

@@ -11,6 +11,7 @@ use Rattle.node_clients.specs.declared.connection.Connection.{Connection}
 use Rattle.node_clients.specs.declared.connection.State.{State}
 use Rattle.node_clients.specs.declared.connection.State.TheVariants.{Busy, Idle, Quit}
 use Rattle.node_clients.specs.declared.connections.Connections.{Connections}
+use Rattle.node_clients.specs.declared.next.Next.{Next}
 use Rattle.node_clients.specs.Calls.{waiting_for}
 use Rattle.node_clients.specs.Desk.{IsDue, IsIdleFor, NoneWaits, is_connected, listener}
 use Rattle.node_clients.specs.Served.{AreServicesDone, IsArrived, IsServiceDone}
@@ -61,7 +62,7 @@ busy_gives_none : (connection : Option Connection) → doing connection ≡ Busy
 busy_gives_none None state next = absurd (cc)
 busy_gives_none (Some connection) state next = go connection.state connection.waiting.items state next
   where
-    go : (s : State) (waiting : List (List (List ℕ))) → s ≡ Busy → gives_next_of s waiting ≡ true → ⊥
+    go : (s : State) (waiting : List Next) → s ≡ Busy → gives_next_of s waiting ≡ true → ⊥
     go Busy waiting e next = absurd (false≢true next)
     go Quit waiting e next = absurd (false≢true next)
     go Idle waiting e next = absurd (cc)
@@ -70,7 +71,7 @@ quit_gives_none : (connection : Option Connection) → doing connection ≡ Quit
 quit_gives_none None state next = absurd (cc)
 quit_gives_none (Some connection) state next = go connection.state connection.waiting.items state next
   where
-    go : (s : State) (waiting : List (List (List ℕ))) → s ≡ Quit → gives_next_of s waiting ≡ true → ⊥
+    go : (s : State) (waiting : List Next) → s ≡ Quit → gives_next_of s waiting ≡ true → ⊥
     go Busy waiting e next = absurd (false≢true next)
     go Quit waiting e next = absurd (false≢true next)
     go Idle waiting e next = absurd (cc)
@@ -104,31 +105,33 @@ OthersWait clients client due =
     (other : ℕ) → other ≢ client → has_next (get nat_eq clients.by_number other) ≡ true → IsDue due other
 
 -- the next command of a client was carried out: it began a call, was answered, or ended the connection
-pub command_waits : (ticks : ℕ) (a b : Desk) (client : ℕ) (service : Service) (due : List ℕ) → IsOfCommand client service →
-    IsServiceDone ticks a service b → OthersWait a.clients client due → NoneWaits b.clients (due ++ service_dues service)
-command_waits ticks a b client (Service.Begins other command id) due of done waits =
+pub command_waits : (ticks : ℕ) (delta : Option ℕ) (a b : Desk) (client : ℕ) (service : Service) (due : List ℕ) →
+    IsOfCommand client service →
+    IsServiceDone ticks delta a service b → OthersWait a.clients client due → NoneWaits b.clients (due ++ service_dues service)
+command_waits ticks delta a b client (Service.Begins other command id) due of done waits =
     let taken = done.2 in
     subst (λ c. NoneWaits c (due ++ [])) (sym done.4.clients)
     (subst (λ n. OthersWait a.clients n due → NoneWaits taken.clients (due ++ [])) of
     (λ rest. one_waits a.clients taken.clients other due [] done.3.others
     (λ next. absurd (busy_gives_none (get nat_eq taken.clients.by_number other) done.3.taken.2 next)) rest) waits)
-command_waits ticks a b client (Service.Replies other command answer) due of done waits =
+command_waits ticks delta a b client (Service.Replies other command answer) due of done waits =
     subst (λ n. OthersWait a.clients n due → NoneWaits b.clients (due ++ (other ∷ []))) of
     (λ rest. one_waits a.clients b.clients other due (other ∷ [])
     (λ n apart. done.2.idle.others n apart ∙ done.1.others n apart)
     (λ next. due_after due (other ∷ []) other (inl refl)) rest) waits
-command_waits ticks a b client (Service.Quits other) due of done waits =
+command_waits ticks delta a b client (Service.Quits other) due of done waits =
     subst (λ n. OthersWait a.clients n due → NoneWaits b.clients (due ++ [])) of
     (λ rest. one_waits a.clients b.clients other due []
     (λ n apart. done.4.others n apart ∙ done.3.others n apart)
     (λ next. absurd (quit_gives_none (get nat_eq b.clients.by_number other) done.4.state next)) rest) waits
-command_waits ticks a b client (Service.Arrives other command) due of done waits = absurd of
-command_waits ticks a b client (Service.Leaves other) due of done waits = absurd of
-command_waits ticks a b client (Service.Ends name ended what told) due of done waits = absurd of
-command_waits ticks a b client (Service.Ages id) due of done waits = absurd of
-command_waits ticks a b client (Service.GivesUp id told) due of done waits = absurd of
-command_waits ticks a b client (Service.Releases id told) due of done waits = absurd of
-command_waits ticks a b client Service.Drops due of done waits = absurd of
+command_waits ticks delta a b client (Service.Arrives other command) due of done waits = absurd of
+command_waits ticks delta a b client (Service.Leaves other) due of done waits = absurd of
+command_waits ticks delta a b client (Service.Ends name ended answer told) due of done waits = absurd of
+command_waits ticks delta a b client (Service.Passes name ended other rest) due of done waits = absurd of
+command_waits ticks delta a b client (Service.Ages id) due of done waits = absurd of
+command_waits ticks delta a b client (Service.GivesUp id told) due of done waits = absurd of
+command_waits ticks delta a b client (Service.Releases id told) due of done waits = absurd of
+command_waits ticks delta a b client Service.Drops due of done waits = absurd of
 
 -- a command comes: its connection is due
 pub arrival_waits : (a b : Desk) (client : ℕ) (command : List (List ℕ)) (due : List ℕ) → IsArrived a client command b →
@@ -139,42 +142,45 @@ arrival_waits a b client command due arrived waits =
     (λ other apart next. inr (waits other next)))
 
 -- whatever happens but that a command comes: what waited was due, or is due now
-pub service_waits : (ticks : ℕ) (a b : Desk) (service : Service) (due : List ℕ) → IsNoArrival service →
-    IsServiceDone ticks a service b → NoneWaits a.clients due → NoneWaits b.clients (due ++ service_dues service)
-service_waits ticks a b (Service.Arrives client command) due none done waits = absurd none
-service_waits ticks a b (Service.Leaves client) due none done waits =
+pub service_waits : (ticks : ℕ) (delta : Option ℕ) (a b : Desk) (service : Service) (due : List ℕ) → IsNoArrival service →
+    IsServiceDone ticks delta a service b → NoneWaits a.clients due → NoneWaits b.clients (due ++ service_dues service)
+service_waits ticks delta a b (Service.Arrives client command) due none done waits = absurd none
+service_waits ticks delta a b (Service.Leaves client) due none done waits =
     one_waits a.clients b.clients client due [] done.others
     (λ next. absurd (gone_gives_none (get nat_eq b.clients.by_number client) (ap is_some done.gone) next))
     (λ other apart next. waits other next)
-service_waits ticks a b (Service.Begins client command id) due none done waits =
-    command_waits ticks a b client (Service.Begins client command id) due refl done (λ other apart next. waits other next)
-service_waits ticks a b (Service.Replies client command answer) due none done waits =
-    command_waits ticks a b client (Service.Replies client command answer) due refl done (λ other apart next. waits other next)
-service_waits ticks a b (Service.Quits client) due none done waits =
-    command_waits ticks a b client (Service.Quits client) due refl done (λ other apart next. waits other next)
-service_waits ticks a b (Service.Ends name ended what told) due none done waits =
-    subst (λ n. NoneWaits b.clients (due ++ told_clients n)) (sym done.1.who)
-    (told_waits a b.clients (waiting_for a.calls ended.id) due done.1.idle waits)
-service_waits ticks a b (Service.Ages id) due none done waits = same_waits a.clients b.clients due done.1.clients waits
-service_waits ticks a b (Service.GivesUp id told) due none done waits =
+service_waits ticks delta a b (Service.Begins client command id) due none done waits =
+    command_waits ticks delta a b client (Service.Begins client command id) due refl done (λ other apart next. waits other next)
+service_waits ticks delta a b (Service.Replies client command answer) due none done waits =
+    command_waits ticks delta a b client (Service.Replies client command answer) due refl done (λ other apart next. waits other next)
+service_waits ticks delta a b (Service.Quits client) due none done waits =
+    command_waits ticks delta a b client (Service.Quits client) due refl done (λ other apart next. waits other next)
+service_waits ticks delta a b (Service.Ends name ended answer told) due none done waits =
+    subst (λ n. NoneWaits b.clients (due ++ told_clients n)) (sym done.2.who)
+    (told_waits a b.clients (waiting_for a.calls ended.id) due done.2.idle waits)
+service_waits ticks delta a b (Service.Passes name ended client rest) due none done waits =
+    one_waits a.clients b.clients client due (client ∷ []) done.back.others
+    (λ next. due_after due (client ∷ []) client (inl refl)) (λ other apart next. waits other next)
+service_waits ticks delta a b (Service.Ages id) due none done waits = same_waits a.clients b.clients due done.1.clients waits
+service_waits ticks delta a b (Service.GivesUp id told) due none done waits =
     let older = done.2 in
     subst (λ n. NoneWaits b.clients (due ++ told_clients n)) (sym done.4.who)
     (told_waits older b.clients (waiting_for older.calls id) due done.4.idle
     (subst (λ c. NoneWaits c due) (sym done.3.clients) waits))
-service_waits ticks a b (Service.Releases id told) due none done waits =
+service_waits ticks delta a b (Service.Releases id told) due none done waits =
     let older = done.2 in
     subst (λ n. NoneWaits b.clients (due ++ told_clients n)) (sym done.4.who)
     (told_waits older b.clients (waiting_for older.calls id) due done.4.idle
     (subst (λ c. NoneWaits c due) (sym done.3.clients) waits))
-service_waits ticks a b Service.Drops due none done waits = same_waits a.clients b.clients due done.0 waits
+service_waits ticks delta a b Service.Drops due none done waits = same_waits a.clients b.clients due done.0 waits
 
 -- the same of several things, one after another
-pub services_wait : (ticks : ℕ) (a b : Desk) (services : List Service) (due : List ℕ) →
-    AllByRecursion IsNoArrival services → AreServicesDone ticks a services b → NoneWaits a.clients due →
+pub services_wait : (ticks : ℕ) (delta : Option ℕ) (a b : Desk) (services : List Service) (due : List ℕ) →
+    AllByRecursion IsNoArrival services → AreServicesDone ticks delta a services b → NoneWaits a.clients due →
     NoneWaits b.clients (due ++ all_dues services)
-services_wait ticks a b [] due none done waits =
+services_wait ticks delta a b [] due none done waits =
     same_waits a.clients b.clients due (ap (λ (d : Desk). d.clients) done) waits
-services_wait ticks a b (service ∷ services) due none done waits =
+services_wait ticks delta a b (service ∷ services) due none done waits =
     subst (λ xs. NoneWaits b.clients xs) (append_assoc due (service_dues service) (all_dues services))
-    (services_wait ticks done.0 b services (due ++ service_dues service) none.1 done.2
-    (service_waits ticks a done.0 service due none.0 done.1 waits))
+    (services_wait ticks delta done.0 b services (due ++ service_dues service) none.1 done.2
+    (service_waits ticks delta a done.0 service due none.0 done.1 waits))

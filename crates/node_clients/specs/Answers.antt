@@ -1,15 +1,16 @@
--- The contracts that docs/trusted.md lists do not depend on this file; other contracts and proofs do.
 -- What the clients of a node are sent.
-use Rattle.std.specs.Prelude.{ℕ, ◌==◌, Bool, if◌then◌else◌, List, [], ◌∷◌, length, Option}
+use Rattle.std.specs.Prelude.{ℕ, ◌==◌, Bool, if◌then◌else◌, List, [], ◌∷◌, length, Option, None, Some}
 use Rattle.record.specs.Sending.{value_or_empty}
 use Rattle.record.specs.declared.call.Operation.{Operation}
 use Rattle.record.specs.declared.call.Operation.TheVariants as operation
 use Rattle.local_object.specs.declared.progress.Ended.{Ended}
 use Rattle.client_commands.specs.Answers.{sent_strings}
+use Rattle.client_commands.specs.Deletion.{count_of}
 use Rattle.client_commands.specs.declared.answer.Answer.{Answer}
 use Rattle.client_commands.specs.declared.answer.Answer.TheVariants as answer
 use Rattle.client_commands.specs.declared.command.Wanted.{Wanted}
 use Rattle.client_commands.specs.declared.command.Wanted.TheVariants as wanted
+use Rattle.client_commands.specs.Deletion.{Deletion}
 use Rattle.node_strings.specs.Arrival.{client_address}
 use Rattle.node_effects.specs.Work.{Growth, IsGrown, no_growth}
 use Rattle.node_effects.specs.declared.work.Work.{Work}
@@ -30,6 +31,10 @@ answer_growth is_there client answer = if is_there then answer_sent client answe
 abbrev pub quit_growth : (client : ℕ) → Growth
 quit_growth client =
     record no_growth { to_clients = answer_frame client answer.Ok ∷ (client_address client ∷ []) ∷ [] }
+
+-- what is added to a node's work when a client's connection, if it is there, is due and its client is sent nothing
+abbrev pub due_growth : (is_there : Bool) → (client : ℕ) → Growth
+due_growth is_there client = if is_there then record no_growth { due = client ∷ [] } else no_growth
 
 -- the work grew by frames to clients and by connections whose next command is due, and by nothing else
 pub record TellsClients (before after : Work) : Type 0 where
@@ -54,3 +59,8 @@ kind_answer what operation.Move value = answer.Ok
 -- the answer that the client of an answered call gets, who wants this of the value of a read
 abbrev pub ended_answer : Wanted → Ended → Answer
 ended_answer what ended = kind_answer what ended.kind ended.value
+
+-- the answer to a command of which a call was the last one: to a DEL, the number of its names, and otherwise this one
+abbrev pub last_answer : Option Deletion → Answer → Answer
+last_answer None otherwise = otherwise
+last_answer (Some deletion) otherwise = answer.Number (count_of deletion)

@@ -1,10 +1,14 @@
--- The contracts that docs/trusted.md lists do not depend on this file; other contracts and proofs do.
 -- The calls that are open at a node.
 use Rattle.std.specs.Prelude.{ℕ, ◌+◌, ◌-◌, ◌%◌, ◌^◌, ◌==◌, ◌||◌, Bool, false, min, nat_eq, nat_lt}
-use Rattle.std.specs.Prelude.{Option, None, Some}
+use Rattle.std.specs.Prelude.{List, Option, None, Some}
 use Rattle.indexmap.specs.IndexMap.{IndexMap, get}
+use Rattle.local_object.specs.declared.progress.Ended.{Ended}
+use Rattle.client_commands.specs.Deletion.{left_over}
+use Rattle.client_commands.specs.declared.answer.Answer.{Answer}
 use Rattle.client_commands.specs.declared.command.Wanted.{Wanted}
+use Rattle.client_commands.specs.Deletion.{Deletion}
 use Rattle.client_commands.specs.declared.command.Wanted.TheVariants as wanted
+use Rattle.node_clients.specs.Answers.{ended_answer, last_answer}
 use Rattle.node_clients.specs.declared.open_call.OpenCall.{OpenCall}
 use Rattle.node_clients.specs.declared.open_call.Aged.{Aged}
 
@@ -25,6 +29,24 @@ waiting_for calls id = client_waiting (call_under calls id)
 abbrev pub wanted_by : Option OpenCall → Wanted
 wanted_by None = wanted.Value
 wanted_by (Some call) = call.wanted
+
+-- the DEL of which a call is one of the writes, if it is
+abbrev pub deletion_of : Option OpenCall → Option Deletion
+deletion_of None = None
+deletion_of (Some call) = call.deletion
+
+-- what is left of a DEL, if there is one, when its next write has ended
+abbrev pub left_of : (delta : Option ℕ) → Option Deletion → Option Deletion
+left_of delta None = None
+left_of delta (Some deletion) = left_over delta deletion
+
+-- what is left of the DEL of which a call is one of the writes, when the call has ended
+abbrev pub rest_of : (delta : Option ℕ) → Option OpenCall → Option Deletion
+rest_of delta call = left_of delta (deletion_of call)
+
+-- the answer that the client of a call gets when the call has ended, and nothing is left of its command
+abbrev pub call_answer : Option OpenCall → Ended → Answer
+call_answer call ended = last_answer (deletion_of call) (ended_answer (wanted_by call) ended)
 
 -- the same call, if there is one, but no client waits for it
 abbrev pub with_nobody : Option OpenCall → Option OpenCall

@@ -1,12 +1,20 @@
--- The contracts that docs/trusted.md lists do not depend on this file; other contracts and proofs do.
 -- What waits on the connections of clients, and what the connections are doing.
-use Rattle.std.specs.Prelude.{◌≡◌, ℕ, Bool, true, false, List, [], ◌∷◌, Option, Some, None}
+use Rattle.std.specs.Prelude.{◌≡◌, Bool, true, false, List, [], ◌∷◌, Option, Some, None, Ok}
+use Rattle.client_commands.specs.Reading.{Found, command_at}
+use Rattle.client_commands.specs.declared.command.Command.TheVariants as ask
 use Rattle.node_clients.specs.declared.connection.Connection.{Connection}
 use Rattle.node_clients.specs.declared.connection.State.{State}
 use Rattle.node_clients.specs.declared.connection.State.TheVariants.{Idle, Busy, Quit}
+use Rattle.node_clients.specs.declared.next.Next.{Next}
+use Rattle.node_clients.specs.declared.next.Next.TheVariants as next
 
--- the commands that wait on a connection, if there is one; each command is a list of strings
-abbrev pub waiting_on : Option Connection → List (List (List ℕ))
+-- the command for which the next thing to be done asks: that of a frame that came, or what is left of a DEL
+abbrev pub asked : Next → Found
+asked (next.Came frame) = command_at frame
+asked (next.Rest deletion) = Ok (ask.Delete deletion)
+
+-- what waits on a connection, if there is one
+abbrev pub waiting_on : Option Connection → List Next
 waiting_on None = []
 waiting_on (Some connection) = connection.waiting.items
 
@@ -16,7 +24,7 @@ doing None = Idle
 doing (Some connection) = connection.state
 
 -- whether a connection in this state, on which these commands wait, gives the next one
-abbrev pub gives_next_of : State → List (List (List ℕ)) → Bool
+abbrev pub gives_next_of : State → List Next → Bool
 gives_next_of Idle [] = false
 gives_next_of Idle (command ∷ waiting) = true
 gives_next_of Busy waiting = false
@@ -31,16 +39,16 @@ abbrev pub has_next : Option Connection → Bool
 has_next None = false
 has_next (Some connection) = gives_next connection
 
--- How a connection changes when its next command is taken: it gives the oldest command that waits, and is then busy. If
+-- How a connection changes when its next command is taken: it gives the first command that waits, and is then busy. If
 -- it is not idle, or no command waits, it gives none and does not change.
-abbrev pub TakesNext : Connection → Connection → Option (List (List ℕ)) → Type 0
+abbrev pub TakesNext : Connection → Connection → Option Next → Type 0
 TakesNext old new (Some command) =
     (old.state ≡ Idle) × (old.waiting.items ≡ command ∷ new.waiting.items) × (new.state ≡ Busy)
 TakesNext old new None =
     ((old.state ≡ Idle) → old.waiting.items ≡ []) × (new.waiting.items ≡ old.waiting.items) × (new.state ≡ old.state)
 
 -- how a connection changes when its next command is taken; a missing one counts as idle, without waiting commands
-abbrev pub TakesNextAt : Option Connection → Option Connection → Option (List (List ℕ)) → Type 0
+abbrev pub TakesNextAt : Option Connection → Option Connection → Option Next → Type 0
 TakesNextAt old new (Some command) =
     (doing old ≡ Idle) × (waiting_on old ≡ command ∷ waiting_on new) × (doing new ≡ Busy)
 TakesNextAt old new None =

@@ -1,15 +1,16 @@
--- The contracts that docs/trusted.md lists do not depend on this file; other contracts and proofs do.
 -- Which clients are told, and what a node counts.
 use Rattle.std.specs.Prelude.{◌≡◌, ◌≢◌, ◌⊎◌, ℕ, ◌+◌, ◌-◌, ◌^◌, min, nat_eq, Bool, true, false, if◌then◌else◌}
-use Rattle.std.specs.Prelude.{List, [], ◌∷◌, Option, None, Some, is_some}
+use Rattle.std.specs.Prelude.{List, [], ◌∷◌, Option, None, Some, IsSome, is_some}
 use Rattle.indexmap.specs.IndexMap.{get}
 use Rattle.node_clients.specs.Connections.{doing, has_next, waiting_on}
 use Rattle.node_clients.specs.declared.connection.Connection.{Connection}
 use Rattle.node_clients.specs.declared.connection.State.TheVariants.{Idle}
 use Rattle.node_clients.specs.declared.connections.Connections.{Connections}
+use Rattle.node_clients.specs.declared.next.Next.TheVariants as next
 use Rattle.client_commands.specs.declared.answer.Answer.{Answer}
+use Rattle.client_commands.specs.Deletion.{Deletion}
 use Rattle.node_effects.specs.Work.{Growth, no_growth}
-use Rattle.node_clients.specs.Answers.{answer_growth}
+use Rattle.node_clients.specs.Answers.{answer_growth, due_growth}
 use Rattle.node_clients.specs.declared.counts.Counts.{Counts}
 use Rattle.node_clients.specs.declared.desk.Desk.{Desk}
 
@@ -36,6 +37,19 @@ abbrev pub growth_for : Desk → (client : Option ℕ) → Answer → Growth
 growth_for desk None answer = no_growth
 growth_for desk (Some client) answer = answer_growth (is_connected desk client) client answer
 
+-- what is added to a node's work for the client of a call that ended, if there is one whose connection is there: the
+-- answer, or only that the client is due, if something is left of its DEL
+abbrev pub end_growth : Desk → (client : Option ℕ) → (rest : Option Deletion) → Answer → Growth
+end_growth desk None rest answer = no_growth
+end_growth desk (Some client) None answer = answer_growth (is_connected desk client) client answer
+end_growth desk (Some client) (Some rest) answer = due_growth (is_connected desk client) client
+
+-- whether the client of a call that ended is answered: not if something is left of its DEL
+abbrev pub is_answered_for : Desk → (client : Option ℕ) → (rest : Option Deletion) → Bool
+is_answered_for desk None rest = false
+is_answered_for desk (Some client) None = is_connected desk client
+is_answered_for desk (Some client) (Some rest) = false
+
 -- the connection of a client is idle, with the commands that waited on it, and all others are as they were
 pub record IsIdleAgain (old : Connections) (client : ℕ) (new : Connections) : Type 0 where
   pub stays : is_some (get nat_eq new.by_number client) ≡ is_some (get nat_eq old.by_number client)
@@ -47,6 +61,23 @@ pub record IsIdleAgain (old : Connections) (client : ℕ) (new : Connections) : 
 abbrev pub IsIdleFor : (old : Connections) → (client : Option ℕ) → (new : Connections) → Type 0
 IsIdleFor old None new = new ≡ old
 IsIdleFor old (Some client) new = IsIdleAgain old client new
+
+-- what is left of a DEL waits on the connection of a client, if it is there, before what waited there; the connection
+-- is idle, and all others are as they were
+pub record IsPutBack (old : Connections) (client : ℕ) (rest : Deletion) (new : Connections) : Type 0 where
+  pub stays : is_some (get nat_eq new.by_number client) ≡ is_some (get nat_eq old.by_number client)
+  pub state : doing (get nat_eq new.by_number client) ≡ Idle
+  pub waiting : IsSome (get nat_eq old.by_number client) →
+      waiting_on (get nat_eq new.by_number client) ≡ next.Rest rest ∷ waiting_on (get nat_eq old.by_number client)
+  pub others : (other : ℕ) → other ≢ client → get nat_eq new.by_number other ≡ get nat_eq old.by_number other
+
+-- how the connections change for the client of a call that ended, if there is one: its connection is idle again, with
+-- what is left of its DEL before what waited, if something is left
+abbrev pub IsEndedFor : (old : Connections) → (client : Option ℕ) → (rest : Option Deletion) → (new : Connections) →
+    Type 0
+IsEndedFor old None rest new = new ≡ old
+IsEndedFor old (Some client) None new = IsIdleAgain old client new
+IsEndedFor old (Some client) (Some rest) new = IsPutBack old client rest new
 
 -- one more, up to 2^64 - 1
 abbrev pub one_more_counted : ℕ → ℕ

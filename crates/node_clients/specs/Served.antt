@@ -1,17 +1,19 @@
--- The contracts that docs/trusted.md lists do not depend on this file; other contracts and proofs do.
 -- How the desk of a node changes with each thing that it does for its clients.
 use Rattle.std.specs.Prelude.{◌≡◌, ◌≢◌, ℕ, true, false, List, [], ◌∷◌, ◌++◌, Option, None, Some, is_some, IsSome, Ok}
-use Rattle.node_clients.specs.Connections.{TakesNextAt, doing, waiting_on}
+use Rattle.node_clients.specs.Connections.{TakesNextAt, asked, doing, waiting_on}
 use Rattle.node_clients.specs.declared.connection.State.TheVariants.{Quit}
-use Rattle.client_commands.specs.Reading.{command_at}
+use Rattle.client_commands.specs.Deletion.{name_now}
 use Rattle.client_commands.specs.declared.command.Command.{Command}
 use Rattle.client_commands.specs.declared.command.Command.TheVariants as ask
 use Rattle.client_commands.specs.declared.command.Wanted.TheVariants as wanted
+use Rattle.client_commands.specs.Deletion.{Deletion}
+use Rattle.node_clients.specs.declared.next.Next.{Next}
+use Rattle.node_clients.specs.declared.next.Next.TheVariants as next
 use Rattle.node_strings.specs.Strings.{Strings}
 use Rattle.node_effects.specs.declared.work.Work.{Work}
-use Rattle.node_clients.specs.Calls.{becomes_late, call_under, is_move_open, older_call, waiting_for}
-use Rattle.node_clients.specs.Calls.{wanted_by, with_nobody}
-use Rattle.node_clients.specs.Desk.{IsIdleAgain, IsIdleFor, connection_of, has_listener, listener}
+use Rattle.node_clients.specs.Calls.{becomes_late, call_answer, call_under, is_move_open, older_call, rest_of}
+use Rattle.node_clients.specs.Calls.{waiting_for, with_nobody}
+use Rattle.node_clients.specs.Desk.{IsIdleAgain, IsIdleFor, IsPutBack, connection_of, has_listener, listener}
 use Rattle.node_clients.specs.Desk.{with_drop, with_give_up, with_told}
 use Rattle.node_clients.specs.Services.{Service, all_dues, all_frames, all_notices}
 use Rattle.node_clients.specs.declared.desk.Desk.{Desk}
@@ -31,7 +33,7 @@ KeepsOtherCalls old id new = (other : ℕ) → other ≢ id → call_under new.c
 pub record IsArrived (old : Desk) (client : ℕ) (command : Strings) (new : Desk) : Type 0 where
   pub there : IsSome (connection_of new client)
   pub state : doing (connection_of new client) ≡ doing (connection_of old client)
-  pub waiting : waiting_on (connection_of new client) ≡ waiting_on (connection_of old client) ++ command ∷ []
+  pub waiting : waiting_on (connection_of new client) ≡ waiting_on (connection_of old client) ++ next.Came command ∷ []
   pub others : KeepsOthers old client new
   pub calls : new.calls ≡ old.calls
   pub counts : new.counts ≡ old.counts
@@ -43,8 +45,8 @@ pub record IsGone (old : Desk) (client : ℕ) (new : Desk) : Type 0 where
   pub calls : new.calls ≡ old.calls
   pub counts : new.counts ≡ old.counts
 
--- the oldest command that waited on a client's connection was taken out; the connection was idle and is now busy
-pub record IsCommandTaken (old : Desk) (client : ℕ) (command : Strings) (new : Desk) : Type 0 where
+-- the first command that waited on a client's connection was taken out; the connection was idle and is now busy
+pub record IsCommandTaken (old : Desk) (client : ℕ) (command : Next) (new : Desk) : Type 0 where
   pub taken : TakesNextAt (connection_of old client) (connection_of new client) (Some command)
   pub others : KeepsOthers old client new
   pub calls : new.calls ≡ old.calls
@@ -53,11 +55,26 @@ pub record IsCommandTaken (old : Desk) (client : ℕ) (command : Strings) (new :
 -- the call that a command begins, for which its client waits, if it begins one
 abbrev pub call_begun : (client : ℕ) → Command → Option OpenCall
 call_begun client (ask.Read what name) =
-    Some (record { name = name; client = Some client; wanted = what; is_move = false; age = 0 })
+    Some (record { name = name; client = Some client; wanted = what; is_move = false; age = 0; deletion = None })
 call_begun client (ask.Set name value) =
-    Some (record { name = name; client = Some client; wanted = wanted.Value; is_move = false; age = 0 })
+    Some (record {
+      name = name;
+      client = Some client;
+      wanted = wanted.Value;
+      is_move = false;
+      age = 0;
+      deletion = None;
+    })
 call_begun client (ask.Move name layout) =
-    Some (record { name = name; client = Some client; wanted = wanted.Value; is_move = true; age = 0 })
+    Some (record { name = name; client = Some client; wanted = wanted.Value; is_move = true; age = 0; deletion = None })
+call_begun client (ask.Delete deletion) = Some (record {
+  name = name_now deletion;
+  client = Some client;
+  wanted = wanted.Value;
+  is_move = false;
+  age = 0;
+  deletion = Some deletion;
+})
 call_begun client command = None
 
 -- a call was added to the open calls
@@ -100,6 +117,21 @@ pub record IsReleased (old : Desk) (id : ℕ) (told : Option ℕ) (new : Desk) :
   pub idle : IsIdleFor old.clients (waiting_for old.calls id) new.clients
   pub counts : new.counts ≡ with_told (has_listener old (waiting_for old.calls id)) old.counts
 
+-- nothing more is to be done for the client of a call that ends: nothing is left of its command, or no client waits
+-- whose connection is there
+abbrev pub IsLast : (delta : Option ℕ) → (old : Desk) → (id : ℕ) → Type 0
+IsLast delta old id =
+    has_listener old (waiting_for old.calls id) ≡ true → rest_of delta (call_under old.calls id) ≡ None
+
+-- a write of a DEL is no longer open, and what is left of the DEL is carried out next on the connection of its client
+pub record IsPassed (delta : Option ℕ) (old : Desk) (id client : ℕ) (rest : Deletion) (new : Desk) : Type 0 where
+  pub who : listener old (waiting_for old.calls id) ≡ Some client
+  pub left : rest_of delta (call_under old.calls id) ≡ Some rest
+  pub gone : call_under new.calls id ≡ None
+  pub others : KeepsOtherCalls old id new
+  pub back : IsPutBack old.clients client rest new.clients
+  pub counts : new.counts ≡ old.counts
+
 -- a call, if it is open, was made older by a tick
 pub record IsOlder (old : Desk) (id : ℕ) (new : Desk) : Type 0 where
   pub older : call_under new.calls id ≡ older_call (call_under old.calls id)
@@ -110,44 +142,47 @@ pub record IsOlder (old : Desk) (id : ℕ) (new : Desk) : Type 0 where
 -- What happens
 
 -- How the desk changes with each service. A call is late if it is older than this number of ticks after its tick. A
--- call that is late is given up, unless it is a move.
-abbrev pub IsServiceDone : (ticks : ℕ) → (old : Desk) → Service → (new : Desk) → Type 0
-IsServiceDone ticks old (Service.Arrives client command) new = IsArrived old client command new
-IsServiceDone ticks old (Service.Leaves client) new = IsGone old client new
-IsServiceDone ticks old (Service.Begins client command id) new =
-    (frame : Strings) × (command_at frame ≡ Ok command) × (taken : Desk) × IsCommandTaken old client frame taken
+-- call that is late is given up, unless it is a move. With this `delta`, a DEL writes to each name as `left_over` says.
+abbrev pub IsServiceDone : (ticks : ℕ) → (delta : Option ℕ) → (old : Desk) → Service → (new : Desk) → Type 0
+IsServiceDone ticks delta old (Service.Arrives client command) new = IsArrived old client command new
+IsServiceDone ticks delta old (Service.Leaves client) new = IsGone old client new
+IsServiceDone ticks delta old (Service.Begins client command id) new =
+    (first : Next) × (asked first ≡ Ok command) × (taken : Desk) × IsCommandTaken old client first taken
     × IsOpened taken (call_begun client command) id new
-IsServiceDone ticks old (Service.Replies client frame answer) new =
-    (taken : Desk) × IsCommandTaken old client frame taken × IsClientAnswered taken client new
-IsServiceDone ticks old (Service.Quits client) new =
-    (frame : Strings) × (command_at frame ≡ Ok ask.Quit) × (taken : Desk) × IsCommandTaken old client frame taken
+IsServiceDone ticks delta old (Service.Replies client first answer) new =
+    (taken : Desk) × IsCommandTaken old client first taken × IsClientAnswered taken client new
+IsServiceDone ticks delta old (Service.Quits client) new =
+    (first : Next) × (asked first ≡ Ok ask.Quit) × (taken : Desk) × IsCommandTaken old client first taken
     × HasQuit taken client new
-IsServiceDone ticks old (Service.Ends name ended what told) new =
-    (what ≡ wanted_by (call_under old.calls ended.id)) × IsCallClosed old ended.id told new
+IsServiceDone ticks delta old (Service.Ends name ended answer told) new =
+    (answer ≡ call_answer (call_under old.calls ended.id) ended) × IsLast delta old ended.id
+    × IsCallClosed old ended.id told new
     × (new.counts ≡ with_told (has_listener old (waiting_for old.calls ended.id)) old.counts)
-IsServiceDone ticks old (Service.Ages id) new =
+IsServiceDone ticks delta old (Service.Passes name ended client rest) new =
+    IsPassed delta old ended.id client rest new
+IsServiceDone ticks delta old (Service.Ages id) new =
     (becomes_late ticks (call_under old.calls id) ≡ false) × IsOlder old id new
-IsServiceDone ticks old (Service.GivesUp id told) new =
+IsServiceDone ticks delta old (Service.GivesUp id told) new =
     (becomes_late ticks (call_under old.calls id) ≡ true) × (is_move_open (call_under old.calls id) ≡ false)
     × (older : Desk) × IsOlder old id older × IsCallClosed older id told new
     × (new.counts ≡ with_told (has_listener older (waiting_for older.calls id)) (with_give_up older.counts))
-IsServiceDone ticks old (Service.Releases id told) new =
+IsServiceDone ticks delta old (Service.Releases id told) new =
     (becomes_late ticks (call_under old.calls id) ≡ true) × (is_move_open (call_under old.calls id) ≡ true)
     × (older : Desk) × IsOlder old id older × IsReleased older id told new
-IsServiceDone ticks old Service.Drops new =
+IsServiceDone ticks delta old Service.Drops new =
     (new.clients ≡ old.clients) × (new.calls ≡ old.calls) × (new.counts ≡ with_drop old.counts)
 
 -- how the desk changes with these services, one after another
-abbrev pub AreServicesDone : (ticks : ℕ) → (old : Desk) → List Service → (new : Desk) → Type 0
-AreServicesDone ticks old [] new = new ≡ old
-AreServicesDone ticks old (service ∷ services) new =
-    (between : Desk) × IsServiceDone ticks old service between × AreServicesDone ticks between services new
+abbrev pub AreServicesDone : (ticks : ℕ) → (delta : Option ℕ) → (old : Desk) → List Service → (new : Desk) → Type 0
+AreServicesDone ticks delta old [] new = new ≡ old
+AreServicesDone ticks delta old (service ∷ services) new =
+    (between : Desk) × IsServiceDone ticks delta old service between × AreServicesDone ticks delta between services new
 
 -- the desk did these services, one after another, and the work grew by the frames that clients are sent for them, by
 -- the connections that are idle again, and by what clients see of them
-pub record HasServed (ticks : ℕ) (old : Desk) (before : Work) (services : List Service) (new : Desk)
+pub record HasServed (ticks : ℕ) (delta : Option ℕ) (old : Desk) (before : Work) (services : List Service) (new : Desk)
     (after : Work) : Type 0 where
-  pub served : AreServicesDone ticks old services new
+  pub served : AreServicesDone ticks delta old services new
   pub told : after.to_clients.items ≡ before.to_clients.items ++ all_frames services
   pub due : after.due.items ≡ before.due.items ++ all_dues services
   pub notices : after.notices.items ≡ before.notices.items ++ all_notices services

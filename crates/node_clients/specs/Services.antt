@@ -1,4 +1,3 @@
--- The contracts that docs/trusted.md lists do not depend on this file; other contracts and proofs do.
 -- The services that a node does for its clients, and what clients are sent for each.
 use Rattle.std.specs.Prelude.{ℕ, List, [], ◌∷◌, ◌++◌, Option, None, Some}
 use Rattle.local_object.specs.declared.progress.Ended.{Ended}
@@ -7,24 +6,28 @@ use Rattle.client_commands.specs.declared.answer.Answer.TheVariants as answer
 use Rattle.client_commands.specs.declared.answer.AnswerError.TheVariants.{NoQuorum}
 use Rattle.client_commands.specs.declared.command.Command.{Command}
 use Rattle.client_commands.specs.declared.command.Command.TheVariants as ask
-use Rattle.client_commands.specs.declared.command.Wanted.{Wanted}
+use Rattle.client_commands.specs.Deletion.{name_now}
+use Rattle.client_commands.specs.Deletion.{Deletion}
 use Rattle.node_strings.specs.Arrival.{client_address}
 use Rattle.node_strings.specs.Strings.{Strings}
 use Rattle.node_effects.specs.declared.notice.Notice.{Notice}
 use Rattle.node_effects.specs.declared.notice.Notice.TheVariants as notice
-use Rattle.node_clients.specs.Answers.{answer_frame, ended_answer}
+use Rattle.node_clients.specs.Answers.{answer_frame}
+use Rattle.node_clients.specs.declared.next.Next.{Next}
 
 -- One thing that a node does for its clients. A command of a client comes, or a client's connection ends. The next
 -- command of a client begins the call with an id, or is answered at once, or is a QUIT. A call of the object of a name
--- is answered. A call gets older by a tick. A late call is given up, or its client no longer waits for it. A frame is
--- dropped. `told` is the client that is told, if one is, and `Wanted` is what it wants of the value of a read.
+-- is answered; if it is a write of a DEL of which this is left, it passes: the client is told nothing, and what is left
+-- is carried out next. A call gets older by a tick. A late call is given up, or its client no longer waits for it. A
+-- frame is dropped. `told` is the client that is told, if one is.
 pub data Service : Type 0 where
   Arrives : (client : ℕ) → (command : Strings) → Service
   Leaves : (client : ℕ) → Service
   Begins : (client : ℕ) → Command → (id : ℕ) → Service
-  Replies : (client : ℕ) → (command : Strings) → Answer → Service
+  Replies : (client : ℕ) → (command : Next) → Answer → Service
   Quits : (client : ℕ) → Service
-  Ends : (name : List ℕ) → Ended → Wanted → (told : Option ℕ) → Service
+  Ends : (name : List ℕ) → Ended → Answer → (told : Option ℕ) → Service
+  Passes : (name : List ℕ) → Ended → (client : ℕ) → (rest : Deletion) → Service
   Ages : (id : ℕ) → Service
   GivesUp : (id : ℕ) → (told : Option ℕ) → Service
   Releases : (id : ℕ) → (told : Option ℕ) → Service
@@ -45,7 +48,7 @@ told_clients (Some client) = client ∷ []
 abbrev pub service_frames : Service → List Strings
 service_frames (Service.Replies client command answer) = answer_frame client answer ∷ []
 service_frames (Service.Quits client) = answer_frame client answer.Ok ∷ (client_address client ∷ []) ∷ []
-service_frames (Service.Ends name ended wanted told) = told_frames told (ended_answer wanted ended)
+service_frames (Service.Ends name ended answer told) = told_frames told answer
 service_frames (Service.GivesUp id told) = told_frames told (answer.Error NoQuorum)
 service_frames (Service.Releases id told) = told_frames told (answer.Error NoQuorum)
 service_frames service = []
@@ -53,7 +56,8 @@ service_frames service = []
 -- the connections that are idle again
 abbrev pub service_dues : Service → List ℕ
 service_dues (Service.Replies client command answer) = client ∷ []
-service_dues (Service.Ends name ended wanted told) = told_clients told
+service_dues (Service.Ends name ended answer told) = told_clients told
+service_dues (Service.Passes name ended client rest) = client ∷ []
 service_dues (Service.GivesUp id told) = told_clients told
 service_dues (Service.Releases id told) = told_clients told
 service_dues service = []
@@ -63,12 +67,14 @@ abbrev pub begun_notices : Command → (id : ℕ) → List Notice
 begun_notices (ask.Read wanted name) id = notice.Reads name id ∷ []
 begun_notices (ask.Set name value) id = notice.Writes name id value ∷ []
 begun_notices (ask.Move name layout) id = notice.Moves name id layout ∷ []
+begun_notices (ask.Delete deletion) id = notice.Writes (name_now deletion) id [] ∷ []
 begun_notices command id = []
 
 -- what clients see: calls that begin, and answers to calls
 abbrev pub service_notices : Service → List Notice
 service_notices (Service.Begins client command id) = begun_notices command id
-service_notices (Service.Ends name ended wanted told) = notice.Tells name ended ∷ []
+service_notices (Service.Ends name ended answer told) = notice.Tells name ended ∷ []
+service_notices (Service.Passes name ended client rest) = notice.Tells name ended ∷ []
 service_notices service = []
 
 -- the frames of these services, one after another

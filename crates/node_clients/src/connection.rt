@@ -1,4 +1,7 @@
+use crate::next::Next;
+use client_commands::Deletion;
 use frames::Frame;
+use std::alloc::AllocError;
 use std::collections::VecDeque;
 
 /// What a client's connection is doing.
@@ -12,10 +15,10 @@ pub enum State {
     Quit,
 }
 
-/// A client's connection: the commands that wait on it, oldest first, and what it is doing.
+/// A client's connection: the commands that wait on it, the next one first, and what it is doing.
 #[derive(Debug)]
 pub struct Connection {
-    pub waiting: VecDeque<Frame>,
+    pub waiting: VecDeque<Next>,
     pub state: State,
 }
 
@@ -31,14 +34,26 @@ impl Drop for Connection {
 impl Connection {
     ghost use Rattle.std.specs.Prelude.{◌≡◌, ◌≢◌, ◌++◌, ◌∷◌, [], OnOk, IfSome, IfNone, IsNone};
     ghost use Rattle.node_clients.specs.declared.connection.State.TheVariants.{Idle, Busy};
+    ghost use Rattle.node_clients.specs.declared.next.Next.TheVariants as next_of;
     ghost use Rattle.node_clients.specs.Connections.{TakesNext, gives_next};
 
     /// Keeps a command that has come, after those that wait. It fails only if there is no memory.
-    pub(crate) fn push(&mut self, command: Frame) -> Result<(), std::alloc::AllocError>
-        ensures waiting { OnOk result (self.new.waiting.items ≡ self.old.waiting.items ++ command ∷ []) }
+    pub(crate) fn push(&mut self, command: Frame) -> Result<(), AllocError>
+        ensures waiting { OnOk result (self.new.waiting.items ≡ self.old.waiting.items ++ next_of.Came command ∷ []) }
         ensures state { self.new.state ≡ self.old.state }
     {
-        self.waiting.push_back(command)?;
+        self.waiting.push_back(Next::Came(command))?;
+        Ok(())
+    }
+
+    /// Keeps what is left of a `DEL`, before all that waits, and makes the connection idle. It fails only if there is
+    /// no memory.
+    pub(crate) fn put_back(&mut self, rest: Deletion) -> Result<(), AllocError>
+        ensures waiting { OnOk result (self.new.waiting.items ≡ next_of.Rest rest ∷ self.old.waiting.items) }
+        ensures state { OnOk result (self.new.state ≡ Idle) }
+    {
+        self.waiting.push_front(Next::Rest(rest))?;
+        self.state = State::Idle;
         Ok(())
     }
 
@@ -53,7 +68,7 @@ impl Connection {
     }
 
     /// The next command, if the connection is idle and one waits. The connection is then busy.
-    pub(crate) fn next(&mut self) -> Option<Frame>
+    pub(crate) fn next(&mut self) -> Option<Next>
         ensures { TakesNext self.old self.new result }
     {
         if self.state != State::Idle {

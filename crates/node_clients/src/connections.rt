@@ -1,10 +1,13 @@
 //! All connections, by their numbers.
-ghost use Rattle.std.specs.Prelude.{◌≡◌, ◌≢◌, ◌++◌, ◌∷◌, ℕ, [], nat_eq, None, OnOk, IsSome, is_some};
+ghost use Rattle.std.specs.Prelude.{◌≡◌, ◌≢◌, ◌++◌, ◌∷◌, ℕ, [], nat_eq, None, IfOk, OnOk, IsSome, is_some};
 ghost use Rattle.indexmap.specs.IndexMap.{get, index_map_len};
 ghost use Rattle.node_clients.specs.declared.connection.State.TheVariants.{Idle, Quit};
+ghost use Rattle.node_clients.specs.declared.next.Next.TheVariants as next_of;
 ghost use Rattle.node_clients.specs.Connections.{waiting_on, doing, has_next, TakesNextAt};
 
 use crate::connection::{Connection, State};
+use crate::next::Next;
+use client_commands::Deletion;
 use frames::Frame;
 use indexmap::IndexMap;
 use std::alloc::{AllocError, Global};
@@ -49,7 +52,7 @@ impl Connections {
     /// yet. It fails only if there is no memory.
     pub fn push(&mut self, number: u64, command: Frame) -> Result<(), AllocError>
         ensures waiting { OnOk result (waiting_on (get nat_eq self.new.by_number number)
-            ≡ waiting_on (get nat_eq self.old.by_number number) ++ command ∷ []) }
+            ≡ waiting_on (get nat_eq self.old.by_number number) ++ next_of.Came command ∷ []) }
         ensures state { OnOk result (doing (get nat_eq self.new.by_number number)
             ≡ doing (get nat_eq self.old.by_number number)) }
         ensures there { OnOk result (IsSome (get nat_eq self.new.by_number number)) }
@@ -65,14 +68,15 @@ impl Connections {
     // A connection with its first command.
     fn open(&mut self, number: u64, command: Frame) -> Result<(), AllocError>
         requires { get nat_eq self.old.by_number number ≡ None }
-        ensures waiting { OnOk result (waiting_on (get nat_eq self.new.by_number number) ≡ command ∷ []) }
+        ensures waiting { OnOk result
+            (waiting_on (get nat_eq self.new.by_number number) ≡ next_of.Came command ∷ []) }
         ensures state { OnOk result (doing (get nat_eq self.new.by_number number) ≡ Idle) }
         ensures there { OnOk result (IsSome (get nat_eq self.new.by_number number)) }
         ensures others { OnOk result ((other : ℕ) → other ≢ number
             → get nat_eq self.new.by_number other ≡ get nat_eq self.old.by_number other) }
     {
         let mut waiting = VecDeque::new(self.alloc);
-        waiting.push_back(command)?;
+        waiting.push_back(Next::Came(command))?;
         let state = State::Idle;
         self.by_number
             .insert(number, Connection { waiting, state })?;
@@ -93,7 +97,7 @@ impl Connections {
     /// Returns the next command of the connection with this number, which is then busy. Returns none, and changes
     /// nothing, if no command waits, if the connection is busy or has quit, or if there is no connection with this
     /// number.
-    pub fn next(&mut self, number: u64) -> Option<Frame>
+    pub fn next(&mut self, number: u64) -> Option<Next>
         ensures taken { TakesNextAt (get nat_eq self.old.by_number number)
             (get nat_eq self.new.by_number number) result }
         ensures stays { is_some (get nat_eq self.new.by_number number)
@@ -125,6 +129,28 @@ impl Connections {
                 true
             }
             None => false,
+        }
+    }
+
+    /// Puts what is left of a `DEL` before all that waits on a connection, which is then idle. Returns whether there is
+    /// a connection of this number. It fails only if there is no memory.
+    pub fn put_back(&mut self, number: u64, rest: Deletion) -> Result<bool, AllocError>
+        ensures told { IfOk result (λ told. told ≡ is_some (get nat_eq self.old.by_number number)) }
+        ensures stays { OnOk result (is_some (get nat_eq self.new.by_number number)
+            ≡ is_some (get nat_eq self.old.by_number number)) }
+        ensures state { OnOk result (doing (get nat_eq self.new.by_number number) ≡ Idle) }
+        ensures waiting { OnOk result (IsSome (get nat_eq self.old.by_number number)
+            → waiting_on (get nat_eq self.new.by_number number)
+            ≡ next_of.Rest rest ∷ waiting_on (get nat_eq self.old.by_number number)) }
+        ensures others { OnOk result ((other : ℕ) → other ≢ number
+            → get nat_eq self.new.by_number other ≡ get nat_eq self.old.by_number other) }
+    {
+        match self.by_number.get_mut(&number) {
+            Some(connection) => {
+                connection.put_back(rest)?;
+                Ok(true)
+            }
+            None => Ok(false),
         }
     }
 

@@ -5,10 +5,12 @@ pub use connection::{Connection, State};
 pub use connections::Connections;
 pub use counts::Counts;
 pub use desk::Desk;
+pub use next::Next;
 pub use open_call::{Aged, OpenCall};
 
 mod connection;
 mod connections;
 mod counts;
 mod desk;
+mod next;
 mod open_call;

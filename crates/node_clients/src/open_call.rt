@@ -4,12 +4,12 @@ ghost use Rattle.node_effects.specs.declared.error.NodeError.TheVariants.{NoMemo
 ghost use Rattle.node_clients.specs.Calls.{aged_of, asks_at, older_of};
 
 use bytes::Bytes;
-use client_commands::Wanted;
+use client_commands::{Deletion, Wanted};
 use node_effects::NodeError;
 use node_strings::ConnectionId;
 
 /// A call that this node carries out.
-#[derive(Debug)]
+#[derive(Debug, Drop)]
 pub struct OpenCall {
     /// The name of its object.
     pub name: Bytes,
@@ -21,18 +21,8 @@ pub struct OpenCall {
     pub is_move: bool,
     /// The number of ticks since it began, at most 2^32 - 1.
     pub age: u32,
-}
-
-impl Drop for OpenCall {
-    fn drop(self) {
-        let Self {
-            name: _,
-            client: _,
-            wanted: _,
-            is_move: _,
-            age: _,
-        } = self;
-    }
+    /// The `DEL` of which it is the next write, if it is one.
+    pub deletion: Option<Deletion>,
 }
 
 /// What `Desk::aged` returns of an open call that a tick has made older.

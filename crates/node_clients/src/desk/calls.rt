@@ -2,58 +2,39 @@
 ghost use Rattle.std.specs.Prelude.{◌≡◌, ◌≢◌, ℕ, IfErr, IfOk, None, OnOk, Some};
 ghost use Rattle.indexmap.specs.IndexMap.{keys};
 ghost use Rattle.node_effects.specs.declared.error.NodeError.TheVariants.{NoMemory};
-ghost use Rattle.node_clients.specs.Calls.{aged_call, call_under, older_call, waiting_for, wanted_by, with_nobody};
+ghost use Rattle.node_clients.specs.Calls.{aged_call, call_under, older_call, waiting_for, with_nobody};
 
 use super::Desk;
 use crate::open_call::{Aged, OpenCall};
-use bytes::Bytes;
-use client_commands::Wanted;
 use node_effects::NodeError;
 use node_strings::ConnectionId;
 use tag::CallId;
 
 impl Desk {
-    /// Adds an open call of the object of this name, with the client that waits for its answer, if one is given, and
-    /// what the client is told of the value, if the call is a read. `is_move` says whether the call is a move. Fails
-    /// with `NoMemory`, and then nothing changes.
-    pub fn open(
-        &mut self,
-        id: CallId,
-        name: Bytes,
-        client: Option<ConnectionId>,
-        wanted: Wanted,
-        is_move: bool,
-    ) -> Result<(), NodeError>
-        ensures opened { OnOk result (call_under self.new.calls id
-            ≡ Some (record { name = name; client = client; wanted = wanted; is_move = is_move; age = 0 })) }
+    /// Adds an open call. Fails with `NoMemory`, and then nothing changes.
+    pub fn open(&mut self, id: CallId, call: OpenCall) -> Result<(), NodeError>
+        ensures opened { OnOk result (call_under self.new.calls id ≡ Some call) }
         ensures others { (other : ℕ) → other ≢ id → call_under self.new.calls other ≡ call_under self.old.calls other }
         ensures unchanged { IfErr result (λ e. call_under self.new.calls id ≡ call_under self.old.calls id) }
         ensures clients { self.new.clients ≡ self.old.clients }
         ensures counts { self.new.counts ≡ self.old.counts }
         ensures refused { IfErr result (λ e. e ≡ NoMemory) }
     {
-        let call = OpenCall {
-            name,
-            client,
-            wanted,
-            is_move,
-            age: 0,
-        };
         match self.calls.insert(id, call) {
             Ok(_) => Ok(()),
             Err(_) => Err(NodeError::NoMemory),
         }
     }
 
-    /// Returns what the client of a call is told of the value, if the call is a read, and the value itself if the call
-    /// is not open.
-    pub(super) fn wanted_of(&self, id: CallId) -> Wanted
-        ensures { result ≡ wanted_by (call_under self.now.calls id) }
+    /// Removes an open call, and returns it, if it was open.
+    pub(super) fn taken(&mut self, id: CallId) -> Option<OpenCall>
+        ensures taken { result ≡ call_under self.old.calls id }
+        ensures gone { call_under self.new.calls id ≡ None }
+        ensures others { (other : ℕ) → other ≢ id → call_under self.new.calls other ≡ call_under self.old.calls other }
+        ensures clients { self.new.clients ≡ self.old.clients }
+        ensures counts { self.new.counts ≡ self.old.counts }
     {
-        match self.calls.get(&id) {
-            Some(call) => call.wanted,
-            None => Wanted::Value,
-        }
+        self.calls.swap_remove(&id)
     }
 
     /// Removes an open call. Returns the connection that waited for its answer, if one did.
@@ -64,7 +45,7 @@ impl Desk {
         ensures clients { self.new.clients ≡ self.old.clients }
         ensures counts { self.new.counts ≡ self.old.counts }
     {
-        match self.calls.swap_remove(&id) {
+        match self.taken(id) {
             Some(call) => call.client,
             None => None,
         }

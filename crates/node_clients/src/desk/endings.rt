@@ -1,38 +1,152 @@
 //! What clients are told when their calls end.
-ghost use Rattle.std.specs.Prelude.{◌≡◌, ◌≢◌, ℕ, None, OnOk};
+ghost use Rattle.std.specs.Prelude.{◌≡◌, ◌≢◌, ℕ, None, OnOk, Some};
 ghost use Rattle.client_commands.specs.declared.answer.Answer.TheVariants as answers;
 ghost use Rattle.client_commands.specs.declared.answer.AnswerError.TheVariants.{NoQuorum};
 ghost use Rattle.node_effects.specs.Work.{IsGrown};
-ghost use Rattle.node_clients.specs.Answers.{TellsClients, ended_answer, told_value};
-ghost use Rattle.node_clients.specs.Calls.{call_under, waiting_for, wanted_by, with_nobody};
-ghost use Rattle.node_clients.specs.Desk.{IsIdleFor, growth_for, has_listener, with_told, with_give_up};
+ghost use Rattle.client_commands.specs.Deletion.{count_of, left_over};
+ghost use Rattle.node_clients.specs.Answers.{TellsClients, due_growth, ended_answer, last_answer, told_value};
+ghost use Rattle.node_clients.specs.Calls.{call_answer, call_under, left_of, rest_of, waiting_for, with_nobody};
+ghost use Rattle.node_clients.specs.Desk.{IsEndedFor, IsIdleFor, IsPutBack, end_growth, growth_for, has_listener};
+ghost use Rattle.node_clients.specs.Desk.{is_answered_for, is_connected, with_told, with_give_up};
 
 use super::Desk;
+use crate::open_call::OpenCall;
 use bytes::Bytes;
-use client_commands::{Answer, AnswerError, Wanted};
+use client_commands::{Answer, AnswerError, Deletion, Wanted};
 use local_object::Ended;
 use node_effects::{NodeError, Work};
+use node_strings::ConnectionId;
 use record::Operation;
 use tag::CallId;
 
 impl Desk {
-    /// Removes a call that was answered, and sends the answer to the client that waits for it, if its connection is
-    /// still there. Fails only if `Work::answer` or `Work::make_due` fails.
-    pub fn end(&mut self, ended: Ended, work: &mut Work) -> Result<(), NodeError>
+    /// Removes a call that was answered. The client that waits for it, if its connection is still there, is sent the
+    /// answer. If the call is a write of a `DEL` of which more is left, the client is sent nothing, and what is left is
+    /// its next command. With the bound `delta`, a `DEL` writes to each name as `Deletion::left` says. Fails only if
+    /// there is no memory, or if `Work::answer` or `Work::make_due` fails.
+    pub fn end(
+        &mut self,
+        ended: Ended,
+        delta: Option<u32>,
+        work: &mut Work,
+    ) -> Result<(), NodeError>
         ensures told { OnOk result (IsGrown work.old work.new
-            (growth_for self.old (waiting_for self.old.calls ended.id)
-            (ended_answer (wanted_by (call_under self.old.calls ended.id)) ended))) }
+            (end_growth self.old (waiting_for self.old.calls ended.id)
+            (rest_of delta (call_under self.old.calls ended.id))
+            (call_answer (call_under self.old.calls ended.id) ended))) }
         ensures tells { OnOk result (TellsClients work.old work.new) }
         ensures gone { call_under self.new.calls ended.id ≡ None }
         ensures others { (other : ℕ) → other ≢ ended.id
             → call_under self.new.calls other ≡ call_under self.old.calls other }
-        ensures idle { IsIdleFor self.old.clients (waiting_for self.old.calls ended.id) self.new.clients }
-        ensures counts { self.new.counts
-            ≡ with_told (has_listener self.old (waiting_for self.old.calls ended.id)) self.old.counts }
+        ensures idle { OnOk result (IsEndedFor self.old.clients (waiting_for self.old.calls ended.id)
+            (rest_of delta (call_under self.old.calls ended.id)) self.new.clients) }
+        ensures counts { OnOk result (self.new.counts ≡ with_told (is_answered_for self.old
+            (waiting_for self.old.calls ended.id) (rest_of delta (call_under self.old.calls ended.id)))
+            self.old.counts) }
     {
         let id = ended.id;
-        let wanted = self.wanted_of(id);
-        self.close(id, ended_answer(wanted, ended), work)
+        match self.taken(id) {
+            Some(call) => self.conclude(call, ended, delta, work),
+            None => Ok(()),
+        }
+    }
+
+    // A call was answered, which is open no more.
+    fn conclude(
+        &mut self,
+        call: OpenCall,
+        ended: Ended,
+        delta: Option<u32>,
+        work: &mut Work,
+    ) -> Result<(), NodeError>
+        ensures told { OnOk result (IsGrown work.old work.new
+            (end_growth self.old call.client (rest_of delta (Some call)) (call_answer (Some call) ended))) }
+        ensures tells { OnOk result (TellsClients work.old work.new) }
+        ensures calls { self.new.calls ≡ self.old.calls }
+        ensures idle { OnOk result
+            (IsEndedFor self.old.clients call.client (rest_of delta (Some call)) self.new.clients) }
+        ensures counts { OnOk result (self.new.counts
+            ≡ with_told (is_answered_for self.old call.client (rest_of delta (Some call))) self.old.counts) }
+    {
+        match call.client {
+            Some(client) => self.tell(
+                client,
+                call.deletion,
+                ended_answer(call.wanted, ended),
+                delta,
+                work,
+            ),
+            None => Ok(()),
+        }
+    }
+
+    // A call was answered, for which this client waits. The client is told this, if the call is no write of a `DEL`.
+    fn tell(
+        &mut self,
+        client: ConnectionId,
+        deletion: Option<Deletion>,
+        answer: Answer,
+        delta: Option<u32>,
+        work: &mut Work,
+    ) -> Result<(), NodeError>
+        ensures told { OnOk result (IsGrown work.old work.new
+            (end_growth self.old (Some client) (left_of delta deletion) (last_answer deletion answer))) }
+        ensures tells { OnOk result (TellsClients work.old work.new) }
+        ensures calls { self.new.calls ≡ self.old.calls }
+        ensures idle { OnOk result
+            (IsEndedFor self.old.clients (Some client) (left_of delta deletion) self.new.clients) }
+        ensures counts { OnOk result (self.new.counts
+            ≡ with_told (is_answered_for self.old (Some client) (left_of delta deletion)) self.old.counts) }
+    {
+        match deletion {
+            Some(deletion) => self.pass(client, deletion, delta, work),
+            None => self.answer(client, answer, work),
+        }
+    }
+
+    // A write of a `DEL` was answered, for which this client waits.
+    fn pass(
+        &mut self,
+        client: ConnectionId,
+        deletion: Deletion,
+        delta: Option<u32>,
+        work: &mut Work,
+    ) -> Result<(), NodeError>
+        ensures told { OnOk result (IsGrown work.old work.new
+            (end_growth self.old (Some client) (left_over delta deletion) (answers.Number (count_of deletion)))) }
+        ensures tells { OnOk result (TellsClients work.old work.new) }
+        ensures calls { self.new.calls ≡ self.old.calls }
+        ensures idle { OnOk result
+            (IsEndedFor self.old.clients (Some client) (left_over delta deletion) self.new.clients) }
+        ensures counts { OnOk result (self.new.counts
+            ≡ with_told (is_answered_for self.old (Some client) (left_over delta deletion)) self.old.counts) }
+    {
+        let count = deletion.count();
+        match deletion.left(delta) {
+            Some(rest) => self.put_back(client, rest, work),
+            None => self.answer(client, Answer::Number(count), work),
+        }
+    }
+
+    // What is left of a `DEL` is the next command of its client, if the connection is still there.
+    fn put_back(
+        &mut self,
+        client: ConnectionId,
+        rest: Deletion,
+        work: &mut Work,
+    ) -> Result<(), NodeError>
+        ensures grown { OnOk result (IsGrown work.old work.new
+            (due_growth (is_connected self.old client) client)) }
+        ensures tells { OnOk result (TellsClients work.old work.new) }
+        ensures calls { self.new.calls ≡ self.old.calls }
+        ensures back { OnOk result (IsPutBack self.old.clients client rest self.new.clients) }
+        ensures counts { self.new.counts ≡ self.old.counts }
+    {
+        let is_there = self.clients.put_back(client, rest)?;
+        if is_there {
+            return work.make_due(client);
+        }
+        Ok(())
     }
 
     /// Removes a call that was given up, and tells the client that waits for it that no quorum answered, if its
