@@ -28,16 +28,16 @@ use Rattle.node.specs.declared.node.Node.{Node}
 
 -- One call
 
-one_of : (ticks : ℕ) (id : ℕ) (a b : Desk) (services : List Service) → AreTicksOf (id ∷ []) services →
-    AreServicesDone ticks a services b → (service : Service) × IsTickOf id service × IsServiceDone ticks a service b
-one_of ticks id a b [] is done = absurd is
-one_of ticks id a b (x ∷ []) is done = (x, is.0, subst (λ (d : Desk). IsServiceDone ticks a x d) (sym done.2) done.1)
-one_of ticks id a b (x ∷ y ∷ more) is done = absurd is.1
+one_of : (ticks : ℕ) (delta : Option ℕ) (id : ℕ) (a b : Desk) (services : List Service) → AreTicksOf (id ∷ []) services →
+    AreServicesDone ticks delta a services b → (service : Service) × IsTickOf id service × IsServiceDone ticks delta a service b
+one_of ticks delta id a b [] is done = absurd is
+one_of ticks delta id a b (x ∷ []) is done = (x, is.0, subst (λ (d : Desk). IsServiceDone ticks delta a x d) (sym done.2) done.1)
+one_of ticks delta id a b (x ∷ y ∷ more) is done = absurd is.1
 
 pub ticked : (id : ℕ) (a b : Node) (u v : Work) (sends : List Sending) → ServesTicks (id ∷ []) a u b v →
     sends ≡ sent_at_age a.keeper id (aged_at a id) → IsKeptAtAge a.keeper id (aged_at a id) b.keeper → IsTicked id a sends b
 ticked id a b u v sends s sent kept =
-    let one = one_of a.keeper.file.ticks id a.desk b.desk s.services s.ticks s.serves.has.served in
+    let one = one_of a.keeper.file.ticks a.keeper.file.fixed.delta id a.desk b.desk s.services s.ticks s.serves.has.served in
     record { service = one.0; tick = one.1; done = one.2; sent = sent; kept = kept }
 
 -- if no letters are sent, the outputs stay as they are

@@ -17,6 +17,8 @@ use Rattle.node_clients.proofs.ServedLemmas.{served_then}
 use Rattle.indexmap.specs.IndexMap.{index_map_len}
 use Rattle.node_clients.specs.declared.counts.Counts.{Counts}
 use Rattle.node_clients.specs.declared.desk.Desk.{Desk}
+use Rattle.node_clients.specs.declared.next.Next.{Next}
+use Rattle.node_clients.specs.declared.next.Next.TheVariants.{Came}
 use Rattle.node_keeper.specs.declared.keeper.Keeper.{Keeper}
 use Rattle.node.specs.AtOnce.{IsAtOnce, IsFirstDone}
 use Rattle.node.specs.Replies.{IsRight}
@@ -27,16 +29,16 @@ use Rattle.node.specs.declared.peers.Peers.{Peers}
 use Rattle.node.proofs.ServingLemmas.{all_right, serves_then}
 
 -- the first thing stays the first one where more follow
-first_stays : (keeper : Keeper) (peers : Peers) (calls : ℕ) (counts : Counts) (client : ℕ) (frame : Strings) (more rest : List Service) →
-    IsFirstDone keeper peers calls counts client frame more → IsFirstDone keeper peers calls counts client frame (more ++ rest)
-first_stays keeper peers calls counts client frame [] rest is = absurd is
-first_stays keeper peers calls counts client frame (service ∷ more) rest is = is
+first_stays : (keeper : Keeper) (peers : Peers) (calls : ℕ) (counts : Counts) (client : ℕ) (next : Next) (more rest : List Service) →
+    IsFirstDone keeper peers calls counts client next more → IsFirstDone keeper peers calls counts client next (more ++ rest)
+first_stays keeper peers calls counts client next [] rest is = absurd is
+first_stays keeper peers calls counts client next (service ∷ more) rest is = is
 
 at_once_stays : (came : Option Arrival) (keeper : Keeper) (peers : Peers) (desk : Desk) (more rest : List Service) →
     IsAtOnce came keeper peers desk more → IsAtOnce came keeper peers desk (more ++ rest)
 at_once_stays None keeper peers desk more rest is = tt
 at_once_stays (Some (arrived.Command client frame)) keeper peers desk more rest is =
-    λ free. first_stays keeper peers (index_map_len desk.calls) desk.counts client frame more rest (is free)
+    λ free. first_stays keeper peers (index_map_len desk.calls) desk.counts client (Came frame) more rest (is free)
 at_once_stays (Some (arrived.Left client)) keeper peers desk more rest is = tt
 at_once_stays (Some (arrived.Message sender frame)) keeper peers desk more rest is = tt
 at_once_stays (Some (arrived.Tick heard)) keeper peers desk more rest is = tt
@@ -105,15 +107,15 @@ since_then came a b c answers notices v w told seen s m =
     let before = s.coming ++ s.more in
     let all : (s.coming ++ s.more) ++ m.services ≡ s.coming ++ (s.more ++ m.services) =
     append_assoc s.coming s.more m.services in
-    let has = subst (λ (f : FileContents). HasServed f.ticks b.desk v m.services c.desk w) s.file m.serves.has in
+    let has = subst (λ (f : FileContents). HasServed f.ticks f.fixed.delta b.desk v m.services c.desk w) s.file m.serves.has in
     record {
       coming = s.coming;
       more = s.more ++ m.services;
       comes = s.comes;
       follows = all_append FollowsUp s.more m.services s.follows m.follows;
       at_once = at_once_stays came a.keeper a.peers a.desk s.more m.services s.at_once;
-      served = subst (λ ss. AreServicesDone a.keeper.file.ticks a.desk ss c.desk) all
-          (served_then a.keeper.file.ticks a.desk b.desk c.desk before m.services s.served has.served);
+      served = subst (λ ss. AreServicesDone a.keeper.file.ticks a.keeper.file.fixed.delta a.desk ss c.desk) all
+          (served_then a.keeper.file.ticks a.keeper.file.fixed.delta a.desk b.desk c.desk before m.services s.served has.served);
       right = subst (λ ss. AllByRecursion (IsRight a.keeper.ids.node a.keeper.file) ss) all
           (all_append (IsRight a.keeper.ids.node a.keeper.file) before m.services s.right
           (all_right a.keeper.ids.node b.keeper.ids.node a.keeper.file b.keeper.file m.services s.number s.file m.serves.right));

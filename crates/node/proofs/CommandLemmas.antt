@@ -1,15 +1,14 @@
 -- Commands that are taken and carried out, as what a node does for its clients.
 use Rattle.std.proofs.Common.{◌≡◌, ℕ, true, false, List, [], ◌∷◌, Option, None, Some, Ok, is_some}
 use Rattle.std.proofs.Common.{Result, Err, IsSome, OnOk, refl, sym, subst, ap, ◌∙◌}
-use Rattle.node_clients.specs.Connections.{TakesNextAt, doing, gives_next_of, has_next, waiting_on}
+use Rattle.node_clients.specs.Connections.{TakesNextAt, asked, doing, gives_next_of, has_next, waiting_on}
 use Rattle.node_clients.specs.declared.connection.Connection.{Connection}
 use Rattle.node_clients.specs.declared.connection.State.{State}
 use Rattle.node_clients.specs.declared.connection.State.TheVariants.{Busy, Idle, Quit}
-use Rattle.client_commands.specs.Reading.{command_at}
 use Rattle.client_commands.specs.declared.answer.Answer.{Answer}
 use Rattle.client_commands.specs.declared.command.Command.{Command}
 use Rattle.client_commands.specs.declared.command.Command.TheVariants as ask
-use Rattle.node_strings.specs.Strings.{Strings}
+use Rattle.node_clients.specs.declared.next.Next.{Next}
 use Rattle.node_effects.specs.Work.{IsGrown}
 use Rattle.node_effects.specs.declared.error.NodeError.{NodeError}
 use Rattle.node_effects.specs.declared.work.Work.{Work}
@@ -34,64 +33,66 @@ pub no_next : (old new : Option Connection) → has_next old ≡ true → TakesN
 no_next None new has taken = absurd (cc)
 no_next (Some connection) new has taken = go connection.state connection.waiting.items has taken.0
   where
-    go : (state : State) (waiting : List Strings) → gives_next_of state waiting ≡ true → (state ≡ Idle → waiting ≡ []) → ⊥
+    go : (state : State) (waiting : List Next) → gives_next_of state waiting ≡ true → (state ≡ Idle → waiting ≡ []) → ⊥
     go Idle [] has none = absurd (cc)
     go Idle (command ∷ waiting) has none = let e : command ∷ waiting ≡ [] = none refl in absurd (cc)
     go Busy waiting has none = absurd (cc)
     go Quit waiting has none = absurd (cc)
 
 -- a command is taken, and then carried out
-pub command_served : (ticks : ℕ) (a b c : Desk) (client : ℕ) (frame : Strings) (service : Service) →
-    IsCommandTaken a client frame b → IsCommandDone b client frame service c → IsServiceDone ticks a service c
-command_served ticks a b c client frame (Service.Begins other command id) taken done = (
-  frame,
+pub command_served : (ticks : ℕ) (delta : Option ℕ) (a b c : Desk) (client : ℕ) (next : Next) (service : Service) →
+    IsCommandTaken a client next b → IsCommandDone b client next service c → IsServiceDone ticks delta a service c
+command_served ticks delta a b c client next (Service.Begins other command id) taken done = (
+  next,
   done.1,
   b,
-  subst (λ n. IsCommandTaken a n frame b) (sym done.0) taken,
+  subst (λ n. IsCommandTaken a n next b) (sym done.0) taken,
   subst (λ n. IsOpened b (call_begun n command) id c) (sym done.0) done.2,
 )
-command_served ticks a b c client frame (Service.Replies other command answer) taken done = (
+command_served ticks delta a b c client next (Service.Replies other command answer) taken done = (
   b,
   subst (λ n. IsCommandTaken a n command b) (sym done.0) (subst (λ f. IsCommandTaken a client f b) (sym done.1) taken),
   subst (λ n. IsClientAnswered b n c) (sym done.0) done.2,
 )
-command_served ticks a b c client frame (Service.Quits other) taken done = (
-  frame,
+command_served ticks delta a b c client next (Service.Quits other) taken done = (
+  next,
   done.1,
   b,
-  subst (λ n. IsCommandTaken a n frame b) (sym done.0) taken,
+  subst (λ n. IsCommandTaken a n next b) (sym done.0) taken,
   subst (λ n. HasQuit b n c) (sym done.0) done.2,
 )
-command_served ticks a b c client frame (Service.Arrives other command) taken done = absurd done
-command_served ticks a b c client frame (Service.Leaves other) taken done = absurd done
-command_served ticks a b c client frame (Service.Ends name ended what told) taken done = absurd done
-command_served ticks a b c client frame (Service.Ages id) taken done = absurd done
-command_served ticks a b c client frame (Service.GivesUp id told) taken done = absurd done
-command_served ticks a b c client frame (Service.Releases id told) taken done = absurd done
-command_served ticks a b c client frame Service.Drops taken done = absurd done
+command_served ticks delta a b c client next (Service.Arrives other command) taken done = absurd done
+command_served ticks delta a b c client next (Service.Leaves other) taken done = absurd done
+command_served ticks delta a b c client next (Service.Ends name ended answer told) taken done = absurd done
+command_served ticks delta a b c client next (Service.Passes name ended other rest) taken done = absurd done
+command_served ticks delta a b c client next (Service.Ages id) taken done = absurd done
+command_served ticks delta a b c client next (Service.GivesUp id told) taken done = absurd done
+command_served ticks delta a b c client next (Service.Releases id told) taken done = absurd done
+command_served ticks delta a b c client next Service.Drops taken done = absurd done
 
 -- what is done with a command follows up
-command_follows : (old new : Desk) (client : ℕ) (frame : Strings) (service : Service) →
-    IsCommandDone old client frame service new → FollowsUp service
-command_follows old new client frame (Service.Begins other command id) done = tt
-command_follows old new client frame (Service.Replies other command answer) done = tt
-command_follows old new client frame (Service.Quits other) done = tt
-command_follows old new client frame (Service.Arrives other command) done = absurd done
-command_follows old new client frame (Service.Leaves other) done = absurd done
-command_follows old new client frame (Service.Ends name ended what told) done = absurd done
-command_follows old new client frame (Service.Ages id) done = absurd done
-command_follows old new client frame (Service.GivesUp id told) done = absurd done
-command_follows old new client frame (Service.Releases id told) done = absurd done
-command_follows old new client frame Service.Drops done = absurd done
+command_follows : (old new : Desk) (client : ℕ) (next : Next) (service : Service) →
+    IsCommandDone old client next service new → FollowsUp service
+command_follows old new client next (Service.Begins other command id) done = tt
+command_follows old new client next (Service.Replies other command answer) done = tt
+command_follows old new client next (Service.Quits other) done = tt
+command_follows old new client next (Service.Arrives other command) done = absurd done
+command_follows old new client next (Service.Leaves other) done = absurd done
+command_follows old new client next (Service.Ends name ended answer told) done = absurd done
+command_follows old new client next (Service.Passes name ended other rest) done = absurd done
+command_follows old new client next (Service.Ages id) done = absurd done
+command_follows old new client next (Service.GivesUp id told) done = absurd done
+command_follows old new client next (Service.Releases id told) done = absurd done
+command_follows old new client next Service.Drops done = absurd done
 
 -- an idle connection on which a command waits gives a next command
-no_first : (connection : Option Connection) (frame : Strings) (waiting : List Strings) → has_next connection ≡ false →
-    doing connection ≡ Idle → waiting_on connection ≡ frame ∷ waiting → ⊥
-no_first None frame waiting none idle waits = absurd (cc)
-no_first (Some connection) frame waiting none idle waits =
+no_first : (connection : Option Connection) (next : Next) (waiting : List Next) → has_next connection ≡ false →
+    doing connection ≡ Idle → waiting_on connection ≡ next ∷ waiting → ⊥
+no_first None next waiting none idle waits = absurd (cc)
+no_first (Some connection) next waiting none idle waits =
     go connection.state connection.waiting.items none idle waits
   where
-    go : (state : State) (commands : List Strings) → gives_next_of state commands ≡ false → state ≡ Idle → commands ≡ frame ∷ waiting → ⊥
+    go : (state : State) (commands : List Next) → gives_next_of state commands ≡ false → state ≡ Idle → commands ≡ next ∷ waiting → ⊥
     go Idle [] none idle waits = absurd (cc)
     go Idle (command ∷ commands) none idle waits = absurd (cc)
     go Busy commands none idle waits = absurd (cc)
@@ -102,35 +103,36 @@ pub nothing_next : (client : ℕ) (old new : Node) (u v : Work) → has_next (co
     ServesClients old u [] new v → ServesNext client old u new v
 nothing_next client old new u v none serves = record {
   more = record { services = []; serves = serves; follows = tt };
-  first = λ frame waiting idle waits. no_first (connection_of old.desk client) frame waiting none idle waits;
+  first = λ next waiting idle waits. no_first (connection_of old.desk client) next waiting none idle waits;
 }
 
-carried_as : (a b : Keeper) (r s : Peers) (m n : ℕ) (p q : Counts) (client : ℕ) (frame also : Strings) (service : Service) → b ≡ a →
-    s ≡ r → n ≡ m → q ≡ p → also ≡ frame → IsCarriedOut b s n q client frame service → IsCarriedOut a r m p client also service
-carried_as a b r s m n p q client frame also service keeper peers calls counts same is =
-    subst (λ (f : Strings). IsCarriedOut a r m p client f service) (sym same)
-    (subst (λ (k : Keeper). IsCarriedOut k r m p client frame service) keeper
-    (subst (λ (x : Peers). IsCarriedOut b x m p client frame service) peers
-    (subst (λ (i : ℕ). IsCarriedOut b s i p client frame service) calls
-    (subst (λ (c : Counts). IsCarriedOut b s n c client frame service) counts is))))
+carried_as : (a b : Keeper) (r s : Peers) (m n : ℕ) (p q : Counts) (client : ℕ) (next also : Next) (service : Service) → b ≡ a →
+    s ≡ r → n ≡ m → q ≡ p → also ≡ next → IsCarriedOut b s n q client next service → IsCarriedOut a r m p client also service
+carried_as a b r s m n p q client next also service keeper peers calls counts same is =
+    subst (λ (f : Next). IsCarriedOut a r m p client f service) (sym same)
+    (subst (λ (k : Keeper). IsCarriedOut k r m p client next service) keeper
+    (subst (λ (x : Peers). IsCarriedOut b x m p client next service) peers
+    (subst (λ (i : ℕ). IsCarriedOut b s i p client next service) calls
+    (subst (λ (c : Counts). IsCarriedOut b s n c client next service) counts is))))
 
 -- the next command of a client is taken, and carried out
-pub taken_served : (a b c : Node) (u v : Work) (client : ℕ) (frame : Strings) → b.keeper ≡ a.keeper →
-    b.peers ≡ a.peers → IsCommandTaken a.desk client frame b.desk → ServesCommand client frame b u c v → ServesNext client a u c v
-taken_served a b c u v client frame same peers taken s =
+pub taken_served : (a b c : Node) (u v : Work) (client : ℕ) (next : Next) → b.keeper ≡ a.keeper →
+    b.peers ≡ a.peers → IsCommandTaken a.desk client next b.desk → ServesCommand client next b u c v → ServesNext client a u c v
+taken_served a b c u v client next same peers taken s =
     let many : index_map_len b.desk.calls ≡ index_map_len a.desk.calls = rw taken.calls in record {
       more = record {
         services = s.service ∷ [];
         serves = serves_one a c u v s.service
-            (command_served a.keeper.file.ticks a.desk b.desk c.desk client frame s.service taken s.done) s.told s.due s.notices
+            (command_served a.keeper.file.ticks a.keeper.file.fixed.delta a.desk b.desk c.desk client next s.service taken s.done)
+            s.told s.due s.notices
             (subst (λ (k : Keeper). IsRight k.ids.node k.file s.service) same s.right)
             (s.file ∙ ap (λ (k : Keeper). k.file) same) (s.number ∙ ap (λ (k : Keeper). k.ids.node) same);
-        follows = (command_follows b.desk c.desk client frame s.service s.done, tt);
+        follows = (command_follows b.desk c.desk client next s.service s.done, tt);
       };
       first = λ command waiting idle waits.
-          let both : command ∷ waiting ≡ frame ∷ waiting_on (connection_of b.desk client) = sym waits ∙ taken.taken.1 in
+          let both : command ∷ waiting ≡ next ∷ waiting_on (connection_of b.desk client) = sym waits ∙ taken.taken.1 in
           carried_as a.keeper b.keeper a.peers b.peers (index_map_len a.desk.calls) (index_map_len b.desk.calls) a.desk.counts b.desk.counts
-          client frame command s.service same peers many taken.counts (cc) s.carried;
+          client next command s.service same peers many taken.counts (cc) s.carried;
     }
 
 -- a busy connection is there: its client is sent the answer
@@ -149,13 +151,13 @@ answered_now old new client busy idle calls counts = record {
 }
 
 -- a command is answered at once
-pub replied : (client : ℕ) (frame : Strings) (answer : Answer) (old new : Node) (u v : Work) →
+pub replied : (client : ℕ) (next : Next) (answer : Answer) (old new : Node) (u v : Work) →
     IsClientAnswered old.desk client new.desk → IsGrown u v (answer_sent client answer) →
-    IsReplyTo old.keeper.ids.node old.keeper.file client (command_at frame) answer →
-    IsReplyHere old.keeper old.peers (index_map_len old.desk.calls) old.desk.counts (command_at frame) answer →
-    new.keeper.file ≡ old.keeper.file → new.keeper.ids.node ≡ old.keeper.ids.node → ServesCommand client frame old u new v
-replied client frame answer old new u v answered grown reply here file number = record {
-  service = Service.Replies client frame answer;
+    IsReplyTo old.keeper.ids.node old.keeper.file client (asked next) answer →
+    IsReplyHere old.keeper old.peers (index_map_len old.desk.calls) old.desk.counts (asked next) answer →
+    new.keeper.file ≡ old.keeper.file → new.keeper.ids.node ≡ old.keeper.ids.node → ServesCommand client next old u new v
+replied client next answer old new u v answered grown reply here file number = record {
+  service = Service.Replies client next answer;
   done = (refl, refl, answered);
   right = reply;
   carried = (refl, refl, here);
@@ -178,8 +180,8 @@ pub quits : (client : ℕ) (command : Command) (old new : Node) (u v : Work) (re
     OnOk result (is_some (connection_of new.desk client) ≡ is_some (connection_of old.desk client)) →
     OnOk result (KeepsOthers old.desk client new.desk) → new.desk.calls ≡ old.desk.calls →
     new.desk.counts ≡ old.desk.counts → new.keeper ≡ old.keeper →
-    OnOk result ((frame : Strings) → command_at frame ≡ Ok command → ServesCommand client frame old u new v)
-quits client command old new u v (Ok done) is busy grown state waiting stays others calls counts same = λ frame asks. record {
+    OnOk result ((next : Next) → asked next ≡ Ok command → ServesCommand client next old u new v)
+quits client command old new u v (Ok done) is busy grown state waiting stays others calls counts same = λ next asks. record {
   service = Service.Quits client;
   done = (
     refl,

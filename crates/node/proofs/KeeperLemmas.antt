@@ -1,27 +1,24 @@
 -- Calls that begin at what a node keeps, and letters that come, as what the node does for its clients.
-use Rattle.std.proofs.Common.{◌≡◌, inl, inr, ℕ, Bool, true, false, [], ◌∷◌, ◌++◌, None, Some, Ok}
+use Rattle.std.proofs.Common.{◌≡◌, inl, inr, ℕ, Bool, true, false, [], ◌∷◌, ◌++◌, None, Some, OnOk, Result, Ok, Err}
 use Rattle.std.proofs.Common.{refl, sym, subst, ap, ◌∙◌}
 use Rattle.std.proofs.lemmas.List.{append-nil}
 use Rattle.tag.specs.declared.refusal.Refusal.{Refusal}
 use Rattle.local_object.specs.Local.{LocalObject}
 use Rattle.local_object.specs.declared.progress.Ended.{Ended}
-use Rattle.client_commands.specs.Reading.{command_at}
 use Rattle.client_commands.specs.declared.answer.Answer.TheVariants as answers
 use Rattle.client_commands.specs.declared.answer.AnswerError.TheVariants as errors
 use Rattle.client_commands.specs.declared.command.Command.{Command}
 use Rattle.node_keeper.specs.Objects.{objects_of}
 use Rattle.mail.specs.Message.{is_request}
 use Rattle.node_effects.specs.Seen.{named_of}
-use Rattle.node_strings.specs.Strings.{Strings}
-use Rattle.node_effects.specs.Work.{IsGrown}
+use Rattle.node_clients.specs.Connections.{asked}
+use Rattle.node_clients.specs.declared.next.Next.{Next}
 use Rattle.letter.specs.declared.letter.NamedLetter.{NamedLetter}
 use Rattle.node_effects.specs.declared.work.Work.{Work}
-use Rattle.node_clients.specs.Answers.{answer_frame, ended_answer}
-use Rattle.node_clients.specs.Calls.{call_under, waiting_for, wanted_by}
-use Rattle.node_clients.specs.Desk.{growth_for, has_listener, listener, with_told}
-use Rattle.node_clients.specs.Served.{IsCallClosed, IsServiceDone, call_begun}
-use Rattle.node_clients.specs.Services.{Service, begun_notices}
-use Rattle.node_clients.proofs.ServedLemmas.{growth_dues, growth_frames, growth_notices}
+use Rattle.node_clients.specs.Answers.{answer_frame}
+use Rattle.node_clients.specs.Served.{IsServiceDone, call_begun}
+use Rattle.node_clients.specs.Services.{Service, begun_notices, service_dues, service_frames}
+use Rattle.node_clients.proofs.EndLemmas.{EndsAs, IsEnding}
 use Rattle.node_keeper.specs.Beginning.{Beginning, BeginsCall}
 use Rattle.node_keeper.specs.Delivering.{DeliversLetter, DeliversAs}
 use Rattle.node_keeper.specs.Keeping.{heeds, kept_of}
@@ -35,10 +32,16 @@ use Rattle.deeds.specs.CallId.{CallIds}
 use Rattle.indexmap.specs.IndexMap.{index_map_len}
 use Rattle.node_keeper.specs.Acts.{GivesId}
 use Rattle.node.specs.AtOnce.{BeginsHere, IsNextGiven, IsReplyHere}
-use Rattle.node.specs.Replies.{IsReplyTo, MayBegin}
-use Rattle.node.specs.Serving.{IsAwaited, ServesCommand, ServesMore}
+use Rattle.node.specs.Replies.{IsReplyTo, IsRight, MayBegin}
+use Rattle.node.specs.Serving.{FollowsUp, IsAwaited, ServesCommand, ServesMore}
 use Rattle.node.specs.declared.node.Node.{Node}
 use Rattle.node.proofs.ServingLemmas.{more_none, more_one, serves_none, serves_one}
+
+-- what follows from three things that hold of the same result
+pub of_three : {T E P Q R S : Type 0} (result : Result T E) → (P → Q → R → S) → OnOk result P → OnOk result Q →
+    OnOk result R → OnOk result S
+of_three (Ok x) f p q r = f p q r
+of_three (Err e) f p q r = tt
 
 begins_file : (call : Beginning) (old new : Keeper) (u v : Work) (begun : Begun) → BeginsCall call old u new v begun →
     new.file ≡ old.file
@@ -51,8 +54,8 @@ next_given old new id before after (inl is) = inl is.0
 next_given old new id before after (inr is) = inr is.1
 
 -- the command of a client was to begin a call, which waits now, or was refused
-pub call_served : (client : ℕ) (frame : Strings) (command : Command) (call : Beginning) (old new : Node) (u v w : Work)
-    (begun : Begun) → command_at frame ≡ Ok command →
+pub call_served : (client : ℕ) (next : Next) (command : Command) (call : Beginning) (old new : Node) (u v w : Work)
+    (begun : Begun) → asked next ≡ Ok command →
     ((id : ℕ) → begun_notices command id ≡ call.notice id ∷ []) →
     ((local : LocalObject) (id : ℕ) (why : Refusal) → call.refusal local id ≡ Some why →
     IsReplyTo old.keeper.ids.node old.keeper.file client (Ok command) (answers.Error (errors.Refused why))) →
@@ -64,8 +67,8 @@ pub call_served : (client : ℕ) (frame : Strings) (command : Command) (call : B
     ((id : ℕ) → IsNextGiven old.keeper.ids id → call.refusal (objects_of old.keeper.objects call.name) id ≡ None →
     BeginsHere old.keeper old.peers command id) →
     BeginsCall call old.keeper u new.keeper v begun → new.keeper.ids.node ≡ old.keeper.ids.node →
-    IsAwaited old.desk v client (call_begun client command) begun new.desk w → ServesCommand client frame old u new w
-call_served client frame command call old new u v w (begun.Open id) asks notices refusals may refused accepted begins number
+    IsAwaited old.desk v client (call_begun client command) begun new.desk w → ServesCommand client next old u new w
+call_served client next command call old new u v w (begun.Open id) asks notices refusals may refused accepted begins number
     awaited =
     let clients = begins_leaves call old.keeper new.keeper u v (begun.Open id) begins in
     let seen = begins_seen call old.keeper new.keeper u v (begun.Open id) begins in
@@ -84,13 +87,13 @@ call_served client frame command call old new u v w (begun.Open id) asks notices
       file = begins_file call old.keeper new.keeper u v (begun.Open id) begins;
       number = number;
     }
-call_served client frame command call old new u v w (begun.Refused why) asks notices refusals may refused accepted begins number
+call_served client next command call old new u v w (begun.Refused why) asks notices refusals may refused accepted begins number
     awaited =
     let clients = begins_leaves call old.keeper new.keeper u v (begun.Refused why) begins in
     let seen = begins_seen call old.keeper new.keeper u v (begun.Refused why) begins in
     let answer = answers.Error (errors.Refused why) in
     let grown = awaited.1 in record {
-      service = Service.Replies client frame answer;
+      service = Service.Replies client next answer;
       done = (refl, refl, awaited.0);
       right = subst (λ r. IsReplyTo old.keeper.ids.node old.keeper.file client r answer) (sym asks)
           (refusals (objects_of old.keeper.objects call.name) begins.id why begins.cause);
@@ -121,7 +124,7 @@ module _ (asker : ℕ) (it : NamedLetter) (old new : Node) (u v : Work) (number 
 
   -- a letter was dropped
   pub dropped_served : DeliversLetter asker it old.keeper u new.keeper v delivered.Dropped →
-      IsServiceDone old.keeper.file.ticks old.desk Service.Drops new.desk → ServesMore old u new v
+      IsServiceDone old.keeper.file.ticks old.keeper.file.fixed.delta old.desk Service.Drops new.desk → ServesMore old u new v
   dropped_served is dropped =
       let clients = delivers_leaves asker it old.keeper new.keeper u v delivered.Dropped is in
       more_one old new u v Service.Drops tt
@@ -138,24 +141,29 @@ module _ (asker : ℕ) (it : NamedLetter) (old new : Node) (u v : Work) (number 
       (delivers_seen asker it old.keeper new.keeper u v delivered.Handled is ∙ append-nil u.notices.items)
       (file_after delivered.Handled is) number)
 
+  -- what was done for the client of a call that ended follows up, and is right
+  ending_follows : (service : Service) → IsEnding service → FollowsUp service × IsRight old.keeper.ids.node old.keeper.file service
+  ending_follows (Service.Ends name ended answer told) ending = (tt, tt)
+  ending_follows (Service.Passes name ended client rest) ending = (tt, tt)
+  ending_follows (Service.Arrives client command) ending = absurd ending
+  ending_follows (Service.Leaves client) ending = absurd ending
+  ending_follows (Service.Begins client command id) ending = absurd ending
+  ending_follows (Service.Replies client command answer) ending = absurd ending
+  ending_follows (Service.Quits client) ending = absurd ending
+  ending_follows (Service.Ages id) ending = absurd ending
+  ending_follows (Service.GivesUp id told) ending = absurd ending
+  ending_follows (Service.Releases id told) ending = absurd ending
+  ending_follows Service.Drops ending = absurd ending
+
   -- a letter was taken, and a call ended
   pub ended_served : (ended : Ended) (w : Work) → DeliversLetter asker it old.keeper u new.keeper v (delivered.Ended ended) →
-      IsGrown v w (growth_for old.desk (waiting_for old.desk.calls ended.id)
-      (ended_answer (wanted_by (call_under old.desk.calls ended.id)) ended)) →
-      IsCallClosed old.desk ended.id (listener old.desk (waiting_for old.desk.calls ended.id)) new.desk →
-      new.desk.counts ≡ with_told (has_listener old.desk (waiting_for old.desk.calls ended.id)) old.desk.counts →
-      ServesMore old u new w
-  ended_served ended w is grown closed counts =
-      let who = waiting_for old.desk.calls ended.id in
-      let what = wanted_by (call_under old.desk.calls ended.id) in
-      let service = Service.Ends it.name ended what (listener old.desk who) in
+      EndsAs old.keeper.file.ticks old.keeper.file.fixed.delta it.name ended old.desk v new.desk w → ServesMore old u new w
+  ended_served ended w is ends =
       let clients = delivers_leaves asker it old.keeper new.keeper u v (delivered.Ended ended) is in
-      more_one old new u w service tt
-      (serves_one old new u w service (refl, closed, counts)
-      (grown.to_clients ∙ ap (λ xs. xs ++ (growth_for old.desk who (ended_answer what ended)).to_clients) clients.to_clients
-      ∙ ap (λ xs. u.to_clients.items ++ xs) (growth_frames old.desk who (ended_answer what ended)))
-      (grown.due ∙ ap (λ xs. xs ++ (growth_for old.desk who (ended_answer what ended)).due) clients.due
-      ∙ ap (λ xs. u.due.items ++ xs) (growth_dues old.desk who (ended_answer what ended)))
-      (grown.notices ∙ ap (λ xs. v.notices.items ++ xs) (growth_notices old.desk who (ended_answer what ended))
-      ∙ append-nil v.notices.items ∙ delivers_seen asker it old.keeper new.keeper u v (delivered.Ended ended) is) tt
-      (file_after (delivered.Ended ended) is) number)
+      let follows = ending_follows ends.service ends.ending in
+      more_one old new u w ends.service follows.0
+      (serves_one old new u w ends.service ends.done
+      (ends.told ∙ ap (λ xs. xs ++ service_frames ends.service) clients.to_clients)
+      (ends.due ∙ ap (λ xs. xs ++ service_dues ends.service) clients.due)
+      (ends.notices ∙ delivers_seen asker it old.keeper new.keeper u v (delivered.Ended ended) is
+      ∙ ap (λ ns. u.notices.items ++ ns) (sym ends.seen)) follows.1 (file_after (delivered.Ended ended) is) number)

@@ -6,7 +6,7 @@ use Rattle.indexmap.specs.IndexMap.{get}
 use Rattle.node_clients.specs.Connections.{has_next}
 use Rattle.node_clients.specs.declared.connections.Connections.{Connections}
 use Rattle.open_calls.proofs.ListLemmas.{all_weaker}
-use Rattle.node_strings.specs.Strings.{Strings}
+use Rattle.node_clients.specs.declared.next.Next.{Next}
 use Rattle.node_effects.specs.declared.work.Work.{Work}
 use Rattle.node_clients.specs.Desk.{IsDue, NoneWaits}
 use Rattle.node_clients.specs.Served.{IsCommandTaken}
@@ -28,29 +28,31 @@ not_next_waits clients client due none waits other next = go (waits other next)
         absurd (false≢true (sym none ∙ subst (λ n. has_next (get nat_eq clients.by_number n) ≡ true) same next))
     go (inr is) = is
 
-command_of : (old new : Desk) (client : ℕ) (frame : Strings) (service : Service) →
-    IsCommandDone old client frame service new → IsOfCommand client service
-command_of old new client frame (Service.Begins other command id) done = done.0
-command_of old new client frame (Service.Replies other command answer) done = done.0
-command_of old new client frame (Service.Quits other) done = done.0
-command_of old new client frame (Service.Arrives other command) done = absurd done
-command_of old new client frame (Service.Leaves other) done = absurd done
-command_of old new client frame (Service.Ends name ended what told) done = absurd done
-command_of old new client frame (Service.Ages id) done = absurd done
-command_of old new client frame (Service.GivesUp id told) done = absurd done
-command_of old new client frame (Service.Releases id told) done = absurd done
-command_of old new client frame Service.Drops done = absurd done
+command_of : (old new : Desk) (client : ℕ) (next : Next) (service : Service) →
+    IsCommandDone old client next service new → IsOfCommand client service
+command_of old new client next (Service.Begins other command id) done = done.0
+command_of old new client next (Service.Replies other command answer) done = done.0
+command_of old new client next (Service.Quits other) done = done.0
+command_of old new client next (Service.Arrives other command) done = absurd done
+command_of old new client next (Service.Leaves other) done = absurd done
+command_of old new client next (Service.Ends name ended answer told) done = absurd done
+command_of old new client next (Service.Passes name ended other rest) done = absurd done
+command_of old new client next (Service.Ages id) done = absurd done
+command_of old new client next (Service.GivesUp id told) done = absurd done
+command_of old new client next (Service.Releases id told) done = absurd done
+command_of old new client next Service.Drops done = absurd done
 
 -- the next command of a connection was carried out, which need not be due any more
-pub taken_waits : (a b c : Node) (u v : Work) (client : ℕ) (frame : Strings) → IsCommandTaken a.desk client frame b.desk →
-    ServesCommand client frame b u c v → NoneWaits a.desk.clients (client ∷ u.due.items) →
+pub taken_waits : (a b c : Node) (u v : Work) (client : ℕ) (next : Next) → IsCommandTaken a.desk client next b.desk →
+    ServesCommand client next b u c v → NoneWaits a.desk.clients (client ∷ u.due.items) →
     NoneWaits c.desk.clients v.due.items
-taken_waits a b c u v client frame taken s waits =
+taken_waits a b c u v client next taken s waits =
     let ticks = a.keeper.file.ticks in
+    let delta = a.keeper.file.fixed.delta in
     subst (λ xs. NoneWaits c.desk.clients xs) (sym s.due)
-    (command_waits ticks a.desk c.desk client s.service u.due.items
-    (command_of b.desk c.desk client frame s.service s.done)
-    (command_served ticks a.desk b.desk c.desk client frame s.service taken s.done)
+    (command_waits ticks delta a.desk c.desk client s.service u.due.items
+    (command_of b.desk c.desk client next s.service s.done)
+    (command_served ticks delta a.desk b.desk c.desk client next s.service taken s.done)
     (λ other apart next. others other apart (waits other next)))
   where
     others : (other : ℕ) → other ≢ client → IsDue (client ∷ u.due.items) other → IsDue u.due.items other
@@ -62,7 +64,7 @@ pub serves_wait : (a b : Node) (u v : Work) (services : List Service) → Serves
     AllByRecursion IsNoArrival services → NoneWaits a.desk.clients u.due.items → NoneWaits b.desk.clients v.due.items
 serves_wait a b u v services s none waits =
     subst (λ xs. NoneWaits b.desk.clients xs) (sym s.has.due)
-    (services_wait a.keeper.file.ticks a.desk b.desk services u.due.items none s.has.served waits)
+    (services_wait a.keeper.file.ticks a.keeper.file.fixed.delta a.desk b.desk services u.due.items none s.has.served waits)
 
 follows_none : (service : Service) → FollowsUp service → IsNoArrival service
 follows_none (Service.Arrives client command) follows = absurd follows
@@ -70,7 +72,8 @@ follows_none (Service.Leaves client) follows = tt
 follows_none (Service.Begins client command id) follows = tt
 follows_none (Service.Replies client command answer) follows = tt
 follows_none (Service.Quits client) follows = tt
-follows_none (Service.Ends name ended what told) follows = tt
+follows_none (Service.Ends name ended answer told) follows = tt
+follows_none (Service.Passes name ended client rest) follows = tt
 follows_none (Service.Ages id) follows = tt
 follows_none (Service.GivesUp id told) follows = tt
 follows_none (Service.Releases id told) follows = tt
@@ -87,7 +90,8 @@ tick_none id (Service.Leaves client) tick = tt
 tick_none id (Service.Begins client command other) tick = tt
 tick_none id (Service.Replies client command answer) tick = tt
 tick_none id (Service.Quits client) tick = tt
-tick_none id (Service.Ends name ended what told) tick = tt
+tick_none id (Service.Ends name ended answer told) tick = tt
+tick_none id (Service.Passes name ended client rest) tick = tt
 tick_none id (Service.Ages other) tick = tt
 tick_none id (Service.GivesUp other told) tick = tt
 tick_none id (Service.Releases other told) tick = tt

@@ -2,6 +2,7 @@ pub mod TellLemmas
 pub mod PeerLemmas
 pub mod ReadyLemmas
 pub mod ShownLemmas
+pub mod SilenceLemmas
 pub mod MoveLemmas
 pub mod ServingLemmas
 pub mod CommandLemmas

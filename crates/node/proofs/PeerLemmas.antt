@@ -9,7 +9,9 @@ use Rattle.node_messages.specs.Reading.{message_from}
 use Rattle.node_messages.specs.declared.error.Fault.{Fault}
 use Rattle.node_messages.specs.declared.message.NodeMessage.{NodeMessage}
 use Rattle.node_strings.specs.declared.arrival.Arrival.TheVariants as arrived
-use Rattle.node.specs.Peers.{AreDistinctAfter, HasNotedIf, IsChangedIfRead, OthersAreToldOnce, is_foreign, is_known, report_of, with_other}
+use Rattle.node.specs.Frames.{is_admitted}
+use Rattle.node.specs.Peers.{AreDistinctAfter, HasNotedIf, IsChangedIfRead, OthersAreToldOnce, after_message, is_foreign, is_known}
+use Rattle.node.specs.Peers.{report_of, with_other}
 use Rattle.node.specs.declared.peers.Peers.{Peers}
 use Rattle.node.specs.declared.peers.TheConstants.{MOST_OTHERS}
 
@@ -37,15 +39,21 @@ with_once others other are = go (nat_lt (length others) MOST_OTHERS && not (is_k
         (not_true (is_known others other) (and_parts (nat_lt (length others) MOST_OTHERS) (not (is_known others other)) e).1)
     go false e = are
 
-noted_once : (b : Bool) (other : Report) (old new : Peers) → HasNotedIf b other old new → AreDistinctAfter [] old.others.items →
-    AreDistinctAfter [] new.others.items
-noted_once true other old new noted are = subst (AreDistinctAfter []) (sym noted.others) (with_once old.others.items other are)
-noted_once false other old new same are = subst (λ (peers : Peers). AreDistinctAfter [] peers.others.items) (sym same) are
+-- a message of the same cluster file changes no others
+others_stay : (admitted : Bool) (peers : Peers) → (after_message admitted peers).others ≡ peers.others
+others_stay true peers = refl
+others_stay false peers = refl
+
+noted_once : (b : Bool) (other : Report) (admitted : Bool) (old new : Peers) → HasNotedIf b other admitted old new →
+    AreDistinctAfter [] old.others.items → AreDistinctAfter [] new.others.items
+noted_once true other admitted old new noted are = subst (AreDistinctAfter []) (sym noted.others) (with_once old.others.items other are)
+noted_once false other admitted old new same are =
+    subst (λ xs. AreDistinctAfter [] xs.items) (sym (ap (λ (peers : Peers). peers.others) same ∙ others_stay admitted old)) are
 
 read_once : (keeper : Keeper) (sender : ℕ) (r : Result NodeMessage Fault) (old new : Peers) →
     IsChangedIfRead keeper sender r old new → AreDistinctAfter [] old.others.items → AreDistinctAfter [] new.others.items
 read_once keeper sender (Ok message) old new changed are =
-    noted_once (is_foreign keeper message) (report_of keeper sender message) old new changed are
+    noted_once (is_foreign keeper message) (report_of keeper sender message) (is_admitted keeper sender message) old new changed are
 read_once keeper sender (Err fault) old new same are =
     subst (λ (peers : Peers). AreDistinctAfter [] peers.others.items) (sym same) are
 

@@ -39,7 +39,7 @@ ready_hears fixed hears name lawful ready =
     let split = sum_by-take-drop (λ x. cond (hears x) 1 0) xs n in
     let behind : count_by hears (drop n xs) ≤ length (drop n xs) = count_by-le-length hears (drop n xs) in
     let left : length (drop n xs) ≡ length xs - n = length-drop n xs in
-    let front : length (take n xs) ≡ n = length-take-le n xs (omega (arith, lawful.placed.available, many)) in
+    let front : length (take n xs) ≡ n = length-take-le n xs (omega (arith, lawful.available, many)) in
     let enough : length fixed.nodes + first_quorum fixed ≤ count_by hears fixed.nodes + n = leb-true _ _ ready in
     subst (λ m. (m + fixed.k + 1) / 2 ≤ count_by hears (take n xs)) (sym front)
-    (omega (arith, enough, split, behind, left, many, all, lawful.placed.available))
+    (omega (arith, enough, split, behind, left, many, all, lawful.available))

@@ -34,12 +34,12 @@ serves_none old new u v desk told due notices file number = record {
 
 -- one thing is done
 pub serves_one : (old new : Node) (u v : Work) (service : Service) →
-    IsServiceDone old.keeper.file.ticks old.desk service new.desk →
+    IsServiceDone old.keeper.file.ticks old.keeper.file.fixed.delta old.desk service new.desk →
     v.to_clients.items ≡ u.to_clients.items ++ service_frames service → v.due.items ≡ u.due.items ++ service_dues service →
     v.notices.items ≡ u.notices.items ++ service_notices service → IsRight old.keeper.ids.node old.keeper.file service →
     new.keeper.file ≡ old.keeper.file → new.keeper.ids.node ≡ old.keeper.ids.node → ServesClients old u (service ∷ []) new v
 serves_one old new u v service served told due notices right file number = record {
-  has = one_served old.keeper.file.ticks old.desk new.desk u v service served told due notices;
+  has = one_served old.keeper.file.ticks old.keeper.file.fixed.delta old.desk new.desk u v service served told due notices;
   right = (right, tt);
   file = file;
   number = number;
@@ -55,8 +55,8 @@ all_right number same file also services e f is =
 pub serves_then : (a b c : Node) (u v w : Work) (first second : List Service) → ServesClients a u first b v →
     ServesClients b v second c w → ServesClients a u (first ++ second) c w
 serves_then a b c u v w first second f s = record {
-  has = has_served_then a.keeper.file.ticks a.desk b.desk c.desk u v w first second f.has
-      (subst (λ (file : FileContents). HasServed file.ticks b.desk v second c.desk w) f.file s.has);
+  has = has_served_then a.keeper.file.ticks a.keeper.file.fixed.delta a.desk b.desk c.desk u v w first second f.has
+      (subst (λ (file : FileContents). HasServed file.ticks file.fixed.delta b.desk v second c.desk w) f.file s.has);
   right = all_append (IsRight a.keeper.ids.node a.keeper.file) first second f.right
       (all_right a.keeper.ids.node b.keeper.ids.node a.keeper.file b.keeper.file second f.number f.file s.right);
   file = s.file ∙ f.file;
@@ -75,7 +75,8 @@ more_one old new u v service follows serves =
 
 -- one service that changes the desk alone: it sends no frame, no client sees anything, and no connection is idle again
 pub unsent_one : (old new : Node) (work : Work) (service : Service) →
-    IsServiceDone old.keeper.file.ticks old.desk service new.desk → service_frames service ≡ [] → service_dues service ≡ [] →
+    IsServiceDone old.keeper.file.ticks old.keeper.file.fixed.delta old.desk service new.desk →
+    service_frames service ≡ [] → service_dues service ≡ [] →
     service_notices service ≡ [] → IsRight old.keeper.ids.node old.keeper.file service → new.keeper ≡ old.keeper →
     ServesClients old work (service ∷ []) new work
 unsent_one old new work service served frames dues notices right same =
@@ -86,11 +87,13 @@ unsent_one old new work service served frames dues notices right same =
     right (ap (λ (k : Keeper). k.file) same) (ap (λ (k : Keeper). k.ids.node) same)
 
 -- a frame is dropped
-pub drops_one : (old new : Node) (work : Work) → IsServiceDone old.keeper.file.ticks old.desk Service.Drops new.desk →
+pub drops_one : (old new : Node) (work : Work) →
+    IsServiceDone old.keeper.file.ticks old.keeper.file.fixed.delta old.desk Service.Drops new.desk →
     new.keeper ≡ old.keeper → ServesClients old work (Service.Drops ∷ []) new work
 drops_one old new work served same = unsent_one old new work Service.Drops served refl refl refl tt same
 
-pub drops_more : (old new : Node) (work : Work) → IsServiceDone old.keeper.file.ticks old.desk Service.Drops new.desk →
+pub drops_more : (old new : Node) (work : Work) →
+    IsServiceDone old.keeper.file.ticks old.keeper.file.fixed.delta old.desk Service.Drops new.desk →
     new.keeper ≡ old.keeper → ServesMore old work new work
 drops_more old new work served same = more_one old new work work Service.Drops tt (drops_one old new work served same)
 

@@ -1,4 +1,3 @@
--- The contracts that docs/trusted.md lists do not depend on this file; other contracts and proofs do.
 -- A node's log that is written anew.
 use Rattle.std.specs.Prelude.{◌≡◌, ◌∷◌, ℕ, List, [], map}
 use Rattle.std.specs.List.{AllByRecursion}

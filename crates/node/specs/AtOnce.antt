@@ -1,22 +1,24 @@
--- The contracts that docs/trusted.md lists do not depend on this file; other contracts and proofs do.
 -- What a node does with a command that it carries out at once, by what it keeps before the command comes.
 use Rattle.std.specs.Prelude.{◌≡◌, ◌⊎◌, ⊤, ℕ, List, [], ◌∷◌, length, Option, None, Some, Ok, Err}
 use Rattle.indexmap.specs.IndexMap.{index_map_len}
 use Rattle.tag.specs.declared.refusal.Refusal.{Refusal}
 use Rattle.deeds.specs.CallId.{CallIds, next_given_id, with_next_epoch}
-use Rattle.node_clients.specs.Connections.{doing, waiting_on}
+use Rattle.node_clients.specs.Connections.{asked, doing, waiting_on}
 use Rattle.node_clients.specs.declared.connection.Connection.{Connection}
 use Rattle.node_clients.specs.declared.connection.State.TheVariants.{Idle}
 use Rattle.local_object.specs.Doing.{move_refusal, read_refusal, write_refusal}
 use Rattle.local_object.specs.Local.{LocalObject}
-use Rattle.client_commands.specs.Reading.{Found, command_at}
+use Rattle.client_commands.specs.Deletion.{name_now}
+use Rattle.client_commands.specs.Reading.{Found}
 use Rattle.client_commands.specs.declared.answer.Answer.{Answer}
 use Rattle.client_commands.specs.declared.answer.Answer.TheVariants as answers
 use Rattle.client_commands.specs.declared.answer.AnswerError.{AnswerError}
 use Rattle.client_commands.specs.declared.answer.AnswerError.TheVariants as errors
 use Rattle.client_commands.specs.declared.command.Command.{Command}
 use Rattle.client_commands.specs.declared.command.Command.TheVariants as ask
-use Rattle.node_strings.specs.Strings.{Strings}
+use Rattle.client_commands.specs.declared.sections.Sections.{Sections}
+use Rattle.node_clients.specs.declared.next.Next.{Next}
+use Rattle.node_clients.specs.declared.next.Next.TheVariants.{Came}
 use Rattle.node_strings.specs.declared.arrival.Arrival.{Arrival}
 use Rattle.node_strings.specs.declared.arrival.Arrival.TheVariants as came
 use Rattle.node_keeper.specs.Objects.{objects_of}
@@ -48,10 +50,10 @@ IsBegunHere keeper name refusal id =
 
 -- INFO
 
--- the answer to INFO: its text, with some number of connections and some number of open moves
-abbrev pub IsInfoHere : Keeper → Peers → (calls : ℕ) → Counts → Answer → Type 0
-IsInfoHere keeper peers calls counts answer =
-    (clients moves : ℕ) × (answer ≡ answers.Value (info_lines keeper peers clients calls moves counts))
+-- the answer to INFO for these sections: its text, with some number of connections and some number of open moves
+abbrev pub IsInfoHere : Sections → Keeper → Peers → (calls : ℕ) → Counts → Answer → Type 0
+IsInfoHere asked keeper peers calls counts answer =
+    (clients moves : ℕ) × (answer ≡ answers.Value (info_lines asked keeper peers clients calls moves counts))
 
 -- Commands
 
@@ -64,7 +66,7 @@ IsMoveRefusedHere None keeper name answer = IsRefusedHere keeper name move_refus
 -- node keeps a written version, LAYOUT by the last layout that the node knows, and SCAN by the next such names; for any
 -- other command this says nothing
 abbrev pub IsPlainHere : Keeper → Peers → (calls : ℕ) → Counts → Command → Answer → Type 0
-IsPlainHere keeper peers calls counts ask.Info answer = IsInfoHere keeper peers calls counts answer
+IsPlainHere keeper peers calls counts (ask.Info asked) answer = IsInfoHere asked keeper peers calls counts answer
 IsPlainHere keeper peers calls counts ask.CountWritten answer =
     answer ≡ answers.Number (length (written_names keeper.objects))
 IsPlainHere keeper peers calls counts (ask.ShowLayout name) answer = IsLayoutHere keeper.objects name answer
@@ -79,6 +81,8 @@ IsReplyHere keeper peers calls counts (Err fault) answer = ⊤
 IsReplyHere keeper peers calls counts (Ok (ask.Read wanted name)) answer = IsRefusedHere keeper name read_refusal answer
 IsReplyHere keeper peers calls counts (Ok (ask.Set name value)) answer =
     IsRefusedHere keeper name (λ local id. write_refusal local id value) answer
+IsReplyHere keeper peers calls counts (Ok (ask.Delete deletion)) answer =
+    IsRefusedHere keeper (name_now deletion) (λ local id. write_refusal local id []) answer
 IsReplyHere keeper peers calls counts (Ok (ask.Move name layout)) answer =
     IsMoveRefusedHere (move_fault keeper.ids.node keeper.file peers.heard layout) keeper name answer
 IsReplyHere keeper peers calls counts (Ok command) answer = IsPlainHere keeper peers calls counts command answer
@@ -87,26 +91,27 @@ IsReplyHere keeper peers calls counts (Ok command) answer = IsPlainHere keeper p
 abbrev pub BeginsHere : Keeper → Peers → Command → (id : ℕ) → Type 0
 BeginsHere keeper peers (ask.Read wanted name) id = IsBegunHere keeper name read_refusal id
 BeginsHere keeper peers (ask.Set name value) id = IsBegunHere keeper name (λ local id. write_refusal local id value) id
+BeginsHere keeper peers (ask.Delete deletion) id =
+    IsBegunHere keeper (name_now deletion) (λ local id. write_refusal local id []) id
 BeginsHere keeper peers (ask.Move name layout) id =
     (move_fault keeper.ids.node keeper.file peers.heard layout ≡ None) × IsBegunHere keeper name move_refusal id
 BeginsHere keeper peers command id = ⊤
 
 -- the service carries out this command of a client, and its outcome is the one for what the node keeps
-abbrev pub IsCarriedOut : Keeper → Peers → (calls : ℕ) → Counts → (client : ℕ) → (frame : Strings) → Service → Type 0
-IsCarriedOut keeper peers calls counts client frame (Service.Begins other command id) =
-    (other ≡ client) × (command_at frame ≡ Ok command) × BeginsHere keeper peers command id
-IsCarriedOut keeper peers calls counts client frame (Service.Replies other command answer) =
-    (other ≡ client) × (command ≡ frame) × IsReplyHere keeper peers calls counts (command_at frame) answer
-IsCarriedOut keeper peers calls counts client frame (Service.Quits other) =
-    (other ≡ client) × (command_at frame ≡ Ok ask.Quit)
-IsCarriedOut keeper peers calls counts client frame service = ⊥
+abbrev pub IsCarriedOut : Keeper → Peers → (calls : ℕ) → Counts → (client : ℕ) → Next → Service → Type 0
+IsCarriedOut keeper peers calls counts client next (Service.Begins other command id) =
+    (other ≡ client) × (asked next ≡ Ok command) × BeginsHere keeper peers command id
+IsCarriedOut keeper peers calls counts client next (Service.Replies other command answer) =
+    (other ≡ client) × (command ≡ next) × IsReplyHere keeper peers calls counts (asked next) answer
+IsCarriedOut keeper peers calls counts client next (Service.Quits other) =
+    (other ≡ client) × (asked next ≡ Ok ask.Quit)
+IsCarriedOut keeper peers calls counts client next service = ⊥
 
 -- the first of these services carries out this command of a client
-abbrev pub IsFirstDone : Keeper → Peers → (calls : ℕ) → Counts → (client : ℕ) → (frame : Strings) → List Service
-    → Type 0
-IsFirstDone keeper peers calls counts client frame [] = ⊥
-IsFirstDone keeper peers calls counts client frame (service ∷ services) =
-    IsCarriedOut keeper peers calls counts client frame service
+abbrev pub IsFirstDone : Keeper → Peers → (calls : ℕ) → Counts → (client : ℕ) → Next → List Service → Type 0
+IsFirstDone keeper peers calls counts client next [] = ⊥
+IsFirstDone keeper peers calls counts client next (service ∷ services) =
+    IsCarriedOut keeper peers calls counts client next service
 
 -- a connection is idle, and no command waits on it; so is one that is not there
 abbrev pub IsFree : Option Connection → Type 0
@@ -116,5 +121,5 @@ IsFree connection = (doing connection ≡ Idle) × (waiting_on connection ≡ []
 abbrev pub IsAtOnce : Option Arrival → Keeper → Peers → Desk → (more : List Service) → Type 0
 IsAtOnce (Some (came.Command client frame)) keeper peers desk more =
     IsFree (connection_of desk client) →
-    IsFirstDone keeper peers (index_map_len desk.calls) desk.counts client frame more
+    IsFirstDone keeper peers (index_map_len desk.calls) desk.counts client (Came frame) more
 IsAtOnce arrival keeper peers desk more = ⊤

@@ -1,4 +1,3 @@
--- The contracts that docs/trusted.md lists do not depend on this file; other contracts and proofs do.
 -- The letters that frames carry.
 use Rattle.std.specs.Prelude.{◌≡◌, ℕ, ◌||◌, ◌&&◌, Bool, if◌then◌else◌, List, []}
 use Rattle.std.specs.Prelude.{Option, None, Some, Result, Ok, Err}

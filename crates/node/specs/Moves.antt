@@ -1,4 +1,3 @@
--- The contracts that docs/trusted.md lists do not depend on this file; other contracts and proofs do.
 -- Why a node may not begin a move.
 use Rattle.std.specs.Prelude.{ℕ, Bool, ◌==◌, ◌||◌, not, nat_le, Option, None, Some, if◌then◌else◌}
 use Rattle.std.specs.List.{count_by, find}

@@ -1,7 +1,7 @@
--- The contracts that docs/trusted.md lists do not depend on this file; other contracts and proofs do.
 -- What a node knows of the other nodes, beside what their messages say.
-use Rattle.std.specs.Prelude.{◌≡◌, ◌==◌, ◌+◌, ◌&&◌, ⊤, ℕ, not, nat_lt, Bool, true, false, List, [], ◌∷◌, ◌++◌, length}
-use Rattle.std.specs.Prelude.{Option, None, Some, Result, Ok, Err, if◌then◌else◌, slice_get}
+use Rattle.std.specs.Prelude.{◌≡◌, ◌==◌, ◌+◌, ◌-◌, ◌^◌, min, ◌&&◌, ⊤, ℕ, not, nat_lt, Bool, true, false}
+use Rattle.std.specs.Prelude.{List, [], ◌∷◌, ◌++◌, length, replicate, slice_get}
+use Rattle.std.specs.Prelude.{Option, None, Some, Result, Ok, Err, if◌then◌else◌}
 use Rattle.std.specs.List.{list_any}
 use Rattle.std.specs.Str.{bytes_eq}
 use Rattle.node_clients.specs.Desk.{one_more_counted}
@@ -10,17 +10,54 @@ use Rattle.node_keeper.specs.declared.keeper.Keeper.{Keeper}
 use Rattle.node_messages.specs.Reading.{message_from}
 use Rattle.node_messages.specs.declared.error.Fault.{Fault}
 use Rattle.node_messages.specs.declared.message.NodeMessage.{NodeMessage}
-use Rattle.node_strings.specs.Heard.{tells_nodes}
+use Rattle.node_strings.specs.Heard.{has_heard, tells_nodes}
 use Rattle.node_strings.specs.declared.heard.Heard.{Heard}
 use Rattle.node_strings.specs.declared.arrival.Arrival.{Arrival}
 use Rattle.node_strings.specs.declared.arrival.Arrival.TheVariants as came
+use Rattle.node.specs.Frames.{is_admitted}
+use Rattle.node.specs.declared.drops.Drops.{Drops}
 use Rattle.node.specs.declared.peers.Peers.{Peers}
 use Rattle.node.specs.declared.peers.TheConstants.{MOST_OTHERS}
+use Rattle.node.specs.declared.silences.TheConstants.{NUMBERS}
+
+-- Silences
+
+-- how many ticks have come since the last one that named a node, if any did, after one more, which names it or not
+abbrev pub silence_after : (named : Bool) → Option ℕ → Option ℕ
+silence_after true silence = Some 0
+silence_after false None = None
+silence_after false (Some ticks) = Some (min (ticks + 1) (2 ^ 32 - 1))
+
+-- the same for the nodes with the number `node` and the numbers behind it, after a tick that names these nodes
+abbrev pub silences_after : Heard → (node : ℕ) → List (Option ℕ) → List (Option ℕ)
+silences_after heard node [] = []
+silences_after heard node (silence ∷ more) =
+    silence_after (has_heard heard node) silence ∷ silences_after heard (node + 1) more
+
+-- Dropped frames
+
+-- none was dropped
+abbrev pub none_dropped : Drops
+none_dropped = record { malformed = 0; unreadable = 0; not_admitted = 0 }
+
+-- one more frame that no host sends
+abbrev pub with_malformed : Drops → Drops
+with_malformed drops = record drops { malformed = one_more_counted drops.malformed }
+
+-- one more frame of a node that is no message
+abbrev pub with_unreadable : Drops → Drops
+with_unreadable drops = record drops { unreadable = one_more_counted drops.unreadable }
+
+-- one more message that is not admitted
+abbrev pub with_not_admitted : Drops → Drops
+with_not_admitted drops = record drops { not_admitted = one_more_counted drops.not_admitted }
 
 -- nothing is known before a frame has come
 pub record KnowsNothing (peers : Peers) : Type 0 where
   pub heard : peers.heard ≡ None
+  pub silences : peers.silences ≡ replicate NUMBERS None
   pub foreign : peers.foreign ≡ 0
+  pub drops : peers.drops ≡ none_dropped
   pub others : peers.others.items ≡ []
   pub told : peers.told ≡ 0
 
@@ -29,6 +66,11 @@ pub record KnowsNothing (peers : Peers) : Type 0 where
 -- the nodes that the host hears, if it tells of any
 abbrev pub heard_at : Heard → Option Heard
 heard_at heard = if tells_nodes heard then Some heard else None
+
+-- what is known after a tick that names these nodes
+abbrev pub with_tick : Heard → Peers → Peers
+with_tick heard peers =
+    record peers { heard = heard_at heard; silences = silences_after heard 0 peers.silences }
 
 -- Nodes with another cluster file
 
@@ -56,34 +98,41 @@ with_other others other =
 -- a message of a node with another cluster file was counted, and the node is told of once
 pub record HasNoted (other : Report) (old new : Peers) : Type 0 where
   pub heard : new.heard ≡ old.heard
+  pub silences : new.silences ≡ old.silences
   pub foreign : new.foreign ≡ one_more_counted old.foreign
+  pub drops : new.drops ≡ old.drops
   pub others : new.others.items ≡ with_other old.others.items other
   pub told : new.told ≡ old.told
 
--- if the condition holds, a message of a node with another cluster file was noted; otherwise nothing changed
-abbrev pub HasNotedIf : Bool → (other : Report) → (old new : Peers) → Type 0
-HasNotedIf true other old new = HasNoted other old new
-HasNotedIf false other old new = new ≡ old
+-- what a message of a node with the same cluster file changes: it is counted unless it is admitted
+abbrev pub after_message : (admitted : Bool) → Peers → Peers
+after_message admitted peers = if admitted then peers else record peers { drops = with_not_admitted peers.drops }
+
+-- what a message changes: one of a node with another cluster file was noted
+abbrev pub HasNotedIf : (foreign : Bool) → (other : Report) → (admitted : Bool) → (old new : Peers) → Type 0
+HasNotedIf true other admitted old new = HasNoted other old new
+HasNotedIf false other admitted old new = new ≡ after_message admitted old
 
 -- what a message changes
 abbrev pub IsChangedByMessage : Keeper → (sender : ℕ) → NodeMessage → (old new : Peers) → Type 0
 IsChangedByMessage keeper sender message old new =
-    HasNotedIf (is_foreign keeper message) (report_of keeper sender message) old new
+    HasNotedIf (is_foreign keeper message) (report_of keeper sender message) (is_admitted keeper sender message) old new
 
--- what a frame of a node changes, if it was read as a message
+-- what a frame of a node changes: if it was read, what the message changes; otherwise it is counted
 abbrev pub IsChangedIfRead : Keeper → (sender : ℕ) → Result NodeMessage Fault → (old new : Peers) → Type 0
 IsChangedIfRead keeper sender (Ok message) old new = IsChangedByMessage keeper sender message old new
-IsChangedIfRead keeper sender (Err fault) old new = new ≡ old
+IsChangedIfRead keeper sender (Err fault) old new = new ≡ record old { drops = with_unreadable old.drops }
 
--- What changes with what has come: at a tick, the nodes that the host hears; with a message of a node that has another
--- cluster file, the count of these messages, and the nodes of which is told. Nothing changes with anything else.
+-- What changes with what has come: at a tick, the nodes that the host hears, and the silences; with a message of a node
+-- that has another cluster file, the count of these messages, and the nodes of which is told; with any other frame that
+-- is dropped before its letter is looked at, the count for its cause. Nothing changes with anything else.
 abbrev pub IsChangedBy : Option Arrival → Keeper → (old new : Peers) → Type 0
-IsChangedBy (Some (came.Tick heard)) keeper old new = new ≡ record old { heard = heard_at heard }
+IsChangedBy (Some (came.Tick heard)) keeper old new = new ≡ with_tick heard old
 IsChangedBy (Some (came.Message sender frame)) keeper old new =
     IsChangedIfRead keeper sender (message_from frame) old new
 IsChangedBy (Some (came.Command client frame)) keeper old new = new ≡ old
 IsChangedBy (Some (came.Left client)) keeper old new = new ≡ old
-IsChangedBy None keeper old new = new ≡ old
+IsChangedBy None keeper old new = new ≡ record old { drops = with_malformed old.drops }
 
 -- Reports
 

@@ -1,4 +1,3 @@
--- The contracts that docs/trusted.md lists do not depend on this file; other contracts and proofs do.
 -- What a node carries out again from an entry of its log, and which entries it refuses.
 use Rattle.std.specs.Prelude.{◌≡◌, ◌≢◌, ◌⊎◌, ◌^◌, ⊤, ℕ, suc, nat_lt, Bool, true, false, Option, None, Some, Ok, Err}
 use Rattle.std.specs.Prelude.{Result}

@@ -1,11 +1,10 @@
--- The contracts that docs/trusted.md lists do not depend on this file; other contracts and proofs do.
 -- Which commands begin a call, and how the others are answered.
-use Rattle.std.specs.Prelude.{◌≡◌, ⊤, ℕ, List, Option, None, Some, Ok, Err}
+use Rattle.std.specs.Prelude.{◌≡◌, ⊤, ℕ, List, [], Option, None, Some, Ok, Err}
 use Rattle.cluster_file.specs.File.{FileContents}
 use Rattle.tag.specs.declared.refusal.Refusal.{Refusal}
 use Rattle.local_object.specs.Doing.{move_refusal, read_refusal, write_refusal}
 use Rattle.local_object.specs.Local.{LocalObject}
-use Rattle.client_commands.specs.Reading.{Found, command_at}
+use Rattle.client_commands.specs.Reading.{Found}
 use Rattle.client_commands.specs.Words.{count_of_names}
 use Rattle.client_commands.specs.declared.answer.Answer.{Answer}
 use Rattle.client_commands.specs.declared.answer.Answer.TheVariants as answers
@@ -13,6 +12,7 @@ use Rattle.client_commands.specs.declared.answer.AnswerError.{AnswerError}
 use Rattle.client_commands.specs.declared.answer.AnswerError.TheVariants as errors
 use Rattle.client_commands.specs.declared.command.Command.{Command}
 use Rattle.client_commands.specs.declared.command.Command.TheVariants as ask
+use Rattle.node_clients.specs.Connections.{asked}
 use Rattle.node_clients.specs.Services.{Service}
 use Rattle.node_strings.specs.declared.heard.Heard.{Heard}
 use Rattle.node.specs.Moves.{move_fault}
@@ -32,7 +32,7 @@ IsMoveRefused None answer = IsRefusedBy move_refusal answer
 -- how a command that begins no call, and is no QUIT, is answered: INFO by some lines, DBSIZE by some number, LAYOUT by
 -- some line, SCAN by some names, and each other one by its only answer; for any other command this says nothing
 abbrev pub IsPlainReply : (client : ℕ) → Command → Answer → Type 0
-IsPlainReply client ask.Info answer = (lines : List ℕ) × (answer ≡ answers.Value lines)
+IsPlainReply client (ask.Info asked) answer = (lines : List ℕ) × (answer ≡ answers.Value lines)
 IsPlainReply client ask.CountWritten answer = (count : ℕ) × (answer ≡ answers.Number count)
 IsPlainReply client (ask.ShowLayout name) answer = (line : List ℕ) × (answer ≡ answers.Value line)
 IsPlainReply client (ask.Scan cursor options) answer = IsPage answer
@@ -56,6 +56,8 @@ IsReplyTo number file client (Err fault) answer = answer ≡ answers.Error (erro
 IsReplyTo number file client (Ok (ask.Read wanted name)) answer = IsRefusedBy read_refusal answer
 IsReplyTo number file client (Ok (ask.Set name value)) answer =
     IsRefusedBy (λ local id. write_refusal local id value) answer
+IsReplyTo number file client (Ok (ask.Delete deletion)) answer =
+    IsRefusedBy (λ local id. write_refusal local id []) answer
 IsReplyTo number file client (Ok (ask.Move name layout)) answer =
     (heard : Option Heard) × IsMoveRefused (move_fault number file heard layout) answer
 IsReplyTo number file client (Ok ask.Quit) answer = ⊥
@@ -68,6 +70,6 @@ MayBegin number file command = ⊤
 
 -- what the node of this number does with a command is right: it may begin the call, or it gives the right answer
 abbrev pub IsRight : (number : ℕ) → FileContents → Service → Type 0
-IsRight number file (Service.Replies client command answer) = IsReplyTo number file client (command_at command) answer
+IsRight number file (Service.Replies client command answer) = IsReplyTo number file client (asked command) answer
 IsRight number file (Service.Begins client command id) = MayBegin number file command
 IsRight number file service = ⊤

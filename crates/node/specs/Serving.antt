@@ -1,11 +1,9 @@
--- The contracts that docs/trusted.md lists do not depend on this file; other contracts and proofs do.
 -- What a node does for its clients with what has come.
 use Rattle.std.specs.Prelude.{◌≡◌, ⊤, ℕ, Bool, true, false, List, [], ◌∷◌, ◌++◌, Option, None, Some, Ok}
 use Rattle.std.specs.List.{AllByRecursion}
 use Rattle.indexmap.specs.IndexMap.{index_map_len, keys}
 use Rattle.node_strings.specs.declared.arrival.Arrival.{Arrival}
 use Rattle.node_strings.specs.declared.arrival.Arrival.TheVariants as came
-use Rattle.client_commands.specs.Reading.{command_at}
 use Rattle.client_commands.specs.declared.answer.Answer.TheVariants as answers
 use Rattle.client_commands.specs.declared.answer.AnswerError.TheVariants as errors
 use Rattle.client_commands.specs.declared.command.Command.TheVariants as ask
@@ -13,7 +11,8 @@ use Rattle.node_strings.specs.Strings.{Strings}
 use Rattle.node_effects.specs.Work.{IsGrown}
 use Rattle.node_effects.specs.declared.notice.Notice.{Notice}
 use Rattle.node_effects.specs.declared.work.Work.{Work}
-use Rattle.node_clients.specs.Connections.{doing, waiting_on}
+use Rattle.node_clients.specs.Connections.{asked, doing, waiting_on}
+use Rattle.node_clients.specs.declared.next.Next.{Next}
 use Rattle.node_clients.specs.declared.connection.State.TheVariants.{Idle}
 use Rattle.node_clients.specs.Answers.{answer_sent}
 use Rattle.node_clients.specs.Calls.{waiting_for}
@@ -36,7 +35,8 @@ abbrev pub FollowsUp : Service → Type 0
 FollowsUp (Service.Begins client command id) = ⊤
 FollowsUp (Service.Replies client command answer) = ⊤
 FollowsUp (Service.Quits client) = ⊤
-FollowsUp (Service.Ends name ended what told) = ⊤
+FollowsUp (Service.Ends name ended answer told) = ⊤
+FollowsUp (Service.Passes name ended client rest) = ⊤
 FollowsUp Service.Drops = ⊤
 FollowsUp service = ⊥
 
@@ -68,7 +68,7 @@ IsComing desk (Some (came.Tick heard)) services = AreTicksOf (keys desk.calls) s
 -- cluster file and the node's number stay the same.
 pub record ServesClients (old : Node) (before : Work) (services : List Service) (new : Node)
     (after : Work) : Type 0 where
-  pub has : HasServed old.keeper.file.ticks old.desk before services new.desk after
+  pub has : HasServed old.keeper.file.ticks old.keeper.file.fixed.delta old.desk before services new.desk after
   pub right : AllByRecursion (IsRight old.keeper.ids.node old.keeper.file) services
   pub file : new.keeper.file ≡ old.keeper.file
   pub number : new.keeper.ids.node ≡ old.keeper.ids.node
@@ -80,12 +80,12 @@ pub record ServesMore (old : Node) (before : Work) (new : Node) (after : Work) :
   pub follows : AllByRecursion FollowsUp services
 
 -- the node did some services that follow up; if a client's connection was idle, the first of them carries out the
--- oldest command that waited there
+-- first command that waited there
 pub record ServesNext (client : ℕ) (old : Node) (before : Work) (new : Node) (after : Work) : Type 0 where
   pub more : ServesMore old before new after
-  pub first : (frame : Strings) (waiting : List Strings) → doing (connection_of old.desk client) ≡ Idle →
-      waiting_on (connection_of old.desk client) ≡ frame ∷ waiting →
-      IsFirstDone old.keeper old.peers (index_map_len old.desk.calls) old.desk.counts client frame more.services
+  pub first : (next : Next) (waiting : List Next) → doing (connection_of old.desk client) ≡ Idle →
+      waiting_on (connection_of old.desk client) ≡ next ∷ waiting →
+      IsFirstDone old.keeper old.peers (index_map_len old.desk.calls) old.desk.counts client next more.services
 
 -- the node did the services for what came, and then some that follow up
 pub record ServesArrival (came : Option Arrival) (old : Node) (before : Work) (new : Node) (after : Work) : Type 0 where
@@ -105,7 +105,8 @@ pub record ServedSince (came : Option Arrival) (first now : Node) (frames : List
   pub comes : IsComing first.desk came coming
   pub follows : AllByRecursion FollowsUp more
   pub at_once : IsAtOnce came first.keeper first.peers first.desk more
-  pub served : AreServicesDone first.keeper.file.ticks first.desk (coming ++ more) now.desk
+  pub served : AreServicesDone first.keeper.file.ticks first.keeper.file.fixed.delta first.desk (coming ++ more)
+      now.desk
   pub right : AllByRecursion (IsRight first.keeper.ids.node first.keeper.file) (coming ++ more)
   pub answers : frames ≡ all_frames (coming ++ more)
   pub notices : seen ≡ all_notices (coming ++ more)
@@ -115,22 +116,22 @@ pub record ServedSince (came : Option Arrival) (first now : Node) (frames : List
 -- Commands
 
 -- how the desk changes when the node carries out a client's command; the client's connection is busy with the command
-abbrev pub IsCommandDone : (old : Desk) → (client : ℕ) → (frame : Strings) → Service → (new : Desk) → Type 0
-IsCommandDone old client frame (Service.Begins other command id) new =
-    (other ≡ client) × (command_at frame ≡ Ok command) × IsOpened old (call_begun client command) id new
-IsCommandDone old client frame (Service.Replies other command answer) new =
-    (other ≡ client) × (command ≡ frame) × IsClientAnswered old client new
-IsCommandDone old client frame (Service.Quits other) new =
-    (other ≡ client) × (command_at frame ≡ Ok ask.Quit) × HasQuit old client new
-IsCommandDone old client frame service new = ⊥
+abbrev pub IsCommandDone : (old : Desk) → (client : ℕ) → Next → Service → (new : Desk) → Type 0
+IsCommandDone old client next (Service.Begins other command id) new =
+    (other ≡ client) × (asked next ≡ Ok command) × IsOpened old (call_begun client command) id new
+IsCommandDone old client next (Service.Replies other command answer) new =
+    (other ≡ client) × (command ≡ next) × IsClientAnswered old client new
+IsCommandDone old client next (Service.Quits other) new =
+    (other ≡ client) × (asked next ≡ Ok ask.Quit) × HasQuit old client new
+IsCommandDone old client next service new = ⊥
 
 -- the node carried out a client's command, with which the client's connection is busy: it did one service
-pub record ServesCommand (client : ℕ) (frame : Strings) (old : Node) (before : Work) (new : Node)
+pub record ServesCommand (client : ℕ) (next : Next) (old : Node) (before : Work) (new : Node)
     (after : Work) : Type 0 where
   pub service : Service
-  pub done : IsCommandDone old.desk client frame service new.desk
+  pub done : IsCommandDone old.desk client next service new.desk
   pub right : IsRight old.keeper.ids.node old.keeper.file service
-  pub carried : IsCarriedOut old.keeper old.peers (index_map_len old.desk.calls) old.desk.counts client frame service
+  pub carried : IsCarriedOut old.keeper old.peers (index_map_len old.desk.calls) old.desk.counts client next service
   pub told : after.to_clients.items ≡ before.to_clients.items ++ service_frames service
   pub due : after.due.items ≡ before.due.items ++ service_dues service
   pub notices : after.notices.items ≡ before.notices.items ++ service_notices service

@@ -1,4 +1,3 @@
--- The contracts that docs/trusted.md lists do not depend on this file; other contracts and proofs do.
 -- What a node tells of the layout of a name, and of the names of whose objects it keeps a written version.
 use Rattle.std.specs.Prelude.{◌≡◌, ◌-◌, ◌∷◌, ◌++◌, ⊤, ℕ, List, codes}
 use Rattle.std.specs.Fmt.{decimal}

@@ -1,4 +1,3 @@
--- The contracts that docs/trusted.md lists do not depend on this file; other contracts and proofs do.
 -- What the log of a node gets when the node starts.
 use Rattle.std.specs.Prelude.{◌≡◌, ◌^◌, ◌<◌, ⊤, false, suc, ℕ, Bool, if◌then◌else◌, List, [], ◌∷◌, ◌++◌}
 use Rattle.deeds.specs.CallId.{CallIds}

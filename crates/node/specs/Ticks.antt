@@ -1,4 +1,3 @@
--- The contracts that docs/trusted.md lists do not depend on this file; other contracts and proofs do.
 -- Which requests a node sends again at a tick.
 use Rattle.std.specs.Prelude.{◌≡◌, ⊤, ℕ, ◌||◌, ◌&&◌, not, Bool, true, false, if◌then◌else◌, List, [], ◌∷◌, ◌++◌}
 use Rattle.std.specs.Prelude.{Option, None, Some}
@@ -21,7 +20,7 @@ use Rattle.node_keeper.specs.declared.keeper.Keeper.{Keeper}
 use Rattle.node_strings.specs.declared.heard.Heard.{Heard}
 use Rattle.node_messages.specs.Reading.{message_from}
 use Rattle.node.specs.Hearing.{HearsIfRead}
-use Rattle.node.specs.Peers.{heard_at}
+use Rattle.node.specs.Peers.{with_tick}
 use Rattle.node.specs.Serving.{IsTickOf}
 use Rattle.node.specs.declared.node.Node.{Node}
 
@@ -59,7 +58,7 @@ IsKeptAtAge old id (Some aged) new = IsKeptAs (aged.is_late && not aged.is_move)
 pub record IsTicked (id : ℕ) (old : Node) (sends : List Sending) (new : Node) : Type 0 where
   pub service : Service
   pub tick : IsTickOf id service
-  pub done : IsServiceDone old.keeper.file.ticks old.desk service new.desk
+  pub done : IsServiceDone old.keeper.file.ticks old.keeper.file.fixed.delta old.desk service new.desk
   pub sent : sends ≡ sent_at_age old.keeper id (aged_at old id)
   pub kept : IsKeptAtAge old.keeper id (aged_at old id) new.keeper
 
@@ -79,7 +78,7 @@ pub record SendsAgain (ids : List ℕ) (old : Node) (before : List Output) (new 
 
 -- the node, when the host has told which nodes it hears
 abbrev pub hearing : Heard → Node → Node
-hearing heard node = record node { peers = record node.peers { heard = heard_at heard } }
+hearing heard node = record node { peers = with_tick heard node.peers }
 
 -- At a tick, the node notes which nodes its host hears, and open calls send requests again. Of a message, the node
 -- hears the letter, if the message is admitted. Of all else, this says nothing.

@@ -9,6 +9,8 @@ pub use laws::{
 };
 pub use node::Node;
 
+mod drops;
 mod laws;
 mod node;
 mod peers;
+mod silences;

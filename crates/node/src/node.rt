@@ -38,7 +38,9 @@ mod layouts;
 mod machine;
 mod messages;
 mod moves;
+mod peer_lines;
 mod recovery;
+mod redis;
 mod rewriting;
 mod sections;
 mod ticks;
@@ -139,6 +141,7 @@ impl Node {
             Some(arrival) => self.take_arrival(arrival, work),
             None => {
                 self.desk.drop_frame();
+                self.peers.drops.count_malformed();
                 Ok(())
             }
         }

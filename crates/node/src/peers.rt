@@ -1,10 +1,12 @@
 //! What a node knows of the other nodes, beside what their messages say.
-ghost use Rattle.std.specs.Prelude.{◌≡◌, ◌≤◌, OnOk, length};
+ghost use Rattle.std.specs.Prelude.{◌≡◌, ◌≤◌, None, OnOk, get_or, length};
 ghost use Rattle.std.specs.List.{count_by};
 ghost use Rattle.node.specs.Info.{hears_now};
 ghost use Rattle.node.specs.Peers.{HasNoted, KnowsNothing, heard_at, is_known, is_same_report};
-ghost use Rattle.node.specs.Peers.{next_report, with_next_told};
+ghost use Rattle.node.specs.Peers.{next_report, with_next_told, with_tick};
 
+use crate::drops::Drops;
+use crate::silences::{NUMBERS, count_tick, no_silences};
 use node_effects::{NodeError, Report};
 use node_strings::Heard;
 use std::alloc::Global;
@@ -16,8 +18,13 @@ const MOST_OTHERS: usize = 256;
 pub struct Peers {
     /// The nodes that the host hears, as it told at the last tick. None if it told of none.
     pub heard: Option<Heard>,
+    /// For each number of a node, how many ticks have come since the last one that named the node. None if none has
+    /// named it. A count stops at 2^32 - 1.
+    pub silences: [Option<u32>; NUMBERS],
     /// How many messages of nodes with another cluster file have come. The count stops at 2^64 - 1.
     pub foreign: u64,
+    /// How many frames were dropped for some other causes.
+    pub drops: Drops,
     /// Nodes with another cluster file, in the order in which they were first heard. A node stands here once for each
     /// digest of its file.
     pub others: Vec<Report>,
@@ -29,6 +36,8 @@ impl Drop for Peers {
     fn drop(self) {
         let Self {
             heard: _,
+            silences: _,
+            drops: _,
             foreign: _,
             others: _,
             told: _,
@@ -43,16 +52,19 @@ impl Peers {
     {
         Peers {
             heard: None,
+            silences: no_silences(),
+            drops: Drops::ZERO,
             foreign: 0,
             others: Vec::new(alloc),
             told: 0,
         }
     }
 
-    /// The host tells which nodes it hears.
+    /// The host tells at a tick which nodes it hears.
     pub(crate) fn hear(&mut self, heard: Heard)
-        ensures { self.new ≡ record self.old { heard = heard_at heard } }
+        ensures { self.new ≡ with_tick heard self.old }
     {
+        count_tick(&heard, &mut self.silences);
         self.heard = if heard.tells_nodes() {
             Some(heard)
         } else {
@@ -69,6 +81,13 @@ impl Peers {
             Some(heard) => node == number || heard.has(node),
             None => false,
         }
+    }
+
+    /// Returns how many ticks have come since the last one that named a node, or none if none has named it.
+    pub(crate) fn silence(&self, node: u8) -> Option<u32>
+        ensures { result ≡ get_or self.now.silences node None }
+    {
+        self.silences[usize::from(node)]
     }
 
     /// Returns how many of these nodes the node of this number hears.

@@ -1,10 +1,11 @@
 //! What a node does with the commands of its clients.
 ghost use Rattle.std.specs.Prelude.{◌≡◌, ◌∷◌, [], ℕ, List, false, nat_eq, IfOk, OnOk, Ok, Some};
 ghost use Rattle.indexmap.specs.IndexMap.{get, index_map_len};
-ghost use Rattle.node_clients.specs.Connections.{doing};
+ghost use Rattle.node_clients.specs.Connections.{asked, doing};
+ghost use Rattle.node_clients.specs.declared.next.Next.{Next as Waits};
 ghost use Rattle.node_clients.specs.declared.connection.State.TheVariants.{Busy};
 ghost use Rattle.client_commands.specs.Patterns.{names_told};
-ghost use Rattle.client_commands.specs.Reading.{command_at};
+ghost use Rattle.client_commands.specs.Deletion.{name_now};
 ghost use Rattle.client_commands.specs.declared.command.Command.TheVariants as ask;
 ghost use Rattle.node_clients.specs.Answers.{TellsClients};
 ghost use Rattle.node_clients.specs.Desk.{NoneWaits};
@@ -17,10 +18,9 @@ ghost use Rattle.node.specs.Serving.{IsAwaited, ServesCommand, ServesNext};
 use super::Node;
 use bytes::Bytes;
 use client_commands::{
-    Answer, AnswerError, Command, ScanOptions, Wanted, count_names, matching_names, read_command,
+    Answer, AnswerError, Command, Deletion, ScanOptions, Wanted, count_names, matching_names,
 };
-use frames::Frame;
-use node_clients::Desk;
+use node_clients::{Desk, Next, OpenCall};
 use node_effects::{NodeError, Work};
 use node_keeper::Begun;
 use node_strings::ConnectionId;
@@ -38,7 +38,7 @@ impl Node {
             return Ok(());
         }
         match self.desk.clients.next(client) {
-            Some(frame) => self.carry_out(client, frame, work),
+            Some(next) => self.carry_out(client, next, work),
             None => Ok(()),
         }
     }
@@ -47,15 +47,15 @@ impl Node {
     fn carry_out(
         &mut self,
         client: ConnectionId,
-        frame: Frame,
+        next: Next,
         work: &mut Work,
     ) -> Result<(), NodeError>
         requires { doing (get nat_eq self.old.desk.clients.by_number client) ≡ Busy }
         ensures acts { OnOk result ((asker : ℕ) → Acts asker [] self.old.keeper work.old self.new.keeper work.new) }
-        ensures serves { OnOk result (ServesCommand client frame self.old work.old self.new work.new) }
+        ensures serves { OnOk result (ServesCommand client next self.old work.old self.new work.new) }
         ensures peers { self.new.peers ≡ self.old.peers }
     {
-        match read_command(frame) {
+        match next.command() {
             Ok(command) => self.obey(client, command, work),
             Err(fault) => self.desk.refuse(client, AnswerError::Fault(fault), work),
         }
@@ -70,13 +70,14 @@ impl Node {
     ) -> Result<(), NodeError>
         requires { doing (get nat_eq self.old.desk.clients.by_number client) ≡ Busy }
         ensures acts { OnOk result ((asker : ℕ) → Acts asker [] self.old.keeper work.old self.new.keeper work.new) }
-        ensures serves { OnOk result ((frame : List (List ℕ)) → command_at frame ≡ Ok command
-            → ServesCommand client frame self.old work.old self.new work.new) }
+        ensures serves { OnOk result ((next : Waits) → asked next ≡ Ok command
+            → ServesCommand client next self.old work.old self.new work.new) }
         ensures peers { self.new.peers ≡ self.old.peers }
     {
         match command {
             Command::Read { wanted, name } => self.read(client, wanted, name, work),
             Command::Set { name, value } => self.write(client, name, value, work),
+            Command::Delete(deletion) => self.delete(client, deletion, work),
             Command::Move { name, layout } => self.move_object(client, name, layout, work),
             Command::Quit => self.desk.quit(client, work),
             command => {
@@ -94,7 +95,7 @@ impl Node {
             command) }
     {
         match command {
-            Command::Info => Ok(Answer::Value(self.info()?)),
+            Command::Info(asked) => Ok(Answer::Value(self.info(asked)?)),
             Command::CountWritten => Ok(Answer::Number(self.keeper.objects.count_written())),
             Command::ShowLayout(name) => Ok(Answer::Value(self.layout_line(&name)?)),
             Command::Scan { cursor, options } => self.page(cursor, options),
@@ -141,12 +142,20 @@ impl Node {
     ) -> Result<(), NodeError>
         requires { doing (get nat_eq self.old.desk.clients.by_number client) ≡ Busy }
         ensures acts { OnOk result ((asker : ℕ) → Acts asker [] self.old.keeper work.old self.new.keeper work.new) }
-        ensures serves { OnOk result ((frame : List (List ℕ)) → command_at frame ≡ Ok (ask.Read wanted name)
-            → ServesCommand client frame self.old work.old self.new work.new) }
+        ensures serves { OnOk result ((next : Waits) → asked next ≡ Ok (ask.Read wanted name)
+            → ServesCommand client next self.old work.old self.new work.new) }
         ensures peers { self.new.peers ≡ self.old.peers }
     {
         let begun = self.keeper.begin_read(&name, work)?;
-        wait(&mut self.desk, client, name, wanted, false, begun, work)
+        let call = OpenCall {
+            name,
+            client: Some(client),
+            wanted,
+            is_move: false,
+            age: 0,
+            deletion: None,
+        };
+        wait(&mut self.desk, client, call, begun, work)
     }
 
     // A write begins.
@@ -159,20 +168,46 @@ impl Node {
     ) -> Result<(), NodeError>
         requires { doing (get nat_eq self.old.desk.clients.by_number client) ≡ Busy }
         ensures acts { OnOk result ((asker : ℕ) → Acts asker [] self.old.keeper work.old self.new.keeper work.new) }
-        ensures serves { OnOk result ((frame : List (List ℕ)) → command_at frame ≡ Ok (ask.Set name value)
-            → ServesCommand client frame self.old work.old self.new work.new) }
+        ensures serves { OnOk result ((next : Waits) → asked next ≡ Ok (ask.Set name value)
+            → ServesCommand client next self.old work.old self.new work.new) }
         ensures peers { self.new.peers ≡ self.old.peers }
     {
         let begun = self.keeper.begin_write(&name, value, work)?;
-        wait(
-            &mut self.desk,
-            client,
+        let call = OpenCall {
             name,
-            Wanted::Value,
-            false,
-            begun,
-            work,
-        )
+            client: Some(client),
+            wanted: Wanted::Value,
+            is_move: false,
+            age: 0,
+            deletion: None,
+        };
+        wait(&mut self.desk, client, call, begun, work)
+    }
+
+    // The next write of a `DEL` begins.
+    fn delete(
+        &mut self,
+        client: ConnectionId,
+        deletion: Deletion,
+        work: &mut Work,
+    ) -> Result<(), NodeError>
+        requires { doing (get nat_eq self.old.desk.clients.by_number client) ≡ Busy }
+        ensures acts { OnOk result ((asker : ℕ) → Acts asker [] self.old.keeper work.old self.new.keeper work.new) }
+        ensures serves { OnOk result ((next : Waits) → asked next ≡ Ok (ask.Delete deletion)
+            → ServesCommand client next self.old work.old self.new work.new) }
+        ensures peers { self.new.peers ≡ self.old.peers }
+    {
+        let name = deletion.name()?;
+        let begun = self.keeper.begin_write(&name, Bytes::new(), work)?;
+        let call = OpenCall {
+            name,
+            client: Some(client),
+            wanted: Wanted::Value,
+            is_move: false,
+            age: 0,
+            deletion: Some(deletion),
+        };
+        wait(&mut self.desk, client, call, begun, work)
     }
 }
 
@@ -180,21 +215,17 @@ impl Node {
 pub(super) fn wait(
     desk: &mut Desk,
     client: ConnectionId,
-    name: Bytes,
-    wanted: Wanted,
-    is_move: bool,
+    call: OpenCall,
     begun: Begun,
     work: &mut Work,
 ) -> Result<(), NodeError>
     requires { doing (get nat_eq desk.old.clients.by_number client) ≡ Busy }
     ensures tells { OnOk result (TellsClients work.old work.new) }
-    ensures awaited { OnOk result (IsAwaited desk.old work.old client
-        (Some (record { name = name; client = Some client; wanted = wanted; is_move = is_move; age = 0 })) begun
-        desk.new work.new) }
+    ensures awaited { OnOk result (IsAwaited desk.old work.old client (Some call) begun desk.new work.new) }
 {
     match begun {
         Begun::Open(id) => {
-            desk.open(id, name, Some(client), wanted, is_move)?;
+            desk.open(id, call)?;
             Ok(())
         }
         Begun::Refused(refusal) => desk.refuse(client, AnswerError::Refused(refusal), work),

@@ -39,6 +39,7 @@ impl Node {
             Err(MessageError::NoMemory) => Err(NodeError::NoMemory),
             Err(MessageError::Fault(_)) => {
                 self.desk.drop_frame();
+                self.peers.drops.count_unreadable();
                 Ok(())
             }
         }
@@ -71,6 +72,7 @@ impl Node {
         }
         if !self.is_admitted(sender, &message) {
             self.desk.drop_frame();
+            self.peers.drops.count_not_admitted();
             return Ok(());
         }
         self.deliver(sender, message.named, Some(frame), work)
@@ -108,13 +110,14 @@ impl Node {
         ensures hears { OnOk result (Hears sender it self.old.keeper work.old.outputs.items
             self.new.keeper work.new.outputs.items) }
     {
+        let delta = self.keeper.file.delta();
         match self.keeper.deliver(sender, it, came, work)? {
             Delivered::Dropped => {
                 self.desk.drop_frame();
                 Ok(())
             }
             Delivered::Handled => Ok(()),
-            Delivered::Ended(ended) => self.desk.end(ended, work),
+            Delivered::Ended(ended) => self.desk.end(ended, delta, work),
         }
     }
 }

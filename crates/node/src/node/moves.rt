@@ -1,10 +1,10 @@
 //! How a node begins to move an object.
-ghost use Rattle.std.specs.Prelude.{◌≡◌, ◌<◌, ◌+◌, if◌then◌else◌, [], ℕ, nat_eq, List, OnOk, Ok};
+ghost use Rattle.std.specs.Prelude.{◌≡◌, ◌<◌, ◌+◌, if◌then◌else◌, [], ℕ, nat_eq, OnOk, Ok};
 ghost use Rattle.std.specs.List.{count_by};
 ghost use Rattle.indexmap.specs.IndexMap.{get};
-ghost use Rattle.node_clients.specs.Connections.{doing};
+ghost use Rattle.node_clients.specs.Connections.{asked, doing};
+ghost use Rattle.node_clients.specs.declared.next.Next.{Next};
 ghost use Rattle.node_clients.specs.declared.connection.State.TheVariants.{Busy};
-ghost use Rattle.client_commands.specs.Reading.{command_at};
 ghost use Rattle.client_commands.specs.declared.command.Command.TheVariants as ask;
 ghost use Rattle.node_keeper.specs.Acts.{Acts};
 ghost use Rattle.node.specs.Moves.{first_not_heard, first_stranger, heard_fault, hears, move_fault};
@@ -15,6 +15,7 @@ use super::commands::wait;
 use bytes::Bytes;
 use client_commands::{AnswerError, Wanted};
 use layout::Layout;
+use node_clients::OpenCall;
 use node_effects::{NodeError, Work};
 use node_strings::{ConnectionId, Heard};
 
@@ -29,23 +30,23 @@ impl Node {
     ) -> Result<(), NodeError>
         requires { doing (get nat_eq self.old.desk.clients.by_number client) ≡ Busy }
         ensures acts { OnOk result ((asker : ℕ) → Acts asker [] self.old.keeper work.old self.new.keeper work.new) }
-        ensures serves { OnOk result ((frame : List (List ℕ)) → command_at frame ≡ Ok (ask.Move name layout)
-            → ServesCommand client frame self.old work.old self.new work.new) }
+        ensures serves { OnOk result ((next : Next) → asked next ≡ Ok (ask.Move name layout)
+            → ServesCommand client next self.old work.old self.new work.new) }
         ensures peers { self.new.peers ≡ self.old.peers }
     {
         if let Some(error) = self.move_fault(&layout) {
             return self.desk.refuse(client, error, work);
         }
         let begun = self.keeper.begin_move(&name, layout, work)?;
-        wait(
-            &mut self.desk,
-            client,
+        let call = OpenCall {
             name,
-            Wanted::Value,
-            true,
-            begun,
-            work,
-        )
+            client: Some(client),
+            wanted: Wanted::Value,
+            is_move: true,
+            age: 0,
+            deletion: None,
+        };
+        wait(&mut self.desk, client, call, begun, work)
     }
 
     // Why a move to this layout may not begin here, if it may not: this node does not move objects, a member of the

@@ -18,6 +18,7 @@ use cluster_file::DIGEST_LENGTH;
 use frames::Frame;
 use layout::Layout;
 use letter::NamedLetter;
+use node_clients::OpenCall;
 use node_effects::{NodeError, RecoveryError};
 use node_messages::{MessageError, read_message};
 use node_strings::Record;
@@ -148,10 +149,20 @@ impl Node {
         ensures refused { IfErr result (RefusesOwn self.old.keeper (record_of.Move id name layout)) }
     {
         match self.keeper.move_again(&name, id, layout) {
-            Ok(()) => match self.desk.open(id, name, None, Wanted::Value, true) {
-                Ok(()) => Ok(()),
-                Err(error) => Err(RecoveryError::Stopped(error)),
-            },
+            Ok(()) => {
+                let call = OpenCall {
+                    name,
+                    client: None,
+                    wanted: Wanted::Value,
+                    is_move: true,
+                    age: 0,
+                    deletion: None,
+                };
+                match self.desk.open(id, call) {
+                    Ok(()) => Ok(()),
+                    Err(error) => Err(RecoveryError::Stopped(error)),
+                }
+            }
             Err(error) => Err(RecoveryError::Stopped(error)),
         }
     }

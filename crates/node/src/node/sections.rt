@@ -1,36 +1,12 @@
 //! The lines of `INFO`.
 ghost use Rattle.std.specs.Prelude.{◌≡◌, Some};
-ghost use Rattle.node.specs.Info.{cluster_lines, count_lines, keyspace_lines, lost_lines, name_lines, redis_lines};
+ghost use Rattle.node.specs.Info.{cluster_lines, count_lines, drop_lines, lost_lines, name_lines, silence_word};
 ghost use Rattle.node.specs.Info.{size_lines, state_word};
 
+use crate::drops::Drops;
 use node_clients::Counts;
 use std::fmt;
 use words::Hexadecimal;
-
-/// The sections that Redis has, as far as a node has something to tell there.
-#[derive(Clone, Copy)]
-pub(super) struct RedisLines {
-    pub clients: usize,
-    pub bytes: u64,
-    pub counts: Counts,
-}
-
-impl fmt::Display for RedisLines {
-    ghost output = { λ it. Some (redis_lines it.clients it.bytes it.counts) };
-
-    fn fmt<W: fmt::Write>(&self, f: &mut fmt::Formatter<W>) -> fmt::Result {
-        write!(
-            f,
-            "# Server\r\nredis_version:1.0.0\r\nredis_mode:standalone\r\n\r\n\
-            # Clients\r\nconnected_clients:{}\r\n\r\n\
-            # Memory\r\nused_memory_dataset:{}\r\n\r\n\
-            # Persistence\r\nloading:0\r\naof_enabled:1\r\naof_current_size:{}\r\n\r\n\
-            # Stats\r\ntotal_commands_processed:{}\r\n\r\n\
-            # Replication\r\nrole:master\r\nconnected_slaves:0\r\n\r\n",
-            self.clients, self.bytes, self.counts.log_bytes, self.counts.answered
-        )
-    }
-}
 
 /// The lines on the whole cluster: whether it can serve, how many nodes it has and how many are heard, and what is
 /// open.
@@ -86,25 +62,43 @@ impl fmt::Display for LostLines {
     }
 }
 
-/// The section on the only database, and the head of the section of the node's own lines.
+/// The lines of that section with the frames that were dropped for other causes.
 #[derive(Clone, Copy)]
-pub(super) struct KeyspaceLines {
-    pub names: u64,
+pub(super) struct DropLines {
+    pub drops: Drops,
 }
 
-impl fmt::Display for KeyspaceLines {
-    ghost output = { λ it. Some (keyspace_lines it.names) };
+impl fmt::Display for DropLines {
+    ghost output = { λ it. Some (drop_lines it.drops) };
 
     fn fmt<W: fmt::Write>(&self, f: &mut fmt::Formatter<W>) -> fmt::Result {
         write!(
             f,
-            "\r\n# Keyspace\r\ndb0:keys={},expires=0,avg_ttl=0\r\n\r\n# Node\r\n",
-            self.names
+            "cluster_frames_malformed:{}\r\ncluster_frames_unreadable:{}\r\ncluster_frames_not_admitted:{}\r\n",
+            self.drops.malformed, self.drops.unreadable, self.drops.not_admitted
         )
     }
 }
 
-/// The lines that name the program, the node, the node that moves objects, the cluster and the epoch.
+/// The ticks since a node was named: a number, or `never`.
+#[derive(Clone, Copy)]
+pub(super) struct SilenceWord {
+    pub ticks: Option<u32>,
+}
+
+impl fmt::Display for SilenceWord {
+    ghost output = { λ it. Some (silence_word it.ticks) };
+
+    fn fmt<W: fmt::Write>(&self, f: &mut fmt::Formatter<W>) -> fmt::Result {
+        match self.ticks {
+            Some(ticks) => write!(f, "{ticks}"),
+            None => f.write_str("never"),
+        }
+    }
+}
+
+/// The head of the section of the node's own lines, and the lines that name the program, the node, the node that moves
+/// objects, the cluster and the epoch.
 #[derive(Clone, Copy)]
 pub(super) struct NameLines<'a> {
     pub node: u8,
@@ -119,7 +113,7 @@ impl fmt::Display for NameLines<'_> {
     fn fmt<W: fmt::Write>(&self, f: &mut fmt::Formatter<W>) -> fmt::Result {
         write!(
             f,
-            "program:casd\r\nnode:{}\r\nmover:{}\r\ncluster:{}\r\nepoch:{}\r\n",
+            "# Node\r\nprogram:casd\r\nnode:{}\r\nmover:{}\r\ncluster:{}\r\nepoch:{}\r\n",
             self.node,
             self.mover,
             Hexadecimal(self.digest),

@@ -15,7 +15,8 @@ pub returns-then-not-is_admitted-clause-serves : goal.returns-then-not-is_admitt
 returns-then-not-is_admitted-clause-serves c =
     let old = c.args.self.now in
     let drops = c.drop_frame-then-not-is_admitted in
-    let new : Node = record old { desk = drops.new.self } in
+    let peers = record old.peers { drops = c.count_not_admitted.new.self } in
+    let new : Node = record old { desk = drops.new.self; peers = peers } in
     drops_more old new c.args.work.now (drops.ensures.clients, drops.ensures.calls, drops.ensures.counts) refl
 
 pub returns-then-ne-clause-acts : goal.returns-then-ne-clause-acts

@@ -11,7 +11,7 @@ use Rattle.node.proofs.node.Node.carry_out.Goals as goal
 
 pub returns-in-Ok-clause-serves : goal.returns-in-Ok-clause-serves
 returns-in-Ok-clause-serves c =
-    on_ok_weaker c.obey.result (λ serves. serves c.args.frame (sym c.in-Ok.ensures.exact)) c.obey.ensures.serves
+    on_ok_weaker c.obey.result (λ serves. serves c.args.next (sym c.in-Ok.ensures)) c.obey.ensures.serves
 
 pub returns-in-Err-clause-acts : goal.returns-in-Err-clause-acts
 returns-in-Err-clause-acts c =
@@ -24,10 +24,10 @@ returns-in-Err-clause-serves c =
     let client = c.args.client in
     let answer = answers.Error (errors.Fault c.in-Err.fault) in
     on_ok_weaker c.refuse.result
-    (λ grown. replied client c.args.frame answer old (record old { desk = c.refuse.new.self }) c.args.work.now c.refuse.new.work
+    (λ grown. replied client c.args.next answer old (record old { desk = c.refuse.new.self }) c.args.work.now c.refuse.new.work
     (answered_now old.desk c.refuse.new.self client c.requires c.refuse.ensures.idle c.refuse.ensures.calls c.refuse.ensures.counts)
     (answer_is_sent old.desk client answer c.args.work.now c.refuse.new.work c.requires grown)
-    (subst (λ r. IsReplyTo old.keeper.ids.node old.keeper.file client r answer) c.in-Err.ensures.exact refl)
-    (subst (λ r. IsReplyHere old.keeper old.peers (index_map_len old.desk.calls) old.desk.counts r answer) c.in-Err.ensures.exact tt) refl
+    (subst (λ r. IsReplyTo old.keeper.ids.node old.keeper.file client r answer) c.in-Err.ensures refl)
+    (subst (λ r. IsReplyHere old.keeper old.peers (index_map_len old.desk.calls) old.desk.counts r answer) c.in-Err.ensures tt) refl
     refl)
     c.refuse.ensures.grown

@@ -7,7 +7,9 @@ use Rattle.node_keeper.proofs.ActLemmas.{acts_more}
 use Rattle.node.proofs.TellLemmas.{tells_acts}
 use Rattle.node_keeper.specs.Delivering.{DeliversLetter}
 use Rattle.node.specs.declared.node.Node.{Node}
-use Rattle.node.proofs.KeeperLemmas.{dropped_served, ended_served, handled_served}
+use Rattle.node_clients.specs.Calls.{call_under, rest_of, waiting_for}
+use Rattle.node_clients.proofs.EndLemmas.{EndsAs, concluded}
+use Rattle.node.proofs.KeeperLemmas.{dropped_served, ended_served, handled_served, of_three}
 use Rattle.node.proofs.node.Node.deliver.Goals as goal
 
 pub returns-in-Ended-clause-acts : goal.returns-in-Ended-clause-acts
@@ -40,13 +42,19 @@ pub returns-in-Ended-clause-serves : goal.returns-in-Ended-clause-serves
 returns-in-Ended-clause-serves c =
     let old = c.args.self.now in
     let new : Node = record old { keeper = c.deliver.new.self; desk = c.end.new.self } in
-    on_ok_weaker c.end.result
-    (λ grown. ended_served c.args.sender c.args.it old new c.args.work.now c.deliver.new.work c.in_ok-deliver.ensures.acts.node
-    c.in-Ended.ended c.end.new.work
+    let ended = c.in-Ended.ended in
+    let delta = c.delta-delta.result in
+    of_three c.end.result
+    (λ told idle counts. ended_served c.args.sender c.args.it old new c.args.work.now c.deliver.new.work
+    c.in_ok-deliver.ensures.acts.node ended c.end.new.work
     (subst (λ result. DeliversLetter c.args.sender c.args.it old.keeper c.args.work.now c.deliver.new.self c.deliver.new.work result)
     c.in-Ended.is c.in_ok-deliver.ensures.delivers)
-    grown (record { who = refl; gone = c.end.ensures.gone; others = c.end.ensures.others; idle = c.end.ensures.idle })
-    c.end.ensures.counts) c.end.ensures.told
+    (subst (λ d. EndsAs old.keeper.file.ticks d c.args.it.name ended old.desk c.deliver.new.work c.end.new.self c.end.new.work)
+    c.delta-delta.ensures
+    (concluded old.keeper.file.ticks delta c.args.it.name ended old.desk c.end.new.self c.deliver.new.work c.end.new.work
+    (waiting_for old.desk.calls ended.id) refl (rest_of delta (call_under old.desk.calls ended.id)) refl told
+    (record { gone = c.end.ensures.gone; others = c.end.ensures.others; idle = idle; counts = counts }))))
+    c.end.ensures.told c.end.ensures.idle c.end.ensures.counts
 
 pub returns-in-Dropped-clause-hears : goal.returns-in-Dropped-clause-hears
 returns-in-Dropped-clause-hears c = record {

@@ -28,28 +28,28 @@ pub returns-in-Some-clause-serves : goal.returns-in-Some-clause-serves
 returns-in-Some-clause-serves c =
     let old = c.args.self.now in
     let between : Node = record old { desk = record old.desk { clients = c.next.new.self } } in
-    let taken : IsCommandTaken old.desk c.args.client c.in-Some.frame between.desk = record {
+    let taken : IsCommandTaken old.desk c.args.client c.in-Some.next between.desk = record {
       taken = c.in-Some.ensures.taken;
       others = c.in-Some.ensures.others;
       calls = refl;
       counts = refl;
     } in
     on_ok_weaker c.carry_out.result
-    (λ serves. taken_served old between c.carry_out.new.self c.args.work.now c.carry_out.new.work c.args.client c.in-Some.frame refl
+    (λ serves. taken_served old between c.carry_out.new.self c.args.work.now c.carry_out.new.work c.args.client c.in-Some.next refl
     refl taken serves) c.carry_out.ensures.serves
 
 pub returns-in-Some-clause-waits : goal.returns-in-Some-clause-waits
 returns-in-Some-clause-waits c =
     let old = c.args.self.now in
     let between : Node = record old { desk = record old.desk { clients = c.next.new.self } } in
-    let taken : IsCommandTaken old.desk c.args.client c.in-Some.frame between.desk = record {
+    let taken : IsCommandTaken old.desk c.args.client c.in-Some.next between.desk = record {
       taken = c.in-Some.ensures.taken;
       others = c.in-Some.ensures.others;
       calls = refl;
       counts = refl;
     } in
     on_ok_weaker c.carry_out.result
-    (λ serves. taken_waits old between c.carry_out.new.self c.args.work.now c.carry_out.new.work c.args.client c.in-Some.frame taken
+    (λ serves. taken_waits old between c.carry_out.new.self c.args.work.now c.carry_out.new.work c.args.client c.in-Some.next taken
     serves) c.carry_out.ensures.serves
 
 pub returns-in-None-clause-acts : goal.returns-in-None-clause-acts

@@ -37,7 +37,7 @@ returns-in-Some-clause-serves c =
     let fault : Some c.in-Some.error ≡ move_fault old.keeper.ids.node old.keeper.file old.peers.heard c.args.layout =
     sym c.in-Some.is ∙ c.move_fault.ensures in
     on_ok_weaker c.refuse.result
-    (λ grown frame asks. replied client frame answer old new c.args.work.now c.refuse.new.work
+    (λ grown next asks. replied client next answer old new c.args.work.now c.refuse.new.work
     (answered_now old.desk c.refuse.new.self client c.requires c.refuse.ensures.idle c.refuse.ensures.calls c.refuse.ensures.counts)
     (answer_is_sent old.desk client answer c.args.work.now c.refuse.new.work c.requires grown)
     (subst (λ r. IsReplyTo old.keeper.ids.node old.keeper.file client r answer) (sym asks)
@@ -54,7 +54,7 @@ returns-clause-serves c =
     let none : move_fault old.keeper.ids.node old.keeper.file old.peers.heard layout ≡ None =
     sym c.move_fault.ensures ∙ c.in_default.is in
     on_ok_weaker c.wait.result
-    (λ awaited frame asks. call_served client frame (ask.Move c.args.name layout) (moving_call c.args.name layout) old new
+    (λ awaited next asks. call_served client next (ask.Move c.args.name layout) (moving_call c.args.name layout) old new
     c.args.work.now c.begin_move.new.work c.wait.new.work c.in_ok-begun.begun asks (λ id. refl)
     (λ local id why e. (
       old.peers.heard,

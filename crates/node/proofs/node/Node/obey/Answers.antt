@@ -11,15 +11,19 @@ use Rattle.node.proofs.node.Node.obey.Goals as goal
 
 pub returns-in-Read-clause-serves : goal.returns-in-Read-clause-serves
 returns-in-Read-clause-serves c =
-    on_ok_weaker c.read.result (λ serves frame asks. serves frame (asks ∙ ap Ok c.in-Read.is)) c.read.ensures.serves
+    on_ok_weaker c.read.result (λ serves next asks. serves next (asks ∙ ap Ok c.in-Read.is)) c.read.ensures.serves
 
 pub returns-in-Set-clause-serves : goal.returns-in-Set-clause-serves
 returns-in-Set-clause-serves c =
-    on_ok_weaker c.write.result (λ serves frame asks. serves frame (asks ∙ ap Ok c.in-Set.is)) c.write.ensures.serves
+    on_ok_weaker c.write.result (λ serves next asks. serves next (asks ∙ ap Ok c.in-Set.is)) c.write.ensures.serves
+
+pub returns-in-Delete-clause-serves : goal.returns-in-Delete-clause-serves
+returns-in-Delete-clause-serves c =
+    on_ok_weaker c.delete.result (λ serves next asks. serves next (asks ∙ ap Ok c.in-Delete.is)) c.delete.ensures.serves
 
 pub returns-in-Move-clause-serves : goal.returns-in-Move-clause-serves
 returns-in-Move-clause-serves c =
-    on_ok_weaker c.move_object.result (λ serves frame asks. serves frame (asks ∙ ap Ok c.in-Move.is))
+    on_ok_weaker c.move_object.result (λ serves next asks. serves next (asks ∙ ap Ok c.in-Move.is))
     c.move_object.ensures.serves
 
 pub returns-in-Quit-clause-acts : goal.returns-in-Quit-clause-acts
@@ -47,13 +51,14 @@ returns-in_ok-answer-in_default-clause-serves c =
     let client = c.args.client in
     let answer = c.in_ok-answer-in_default.answer in
     on_ok_weaker c.answer.result
-    (λ grown frame asks. replied client frame answer old new c.args.work.now c.answer.new.work
+    (λ grown next asks. replied client next answer old new c.args.work.now c.answer.new.work
     (answered_now old.desk c.answer.new.self client c.requires c.answer.ensures.idle c.answer.ensures.calls c.answer.ensures.counts)
     (answer_is_sent old.desk client answer c.args.work.now c.answer.new.work c.requires grown)
     (subst (λ r. IsReplyTo old.keeper.ids.node old.keeper.file client r answer) (sym asks)
     (plain_is_reply old.keeper.ids.node old.keeper.file client c.args.command answer c.in_default.not-Read c.in_default.not-Set
-    c.in_default.not-Move c.in_default.not-Quit
+    c.in_default.not-Move c.in_default.not-Delete c.in_default.not-Quit
     c.in_ok-answer-in_default.ensures.plain))
     (subst (λ r. IsReplyHere old.keeper old.peers (index_map_len old.desk.calls) old.desk.counts r answer) (sym asks)
     (plain_is_here old.keeper old.peers (index_map_len old.desk.calls) old.desk.counts c.args.command answer c.in_default.not-Read
-    c.in_default.not-Set c.in_default.not-Move c.in_ok-answer-in_default.ensures.here)) refl refl) c.answer.ensures.grown
+    c.in_default.not-Set c.in_default.not-Move c.in_default.not-Delete c.in_ok-answer-in_default.ensures.here)) refl refl)
+    c.answer.ensures.grown

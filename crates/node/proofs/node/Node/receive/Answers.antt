@@ -14,5 +14,5 @@ returns-clause-acts c =
 pub returns-clause-serves : goal.returns-clause-serves
 returns-clause-serves c =
     let old = c.args.self.now in
-    let new : Node = record old { desk = c.drop_frame.new.self } in
+    let new : Node = record old { desk = c.drop_frame.new.self; peers = record old.peers { drops = c.count_unreadable.new.self } } in
     drops_more old new c.args.work.now (c.drop_frame.ensures.clients, c.drop_frame.ensures.calls, c.drop_frame.ensures.counts) refl

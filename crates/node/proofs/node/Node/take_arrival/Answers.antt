@@ -4,6 +4,7 @@ use Rattle.indexmap.specs.IndexMap.{keys}
 use Rattle.node_strings.specs.declared.arrival.Arrival.TheVariants as came
 use Rattle.node_clients.specs.Served.{IsArrived, IsGone}
 use Rattle.node_clients.specs.Services.{Service}
+use Rattle.node_clients.specs.declared.next.Next.TheVariants.{Came}
 use Rattle.node_clients.proofs.WaitLemmas.{arrival_waits}
 use Rattle.node.specs.Frames.{letter_of_arrival, sender_of}
 use Rattle.node.specs.Serving.{ServesArrival}
@@ -65,7 +66,7 @@ returns-in_ok-push-in-Command-clause-serves c =
     (λ next. subst (λ a. ServesArrival (Some a) old work new c.go_on.new.work) (sym c.in-Command.is)
     (arrival_then (Some (came.Command client frame)) old between new work work c.go_on.new.work (Service.Arrives client frame)
     refl (unsent_one old between work (Service.Arrives client frame) arrived refl refl refl tt refl) next.more
-    (λ free. next.first frame [] (arrived.state ∙ free.0) (arrived.waiting ∙ ap (λ xs. xs ++ (frame ∷ [])) free.1))))
+    (λ free. next.first (Came frame) [] (arrived.state ∙ free.0) (arrived.waiting ∙ ap (λ xs. xs ++ (Came frame ∷ [])) free.1))))
     c.go_on.ensures.serves
 
 pub returns-in_ok-push-in-Command-clause-waits : goal.returns-in_ok-push-in-Command-clause-waits

@@ -1,4 +1,4 @@
-use Rattle.std.proofs.Common.{OnOk, [], ◌∷◌, refl, subst, sym}
+use Rattle.std.proofs.Common.{OnOk, [], ◌∷◌, refl, subst, sym, ap}
 use Rattle.node_strings.specs.Arrival.{arrival_at}
 use Rattle.node_keeper.specs.Acts.{Acts}
 use Rattle.node_clients.specs.Services.{Service}
@@ -9,6 +9,9 @@ use Rattle.node.proofs.ServingLemmas.{drops_one}
 use Rattle.node.proofs.TellLemmas.{idle}
 use Rattle.node_clients.specs.Desk.{NoneWaits}
 use Rattle.node.specs.Peers.{IsChangedBy}
+use Rattle.node.specs.declared.drops.Drops.{Drops}
+use Rattle.node.specs.declared.node.Node.{Node}
+use Rattle.node.specs.declared.peers.Peers.{Peers}
 use Rattle.node.specs.Ticks.{DoesFirst}
 use Rattle.node.proofs.node.Node.take_frame.Goals as goal
 
@@ -31,7 +34,7 @@ returns-in-None-clause-acts c =
 pub returns-in-None-clause-serves : goal.returns-in-None-clause-serves
 returns-in-None-clause-serves c =
     let old = c.args.self.now in
-    let new = record old { desk = c.drop_frame.new.self } in
+    let new : Node = record old { desk = c.drop_frame.new.self; peers = record old.peers { drops = c.count_malformed.new.self } } in
     let work = c.args.work.now in
     subst (λ came. ServesArrival came old work new work) c.in-None.ensures.exact
     (arrival_alone _ old new work work (Service.Drops ∷ []) refl tt
@@ -50,7 +53,8 @@ pub returns-in-None-clause-again : goal.returns-in-None-clause-again
 returns-in-None-clause-again c =
     let old = c.args.self.now in
     let outputs = c.args.work.now.outputs.items in
-    subst (λ came. DoesFirst came old outputs (record old { desk = c.drop_frame.new.self }) outputs) c.in-None.ensures.exact tt
+    let new : Node = record old { desk = c.drop_frame.new.self; peers = record old.peers { drops = c.count_malformed.new.self } } in
+    subst (λ came. DoesFirst came old outputs new outputs) c.in-None.ensures.exact tt
 
 pub returns-in-Some-clause-peers : goal.returns-in-Some-clause-peers
 returns-in-Some-clause-peers c =
@@ -61,4 +65,6 @@ returns-in-Some-clause-peers c =
 pub returns-in-None-clause-peers : goal.returns-in-None-clause-peers
 returns-in-None-clause-peers c =
     let old = c.args.self.now in
-    subst (λ came. IsChangedBy came old.keeper old.peers old.peers) c.in-None.ensures.exact refl
+    let new : Peers = record old.peers { drops = c.count_malformed.new.self } in
+    subst (λ came. IsChangedBy came old.keeper old.peers new) c.in-None.ensures.exact
+    (ap (λ (drops : Drops). record old.peers { drops = drops }) c.count_malformed.ensures)

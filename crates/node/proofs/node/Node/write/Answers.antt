@@ -21,7 +21,7 @@ returns-clause-serves c =
     let old = c.args.self.now in
     let new : Node = record old { keeper = c.begin_write.new.self; desk = c.wait.new.desk } in
     on_ok_weaker c.wait.result
-    (λ awaited frame asks. call_served c.args.client frame (ask.Set c.args.name c.args.value)
+    (λ awaited next asks. call_served c.args.client next (ask.Set c.args.name c.args.value)
     (writing_call c.args.name c.args.value) old new c.args.work.now
     c.begin_write.new.work c.wait.new.work c.in_ok-begun.begun asks (λ id. refl) (λ local id why e. (local, id, why, e, refl)) tt
     (λ id why next e. (id, next, why, e, refl)) (λ id next e. (next, e))

@@ -15,7 +15,7 @@ returns-in-Refused-clause-awaited c =
     let old = c.args.desk.now in
     let client = c.args.client in
     subst (λ begun. OnOk c.refuse.result (IsAwaited old c.args.work.now client
-    (Some (record { name = c.args.name; client = Some client; wanted = c.args.wanted; is_move = c.args.is_move; age = 0 })) begun
+    (Some c.args.call) begun
     c.refuse.new.self c.refuse.new.work)) (sym c.in-Refused.is)
     (on_ok_weaker c.refuse.result
     (λ grown. (

@@ -3,7 +3,7 @@ use Rattle.std.proofs.lemmas.Iterator.Consumers.{YieldsList-at, YieldsList-from_
 use Rattle.std.proofs.lemmas.List.Sums.{length-filter}
 use Rattle.indexmap.specs.IndexMap.{values}
 use Rattle.node.specs.Info.{is_move_open}
-use Rattle.node.proofs.node.info.count_moves.Goals as goal
+use Rattle.node.proofs.node.peer_lines.count_moves.Goals as goal
 
 pub returns : goal.returns
 returns c =

@@ -1,7 +1,7 @@
 use Rattle.std.proofs.Common.{ℕ, ap, get_or}
 use Rattle.node.specs.Info.{heard_line, hears_now}
 use Rattle.node.proofs.ShownLemmas.{one_more_shown}
-use Rattle.node.proofs.node.info.push_heard.Goals as goal
+use Rattle.node.proofs.node.peer_lines.push_heard.Goals as goal
 
 pub loop-i-preserved : goal.loop-i-preserved
 loop-i-preserved c =
