@@ -6,5 +6,6 @@ pub mod FrameReadingLemmas
 pub mod OutputLemmas
 pub mod WaitingLemmas
 pub mod ServingLemmas
+pub mod RoundLemmas
 pub mod CutLogLemmas
 pub mod LeftLogLemmas

@@ -4,3 +4,4 @@ pub mod Outputs
 pub mod Serving
 pub mod Laws
 pub mod Rewriting
+pub mod Rounds

@@ -5,6 +5,7 @@ ghost use Rattle.frames.specs.Writing.{Writes};
 ghost use Rattle.node_effects.specs.declared.output.Output.{Output};
 ghost use Rattle.node_store.specs.Outputs.{HasGathered};
 ghost use Rattle.node_store.specs.Rewriting.{HasGrown};
+ghost use Rattle.node_store.specs.Rounds.{ServesInRounds};
 ghost use Rattle.node_store.specs.Serving.{ServesUntil, ServesSome, HandlesArrived, IsFrameHandled, WritesOutputs};
 
 use crate::batch::Batch;
@@ -31,6 +32,9 @@ const MOST_AT_ONCE: u16 = 1024;
 /// log ends then, which has grown as `has_grown` says; nothing waits to be written, and the log is synced. An input
 /// that ends within a frame counts as ended there. After 2^64 - 1 rounds the error is `NoInput` with `TimedOut`.
 ///
+/// The clause `rounds` says what `serves` says, and that the loop goes in rounds: each one reads frames first, and then
+/// writes all that is wanted for them.
+///
 /// What an operator should know is written to `err`. A write that fails there is ignored.
 pub fn serve_frames<M: Machine, I: Read + Drop, O: Write, L: Log, E: Write>(
     alloc: Global,
@@ -45,6 +49,15 @@ pub fn serve_frames<M: Machine, I: Read + Drop, O: Write, L: Log, E: Write>(
     ensures serves { ServesUntil M.handles M.notes end.chain.state machine.old machine.new
         (reader_remaining I.remaining input.old) (reader_remaining I.remaining input.new)
         (L.kept log.old) (L.kept log.new) (O.contents output.old) (O.contents output.new) result }
+    ensures rounds { ServesInRounds M.handles M.notes
+        (record {
+          chain = end.chain.state;
+          machine = machine.old;
+          left = reader_remaining I.remaining input.old;
+          kept = L.kept log.old;
+          held = O.contents output.old;
+        })
+        machine.new (reader_remaining I.remaining input.new) (L.kept log.new) (O.contents output.new) result }
     ensures synced { OnOk result (L.kept log.new ≡ L.written log.new) }
     ensures grown { IfOk result (λ now. MatchOption now ⊤ (λ now. HasGrown end.length now.length)) }
 {

@@ -1,7 +1,8 @@
 -- The frames so far were handled, and what the machine wanted done for them is done.
-use Rattle.std.proofs.Common.{◌≡◌, [], true, Ok}
+use Rattle.std.proofs.Common.{◌≡◌, ℕ, [], true, Ok}
 use Rattle.std.specs.Io.Buffered.{reader_remaining}
 use Rattle.node_store.specs.Outputs.{HasGathered}
+use Rattle.node_store.specs.Rounds.{BetweenRounds, GoesRounds}
 use Rattle.node_store.specs.Serving.{ServesSome}
 use Rattle.node_store.proofs.serving.serve_frames.Given as goal
 
@@ -10,3 +11,18 @@ invariant-loop g l = ServesSome g.M.Machine.handles g.M.Machine.notes l.fn.end.c
     l.machine (reader_remaining g.I.Read.remaining l.fn.input) (reader_remaining g.I.Read.remaining l.input)
     (g.L.Log.kept l.fn.log) (g.L.Log.kept l.log) (g.O.Write.contents l.fn.output) (g.O.Write.contents l.output) (Ok true)
     × (g.L.Log.kept l.log ≡ g.L.Log.written l.log) × HasGathered l.batch.chain.state l.batch []
+    × ((count : ℕ) × GoesRounds g.M.Machine.handles g.M.Machine.notes count
+    (record {
+      chain = l.fn.end.chain.state;
+      machine = l.fn.machine;
+      left = reader_remaining g.I.Read.remaining l.fn.input;
+      kept = g.L.Log.kept l.fn.log;
+      held = g.O.Write.contents l.fn.output;
+    })
+    (record {
+      chain = l.batch.chain.state;
+      machine = l.machine;
+      left = reader_remaining g.I.Read.remaining l.input;
+      kept = g.L.Log.kept l.log;
+      held = g.O.Write.contents l.output;
+    }))
