@@ -17,3 +17,10 @@ pub mod CameLemmas
 pub mod OutcomeLemmas
 pub mod StepLemmas
 pub mod ProcessLawLemmas
+pub mod LeadLemmas
+pub mod HandledRoundLemmas
+pub mod WrittenRoundLemmas
+pub mod WrittenEventLemmas
+pub mod FirstWrittenLemmas
+pub mod RoundLawLemmas
+pub mod ProgramLemmas

@@ -1,4 +1,3 @@
--- The contracts that docs/trusted.md lists do not depend on this file; other contracts and proofs do.
 -- The laws: a cluster of node programs is, at each moment, a cluster of nodes as `refinement` defines it.
 use Rattle.std.specs.Prelude.{◌≡◌, ◌⊎◌, ◌<◌, ℕ, true, List, [], ◌∷◌, Some, slice_get}
 use Rattle.encoder.specs.Fragment.{fragment}

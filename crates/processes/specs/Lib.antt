@@ -3,3 +3,5 @@ pub mod Letters
 pub mod Events
 pub mod Runs
 pub mod Laws
+pub mod Loops
+pub mod Programs

@@ -1,4 +1,3 @@
--- The contracts that docs/trusted.md lists do not depend on this file; other contracts and proofs do.
 -- The processes of a cluster: what each has in its memory, what its log has, and what may leave it.
 use Rattle.std.specs.Prelude.{ℕ, suc, ◌==◌, if◌then◌else◌, List, [], ◌∷◌, Option, None}
 use Rattle.deeds.specs.Deeds.{Notice}

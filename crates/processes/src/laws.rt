@@ -1,5 +1,7 @@
 //! What each run of the processes of a cluster promises.
 ghost use Rattle.processes.specs.Laws.{ProcessesAreAtomic, ProcessesHaveClusters, ProcessesKeepValues};
+ghost use Rattle.processes.specs.Loops.{RoundsAreEvents, StopsAreEvents};
+ghost use Rattle.processes.specs.Programs.{RewritesAreEvents, StartsAreEvents};
 
 use node_store::left_logs_are_read;
 
@@ -25,3 +27,25 @@ pub fn processes_keep_values()
 {
     left_logs_are_read();
 }
+
+/// A law: a round of the loop `serve_frames` is a list of events of the program's process.
+pub fn rounds_are_events()
+    ensures { RoundsAreEvents }
+{}
+
+/// A law: so is a round in which the loop stops early, and what its log then keeps is what a stop may leave.
+pub fn stops_are_events()
+    ensures { StopsAreEvents }
+{}
+
+/// A law: what the contracts say of a start of the program is a list of events of its process.
+pub fn starts_are_events()
+    ensures { StartsAreEvents }
+{
+    left_logs_are_read();
+}
+
+/// A law: so is a rewriting of its log.
+pub fn rewrites_are_events()
+    ensures { RewritesAreEvents }
+{}

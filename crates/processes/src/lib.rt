@@ -5,6 +5,9 @@
 //! empty body.
 #![tactic(auto)]
 
-pub use laws::{processes_are_atomic, processes_have_clusters, processes_keep_values};
+pub use laws::{
+    processes_are_atomic, processes_have_clusters, processes_keep_values, rewrites_are_events,
+    rounds_are_events, starts_are_events, stops_are_events,
+};
 
 mod laws;

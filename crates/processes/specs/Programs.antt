@@ -1,0 +1,70 @@
+-- What a node program does when it starts, and when it writes its log anew, as events of its process.
+use Rattle.std.specs.Prelude.{◌≡◌, ℕ, List, [], take, Option, None, Some, Ok}
+use Rattle.std.specs.Io.KnownBytes.{Appends}
+use Rattle.recoveries.specs.Records.{IsStarted}
+use Rattle.deeds.specs.Kept.{FileOfNames}
+use Rattle.node_keeper.specs.Keeping.{kept_of}
+use Rattle.node_log.specs.Entry.{chain_behind, first_chain}
+use Rattle.node_strings.specs.Strings.{Strings}
+use Rattle.node.specs.Anew.{AreAnew}
+use Rattle.node.specs.Recovering.{CarriesOutEntry}
+use Rattle.node.specs.Starts.{CanBeNamed, start_entries}
+use Rattle.node.specs.declared.node.Node.{Node}
+use Rattle.node_store.specs.Laws.{IsLeft}
+use Rattle.node_store.specs.Recovery.{HasRecovered, log_bytes}
+use Rattle.node_store.specs.Rewriting.{Becomes, IsEndOf}
+use Rattle.node_store.specs.declared.end.LogEnd.{LogEnd}
+use Rattle.processes.specs.Events.{AreAnewIf, IsNewNode}
+use Rattle.processes.specs.Loops.{HaveEvents, IsBetweenRounds}
+use Rattle.processes.specs.Processes.{Processes}
+use Rattle.processes.specs.Runs.{AreReached}
+
+-- the log, which kept these bytes up to this end, was written anew with these entries, if there are some, and then
+-- keeps those bytes up to that end
+abbrev pub IsRewrittenIf : Option (List Strings) → (old : Option (List ℕ)) → LogEnd → (new : Option (List ℕ)) → LogEnd →
+    Type 0
+IsRewrittenIf None old end new then = (new ≡ old) × (then ≡ end)
+IsRewrittenIf (Some entries) old end new then =
+    Becomes old new (Some (log_bytes first_chain entries)) × IsEndOf entries then
+
+-- What the contracts of `Node::new`, `recover_machine`, `entries_anew`, `rewrite_log`, `Node::start` and
+-- `append_entries` say of a start that returns. These bytes were found. A new node carried out the entries in them, and
+-- the file was cut where these end. The log was perhaps written anew. The node was started, and the log got the entries
+-- of the start, behind which it has this chain and keeps these bytes.
+pub record IsStart (names : FileOfNames) (number : ℕ) (disk : List ℕ) (node : Node) (chain : ℕ)
+    (keeps : Option (List ℕ)) : Type 0 where
+  pub new : Node
+  pub copy : Node
+  pub end : LogEnd
+  pub then : LogEnd
+  pub anew : Option (List Strings)
+  pub kept : Option (List ℕ)
+  pub is_new : IsNewNode names number new
+  pub recovered : HasRecovered CarriesOutEntry new copy (Some disk) (Ok end)
+  pub renewed : AreAnewIf copy anew
+  pub rewritten : IsRewrittenIf anew (Some (take end.length disk)) end kept then
+  pub named : CanBeNamed copy
+  pub started : IsStarted (kept_of copy.keeper) (kept_of node.keeper)
+  pub appended : Appends kept keeps (log_bytes then.chain.state (start_entries copy))
+  pub chained : chain ≡ chain_behind then.chain.state (start_entries copy)
+
+-- The laws
+
+-- a start, at bytes that a stop may have left, is a list of events of the process, which write nothing and end between
+-- two rounds
+abbrev pub StartsAreEvents : Type 0
+StartsAreEvents = (processes : Processes) (reached : AreReached processes) (number : ℕ) (disk : List ℕ) (node : Node)
+    (chain : ℕ) (keeps : Option (List ℕ)) →
+    (processes.at number).running ≡ None → IsLeft (processes.at number).log (processes.at number).synced disk →
+    IsStart reached.names number disk node chain keeps →
+    HaveEvents reached.names number processes
+    (λ written process. (written ≡ []) × IsBetweenRounds process node chain keeps)
+
+-- so is a rewriting of the log between two rounds
+abbrev pub RewritesAreEvents : Type 0
+RewritesAreEvents = (names : FileOfNames) (number : ℕ) (processes : Processes) (node : Node) (chain : ℕ)
+    (kept keeps : Option (List ℕ)) (entries : List Strings) (end : LogEnd) →
+    IsBetweenRounds (processes.at number) node chain kept → AreAnew node entries →
+    Becomes kept keeps (Some (log_bytes first_chain entries)) → IsEndOf entries end →
+    HaveEvents names number processes
+    (λ written process. (written ≡ []) × IsBetweenRounds process node end.chain.state keeps)
