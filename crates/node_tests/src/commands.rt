@@ -82,7 +82,7 @@ static PLAIN_COMMANDS: [Step; 5] = [
     },
     Step {
         words: "client 7|COMMAND|COUNT",
-        answers: "[Frame { strings: [b\"client 7\", b\":17\\r\\n\"] }]",
+        answers: "[Frame { strings: [b\"client 7\", b\":18\\r\\n\"] }]",
         outputs: None,
     },
     Step {

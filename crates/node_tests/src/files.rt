@@ -2,6 +2,7 @@
 //! were computed by another program.
 mod digests;
 mod faults;
+mod movers;
 mod placed;
 mod read;
 mod rows;

@@ -13,7 +13,11 @@ mod clients;
 #[cfg(test)]
 mod commands;
 #[cfg(test)]
+mod deletions;
+#[cfg(test)]
 mod files;
+#[cfg(test)]
+mod info;
 #[cfg(test)]
 mod log;
 #[cfg(test)]
@@ -24,3 +28,5 @@ mod names;
 mod objects;
 #[cfg(test)]
 mod order;
+#[cfg(test)]
+mod pair;

@@ -30,7 +30,11 @@ static SENT: [(&[u8], &str); 11] = [
         b"*2\r\n$4\r\nECHO\r\n$12\r\nHello World!\r\n",
         "Ok(Echo(b\"Hello World!\"))",
     ),
-    (b"*1\r\n$4\r\nINFO\r\n", "Ok(Info)"),
+    (
+        b"*1\r\n$4\r\nINFO\r\n",
+        "Ok(Info(Sections { server: true, clients: true, memory: true, persistence: true, \
+            stats: true, replication: true, cluster: true, keyspace: true, node: true }))",
+    ),
     // What `redis-cli` sends when it starts.
     (b"*2\r\n$7\r\nCOMMAND\r\n$4\r\nDOCS\r\n", "Ok(ListCommands)"),
     (
@@ -49,8 +53,57 @@ fn sent(rt: HostRuntime) {
 }
 
 /// The strings of a frame, and what it asks for.
-static STRINGS: [(&[&[u8]], &str); 29] = [
-    (&[b"info", b"server", b"clients"], "Ok(Info)"),
+static STRINGS: [(&[&[u8]], &str); 37] = [
+    (
+        &[b"DEL", b"photo"],
+        "Ok(Delete(Deletion { names: [b\"photo\"], done: 0, made: 0 }))",
+    ),
+    (
+        &[b"del", b"photo", b"", b"photo"],
+        "Ok(Delete(Deletion { names: [b\"photo\", b\"\", b\"photo\"], done: 0, made: 0 }))",
+    ),
+    (
+        &[b"info", b"server", b"clients"],
+        "Ok(Info(Sections { server: true, clients: true, memory: false, persistence: false, \
+            stats: false, replication: false, cluster: false, keyspace: false, node: false }))",
+    ),
+    (
+        &[
+            b"INFO",
+            b"Node",
+            b"NODE",
+            b"PERSISTENCE",
+            b"keyspace",
+            b"memory",
+        ],
+        "Ok(Info(Sections { server: false, clients: false, memory: true, persistence: true, \
+            stats: false, replication: false, cluster: false, keyspace: true, node: true }))",
+    ),
+    (
+        &[b"INFO", b"stats", b"REPLICATION", b"cluster"],
+        "Ok(Info(Sections { server: false, clients: false, memory: false, persistence: false, \
+            stats: true, replication: true, cluster: true, keyspace: false, node: false }))",
+    ),
+    (
+        &[b"INFO", b"ALL"],
+        "Ok(Info(Sections { server: true, clients: true, memory: true, persistence: true, \
+            stats: true, replication: true, cluster: true, keyspace: true, node: true }))",
+    ),
+    (
+        &[b"INFO", b"server", b"Everything"],
+        "Ok(Info(Sections { server: true, clients: true, memory: true, persistence: true, \
+            stats: true, replication: true, cluster: true, keyspace: true, node: true }))",
+    ),
+    (
+        &[b"INFO", b"default"],
+        "Ok(Info(Sections { server: true, clients: true, memory: true, persistence: true, \
+            stats: true, replication: true, cluster: true, keyspace: true, node: true }))",
+    ),
+    (
+        &[b"INFO", b"latencystats", b""],
+        "Ok(Info(Sections { server: false, clients: false, memory: false, persistence: false, \
+            stats: false, replication: false, cluster: false, keyspace: false, node: false }))",
+    ),
     (&[b"COMMAND"], "Ok(ListCommands)"),
     // What libraries say of themselves, and what ends a connection.
     (&[b"client", b"id"], "Ok(ClientId)"),

@@ -9,7 +9,7 @@ use std::process::Abort;
 const LONG: &[u8] = &[b'n'; 256];
 
 /// Strings, and the fault of their frame.
-static FAULTS: [(&[&[u8]], CommandFault); 29] = [
+static FAULTS: [(&[&[u8]], CommandFault); 33] = [
     (&[], CommandFault::UnknownCommand),
     (&[b""], CommandFault::UnknownCommand),
     (&[b"GETS", b"photo"], CommandFault::UnknownCommand),
@@ -48,6 +48,10 @@ static FAULTS: [(&[&[u8]], CommandFault); 29] = [
         &[b"layout", b"one", b"two"],
         CommandFault::WrongCount(CommandName::Layout),
     ),
+    (&[b"DEL"], CommandFault::WrongCount(CommandName::Del)),
+    (&[b"DEL", LONG], CommandFault::NameTooLong),
+    (&[b"del", b"photo", LONG], CommandFault::NameTooLong),
+    (&[b"DELE", b"photo"], CommandFault::UnknownCommand),
     (&[b"CLIENT"], CommandFault::WrongCount(CommandName::Client)),
     (
         &[b"CLIENT", b"ID", b"17"],

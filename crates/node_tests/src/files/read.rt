@@ -32,7 +32,7 @@ struct Row {
     ticks: u32,
 }
 
-static ROWS: [Row; 2] = [
+static ROWS: [Row; 3] = [
     Row {
         text: BY_HAND,
         nodes: &[0, 1, 2, 3, 4, 5],
@@ -53,6 +53,16 @@ static ROWS: [Row; 2] = [
         later: &[],
         ticks: 4_294_967_295,
     },
+    Row {
+        text: b"nodes 1 2 3\nn 3\nk 2\ndelta 2\nmover 6\nlater 4 6\nticks 50\n",
+        nodes: &[1, 2, 3],
+        n: 3,
+        k: 2,
+        delta: Some(2),
+        mover: 6,
+        later: &[4, 6],
+        ticks: 50,
+    },
 ];
 
 fn says_nodes(file: &ClusterFile, row: &Row) -> bool {
@@ -63,7 +73,7 @@ fn says_numbers(file: &ClusterFile, row: &Row) -> bool {
     file.n() == row.n && file.k() == row.k && file.delta() == row.delta && file.ticks() == row.ticks
 }
 
-/// A text by hand, and one with lines that end with CR LF.
+/// A text by hand, one with lines that end with CR LF, and one whose mover joined later.
 #[test]
 fn settings_of_texts(rt: HostRuntime) {
     for row in &ROWS {

@@ -9,7 +9,7 @@ pub(crate) struct Row {
     pub fault: Fault,
 }
 
-pub(crate) static ROWS: [Row; 31] = [
+pub(crate) static ROWS: [Row; 30] = [
     Row {
         story: "no text",
         text: b"",
@@ -191,13 +191,6 @@ pub(crate) static ROWS: [Row; 31] = [
         line: 6,
         word: 4,
         fault: Fault::NodeTwice,
-    },
-    Row {
-        story: "a mover that is no node",
-        text: b"nodes 1 2\nn 2\nk 1\ndelta none\nmover 3\nlater 3\nticks 9\n",
-        line: 5,
-        word: 2,
-        fault: Fault::NoNode,
     },
     Row {
         story: "a setting behind the last",
