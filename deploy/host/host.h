@@ -4,6 +4,7 @@
 
 #include "bus.h"
 #include "clients.h"
+#include "quorum.h"
 
 /* What the loop goes on with: it runs, it was told to stop, the child ended, or something failed that was reported. */
 enum course { RUNS, STOPS, ENDED, FAILS };
@@ -12,6 +13,7 @@ struct host {
     struct child child;
     struct clients clients;
     struct bus bus;
+    struct quorum quorum;
     int epoll, signals, timer, greetings;
     uint32_t to_child_watched;  /* the events for which the pipe to the child is waited for */
     uint64_t ticks;

@@ -73,6 +73,7 @@ static bool tick(struct host *host) {
     }
     clients_tick(&host->clients, &host->child);
     peers_miss(&host->bus.peers);
+    quorum_miss(&host->quorum, &host->bus.peers);
     size_t count = peers_list(&host->bus.peers, heard, &length);
     return child_tick(&host->child, count, heard, length);
 }
@@ -167,6 +168,7 @@ int main(int count, char **words) {
     if (options.password != NULL && !password_read(options.password))
         return 1;
     prepare(&host, &options);
+    quorum_read(&host.quorum, options.cluster);
     if (!open_events(&host, options.tick)
         || !clients_open(&host.clients, host.epoll, options.address, options.port)
         || !child_start(&host.child, options.program, options.cluster, options.node, options.folder)

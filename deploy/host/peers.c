@@ -116,6 +116,10 @@ static bool is_heard(const struct peer *peer, uint64_t time) {
     return peer->heard != 0 && time - peer->heard <= HEARD_LATELY;
 }
 
+bool peers_hears(const struct peers *peers, uint64_t node) {
+    return node == peers->own || is_heard(&peers->nodes[node], now());
+}
+
 void peers_miss(struct peers *peers) {
     uint64_t time = now();
     for (uint64_t node = 0; node < MOST_NODES; node++) {

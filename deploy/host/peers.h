@@ -63,6 +63,9 @@ bool peers_must_tell(struct peers *peers, uint64_t node);
  * each once. */
 void peers_miss(struct peers *peers);
 
+/* Whether a node is heard: this node itself, or one that was heard within three seconds. */
+bool peers_hears(const struct peers *peers, uint64_t node);
+
 /* Lists the nodes that were heard within three seconds, this node first, as the strings of a frame. Their count. */
 size_t peers_list(const struct peers *peers, char *strings, size_t *length);
 

@@ -71,6 +71,32 @@ class Endings(unittest.TestCase):
             self.assertIn("usage: casd-host", done.stderr)
 
 
+class Quorums(unittest.TestCase):
+    """A host without NATS hears its own node alone."""
+    MISSED = "host of node 1: fewer than a quorum of the nodes is heard, so calls are given up. Not heard:"
+
+    def hosts(self, *files):
+        return [Host(f"echo\n{text}") for text in files]
+
+    def test_too_few_are_heard(self):
+        """It says so once. With five nodes, n = 3 and k = 1, one node may be missing."""
+        hosts = self.hosts("nodes 1 2 3\nn 3\nk 1", "nodes 3 1\t2 5 4  # all\r\nn 3 # of them\r\nk 1\r\nlater 6")
+        for host, missed in zip(hosts, (" 2 3", " 2 3 4 5")):
+            host.wait_for(f"{self.MISSED}{missed}\n")
+        time.sleep(1)
+        for host in hosts:
+            self.assertEqual(host.end(), 0)
+            self.assertEqual(host.said().count("quorum"), 1)
+
+    def test_enough_are_heard(self):
+        """A node that is alone is a quorum. Of a file that is no cluster file, the host says nothing."""
+        hosts = self.hosts("nodes 1\nn 1\nk 1", "nodes 1 2\nn 2\nk 0", "nodes 1 2\nn 3\nk 1", "", "nodes 1 2 # n 2")
+        time.sleep(5)
+        for host in hosts:
+            self.assertEqual(host.end(), 0)
+            self.assertNotIn("quorum", host.said())
+
+
 class Frames(unittest.TestCase):
     def lines_of(self, host, count):
         """What the child has got so far, except ticks, once that are `count` lines."""

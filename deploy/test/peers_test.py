@@ -137,6 +137,27 @@ class Greetings(Case):
         for told in ("node 3 has not been heard for three seconds\n", "node 3 is heard again\n"):
             self.assertEqual(one.said().count(f"host of node 1: {told}"), 1, told)
 
+    def test_a_quorum_that_is_missed(self):
+        """Of three nodes with k = 1, two are a quorum: with node 3 alone missing, nothing is said."""
+        kind = "keep\nnodes 1 2 3\nn 3\nk 1"
+        one, two, three = (self.start(number, kind) for number in (1, 2, 3))
+        self.wait("no tick names all", lambda: self.last_tick(one) == "tick 1 2 3")
+        time.sleep(4)
+        for host in (three, two):
+            host.process.send_signal(signal.SIGSTOP)
+            self.addCleanup(host.process.send_signal, signal.SIGCONT)
+            one.wait_for(f"node {2 if host is two else 3} has not been heard for three seconds\n")
+            self.assertEqual(one.said().count("quorum"), int(host is two))
+        self.assertIn("fewer than a quorum of the nodes is heard, so calls are given up. Not heard: 2 3\n", one.said())
+        time.sleep(1)
+        two.process.send_signal(signal.SIGCONT)
+        one.wait_for("a quorum of the nodes is heard again\n")
+        three.process.send_signal(signal.SIGCONT)
+        one.wait_for("node 3 is heard again\n")
+        for host in (two, three):
+            self.ended(host)
+        self.assertEqual(self.ended(one).count("quorum"), 2)
+
     def test_strangers_are_not_named(self):
         one = self.start(1)
         self.meet(one, 2)
