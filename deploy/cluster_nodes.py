@@ -154,6 +154,14 @@ class Cluster:
         nodes = self.told("nodes")
         return None if nodes is None else sorted({*nodes, *(self.told("later") or [])})
 
+    def takers(self):
+        """The numbers of the nodes that may get names, or None where nothing tells them: not that of a mover which is
+        there to move objects alone, since no name has it in its first layout."""
+        members, nodes, mover = self.members(), self.told("nodes"), self.told("mover")
+        if members is None or mover is None or mover[0] in nodes:
+            return members
+        return [number for number in members if number not in mover]
+
     def movers(self):
         """The nodes that answer of which one may be the mover: one of them, where something tells it."""
         mover = self.told("mover")

@@ -27,9 +27,9 @@ def plain_answer(client, command, words, info):
     if command == b"ECHO" and len(words) == 1:
         return bulk(words[0])
     if command == b"INFO":
-        return bulk(info())
+        return bulk(info({word.lower() for word in words}))
     if command == b"COMMAND":
-        return b":17\r\n" if words and words[0].upper() == b"COUNT" else b"*0\r\n"
+        return b":18\r\n" if words and words[0].upper() == b"COUNT" else b"*0\r\n"
     if command == b"CLIENT" and words and words[0].upper() in (b"ID", b"GETNAME"):
         return b":%d\r\n" % client if words[0].upper() == b"ID" else NIL
     if command == b"CLIENT" or command == b"QUIT":
@@ -94,6 +94,6 @@ def error_answer(command, words):
         return b"-ERR a command has one name in this store; nothing was done\r\n"
     if option:
         return b"-ERR syntax error\r\n"
-    if command in (b"SET", b"PING", b"ECHO", b"SELECT", b"AUTH", b"DBSIZE", b"LAYOUT", b"SCAN", *READINGS):
+    if command in (b"SET", b"PING", b"ECHO", b"SELECT", b"AUTH", b"DBSIZE", b"LAYOUT", b"SCAN", b"DEL", *READINGS):
         return b"-ERR wrong number of arguments for '%s' command\r\n" % command.lower()
     return b"-ERR unknown command\r\n"

@@ -31,6 +31,17 @@ class Drain(MovingCase):
         self.assertIn(f"deploy/drain: {len(due)} names moved away from node 4 in ", said)
         self.assertIn("deploy/drain: of 300 names, none has node 4 in the last layout\n", said)
 
+    def test_mover_of_its_own(self):
+        """A mover that is none of `nodes` is asked to move the names, and gets none of them. Node 6, which joined later
+        too, gets names."""
+        cluster = self.layouts(mover=7)
+        self.fill(cluster, 100)
+        due = cluster.names_on(4)
+        self.drain(4, *cluster.addresses())
+        self.assertEqual(sorted(cluster.moved), due)
+        self.assertEqual((cluster.names_on(4), cluster.names_on(7)), ([], []))
+        self.assertNotEqual(cluster.names_on(6), [])
+
     def test_evenness(self):
         """Without newcomers, the nodes with fewer names get more. Here node 1 has 40 names more than the others."""
         cluster = self.layouts(later=())

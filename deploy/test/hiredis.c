@@ -74,7 +74,7 @@ int main(int count, char **words) {
     expect(0, REDIS_REPLY_ERROR, 0, "ERR values do not expire in this store; nothing was changed",
            "SETEX hiredis 10 other");
     expect(1, REDIS_REPLY_STRING, 0, "a value", "GET hiredis");
-    expect(0, REDIS_REPLY_INTEGER, 17, "", "COMMAND COUNT");
+    expect(0, REDIS_REPLY_INTEGER, 18, "", "COMMAND COUNT");
     greeting();
     pipeline();
     redisFree(nodes[0]);

@@ -51,11 +51,41 @@ class Library(unittest.TestCase):
             self.assertEqual({**info["db0"], "keys": 0}, {"keys": 0, "expires": 0, "avg_ttl": 0})
         self.assertGreaterEqual(sum(info["db0"]["keys"] for info in found), 2)
 
+    def test_sections_of_info(self):
+        """A section that there is not tells nothing."""
+        server = {"redis_version": "1.0.0", "redis_mode": "standalone"}
+        for client in self.clients:
+            self.assertEqual(client.info("server"), server)
+            self.assertEqual(client.info("latencystats"), {})
+            self.assertEqual([*client.info("Keyspace")], ["db0"])
+            self.assertEqual({key.partition("_")[0] for key in client.info("cluster")}, {"cluster"})
+            for words in (["all"], ["SERVER", "Everything"], ["default"]):
+                self.assertEqual(client.info(*words).keys(), client.info().keys())
+            self.assertEqual({**client.info("server", "keyspace"), "db0": 0}, {**server, "db0": 0})
+
     def test_pipeline(self):
         pipeline = self.client.pipeline(transaction=False)
         for n in range(50):
             pipeline.set(f"piped-{n}", n).get(f"piped-{n}")
         wanted = [answer for n in range(50) for answer in (True, b"%d" % n)]
+        self.assertEqual(pipeline.execute(), wanted)
+
+    def test_delete(self):
+        """Deleted names read as nil at each node, and their number is told, whether they had values or not."""
+        names = [f"deleted-{n}" for n in range(5)]
+        for name in names:
+            self.client.set(name, "value")
+        self.assertEqual(self.client.delete(*names, "never written"), 6)
+        self.assertEqual([client.get(name) for client in self.clients for name in names], [None] * 5 * len(PORTS))
+        self.client.set(names[0], "again")
+        self.assertEqual([client.get(names[0]) for client in self.clients], [b"again"] * len(PORTS))
+
+    def test_delete_in_a_pipeline(self):
+        """A command before a DEL sees the old value, and one behind it does not."""
+        pipeline = self.client.pipeline(transaction=False)
+        for n in range(10):
+            pipeline.set(f"cut-{n}", n).get(f"cut-{n}").delete(f"cut-{n}").get(f"cut-{n}").ping()
+        wanted = [answer for n in range(10) for answer in (True, b"%d" % n, 1, None, True)]
         self.assertEqual(pipeline.execute(), wanted)
 
     def test_unknown_command(self):
@@ -85,7 +115,8 @@ class Library(unittest.TestCase):
         with self.assertRaisesRegex(redis.ResponseError, "^value too long$"):
             self.client.set("too long", bytes((16 << 20) + 1))
         self.assertEqual(self.client.exists("too long"), 0)
-        for words in (("GET", "n" * 256), ("STRLEN", "n" * 256), ("EXISTS", "n" * 256), ("SET", "n" * 256, "value")):
+        for words in (("GET", "n" * 256), ("STRLEN", "n" * 256), ("EXISTS", "n" * 256), ("SET", "n" * 256, "value"),
+                      ("DEL", "short", "n" * 256)):
             with self.assertRaisesRegex(redis.ResponseError, "^name too long$"):
                 self.client.execute_command(*words)
 
@@ -122,14 +153,14 @@ class Library(unittest.TestCase):
 # Commands that a node and Redis answer in the same way, one after another on one connection.
 SAME = [
     ["SET", "same", "hello"], ["GET", "same"], ["GET", "missing"], ["STRLEN", "same"], ["STRLEN", "missing"],
-    ["EXISTS", "same"], ["EXISTS", "missing"], ["exists", "same"], ["PING"], ["ECHO", "text"],
+    ["EXISTS", "same"], ["EXISTS", "missing"], ["exists", "same"], ["DEL"], ["PING"], ["ECHO", "text"],
     ["SELECT", "0"], ["SELECT", "99"], ["SELECT"], ["AUTH", "word"], ["AUTH", "default", "word"],
     ["AUTH", "nobody", "word"], ["AUTH"], ["STRLEN"], ["STRLEN", "same", "missing"], ["EXISTS"], ["HELLO", "9"],
     ["HELLO", "2", "AUTH", "nobody", "word"],
     ["DBSIZE", "same"], ["SCAN"], ["SCAN", "word"], ["SCAN", "0", "COUNT"], ["SCAN", "0", "COUNT", "0"],
     ["SCAN", "0", "COUNT", "word"], ["SCAN", "0", "WORD", "1"],
     ["CLIENT", "GETNAME"], ["CLIENT", "SETNAME", "tester"], ["SET", "same"], ["SET", "same", "value", "WORD"],
-    ["GET", "same"],
+    ["GET", "same"], ["DEL", "same"], ["GET", "same"], ["EXISTS", "same"],
 ]
 # The same for HELLO, whose answer has another server, version and number of the connection.
 GREETINGS = [["HELLO"], ["HELLO", "2"], ["hello", "2", "setname", "tester"],

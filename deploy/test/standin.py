@@ -34,8 +34,8 @@ def tag_of(text):
 class Call:
     """A read or a write that is open: its first phase asks for tags, its second one stores."""
 
-    def __init__(self, client, name, value, wanted):
-        self.client, self.name, self.value, self.wanted = client, name, value, wanted
+    def __init__(self, client, name, value, wanted, deletes):
+        self.client, self.name, self.value, self.wanted, self.deletes = client, name, value, wanted, deletes
         self.request, self.found, self.replied = None, NEVER_WRITTEN, set()
         self.phase, self.age = 1, 0
 
@@ -108,7 +108,10 @@ class Node:
         """A majority has replied: goes to the second phase, or answers."""
         if call.phase == 2 or (call.value is None and self.in_one_phase):
             self.answered += 1
-            self.end_call(number, b"+OK\r\n" if call.value is not None else READINGS[call.wanted](call.found[1]))
+            if call.deletes and self.delete_next(number, call):
+                return
+            self.end_call(number, b":%d\r\n" % call.deletes[1] if call.deletes else b"+OK\r\n"
+                          if call.value is not None else READINGS[call.wanted](call.found[1]))
             return
         if call.value is not None:
             call.found = ((call.found[0][0] + 1, *(int(part) for part in number.split(b"."))), call.value)
@@ -124,10 +127,19 @@ class Node:
             if to not in call.replied and call.phase == phase:
                 self.send(to, *call.request)
 
-    def begin(self, client, name, value, wanted=b"GET"):
+    def delete_next(self, number, call):
+        """The write of the empty value to a name of a DEL has ended: whether the one to the next name begins."""
+        names, count = call.deletes
+        if not names or call.client not in self.clients:
+            return False
+        del self.calls[number]
+        self.begin(call.client, names[0], b"", deletes=(names[1:], count))
+        return True
+
+    def begin(self, client, name, value, wanted=b"GET", deletes=None):
         self.counter += 1
         number = b"%d.%d.%d" % (self.number, self.start, self.counter)
-        call = self.calls[number] = Call(client, name, value, wanted)
+        call = self.calls[number] = Call(client, name, value, wanted, deletes)
         call.request = [b"query", number, name]
         self.ask(call)
 
@@ -176,6 +188,10 @@ class Node:
             self.begin(client, words[0], None, command)
         elif command == b"SET" and len(words) == 2:
             self.begin(client, words[0], words[1])
+        elif command == b"DEL" and words and max(map(len, words)) > 255:
+            self.answer(client, b"-ERR name too long\r\n")
+        elif command == b"DEL" and words:
+            self.begin(client, words[0], b"", deletes=(words[1:], len(words)))
         else:
             layout = b"position 0 k 1 nodes %b" % b" ".join(b"%d" % node for node in self.nodes)
             self.answer(client, answer_about_names(command, words, list(self.kept), layout)
@@ -184,10 +200,12 @@ class Node:
             self.out.append(encode([b"client %d" % client]))
             self.clients[client].has_quit = True
 
-    def info(self):
+    def info(self, wanted):
+        """The sections that are wanted."""
         stored = sum(len(value) for _, value in self.kept.values())
         has_quorum = len(self.heard) > len(self.nodes) // 2
         sections = {
+            "Server": {"redis_version": "1.0.0", "redis_mode": "standalone"},
             "Clients": {"connected_clients": len(self.clients)},
             "Stats": {"total_commands_processed": self.answered},
             "Cluster": {"cluster_state": "ok" if has_quorum else "fail", "cluster_known_nodes": len(self.nodes),
@@ -195,8 +213,10 @@ class Node:
             "Keyspace": {"db0": f"keys={len(self.kept)},expires=0,avg_ttl=0"},
             "Node": {"program": "stand-in", "node": self.number, "objects": len(self.kept), "bytes_stored": stored,
                      "calls_open": len(self.calls), "bytes_of_the_log": self.log.file.tell()}}
-        return "\r\n".join(f"# {name}\r\n" + "".join(f"{key}:{value}\r\n" for key, value in lines.items())
-                           for name, lines in sections.items()).encode()
+        if not wanted or wanted & {b"all", b"everything", b"default"}:
+            wanted = {name.lower().encode() for name in sections}
+        return "".join(f"# {name}\r\n" + "".join(f"{key}:{value}\r\n" for key, value in lines.items()) + "\r\n"
+                       for name, lines in sections.items() if name.lower().encode() in wanted).encode()
 
     def take(self, frame):
         address = frame[0].split()

@@ -1,6 +1,7 @@
 #!/usr/bin/env python3
-"""Tests deploy/run: who can use the cluster that it starts and read what it writes, and what it says where a program
-does not start: start_test.py HOST. The variable CASD names another node program than the stand-in."""
+"""Tests deploy/run: who can use the cluster that it starts and read what it writes, which node moves objects, and what
+it says where a program does not start; and deploy/cluster-file: start_test.py HOST. The variable CASD names another
+node program than the stand-in."""
 import contextlib
 import os
 import re
@@ -23,10 +24,10 @@ CASD = os.environ.get("CASD", str(DEPLOY / "test" / "standin.py"))
 NODES = (1, 2, 3)
 
 
-def start(folder, **variables):
+def start(folder, *options, **variables):
     """Runs deploy/run for three nodes under a mask that takes nothing from anybody. Its status, and what it said."""
     environment = {**os.environ, "CASD": CASD, "CASD_HOST": os.path.abspath(HOST), "FIRST_PORT": "0", **variables}
-    with subprocess.Popen([DEPLOY / "run", "3", folder], env=environment, umask=0, stdout=subprocess.PIPE,
+    with subprocess.Popen([DEPLOY / "run", *options, "3", folder], env=environment, umask=0, stdout=subprocess.PIPE,
                           stderr=subprocess.STDOUT, text=True) as run:
         said, _ = run.communicate(timeout=PATIENCE)
         return run.returncode, said
@@ -150,6 +151,67 @@ class Strangers(unittest.TestCase):
         self.assertEqual(self.ask(self.ports[2], b"GET", b"kept"), b"value")
         self.assertEqual(set(before) & set(self.passwords()), set())
         self.test_modes()
+
+
+@unittest.skipUnless(shutil.which("nats-server"), "nats-server is missing")
+class OwnMovers(unittest.TestCase):
+    """Three nodes that keep objects, and a fourth one that moves them."""
+
+    def nodes_of(self, folder, *options):
+        """Starts the cluster and ends it. The ports of its nodes, each of which has answered a write."""
+        status, said = start(folder, *options)
+        self.assertEqual(status, 0, said)
+        try:
+            ports = {int(node): int(port) for node, port in re.findall(r"node (\d+): 127.0.0.1 port (\d+)\n", said)}
+            for node, port in ports.items():
+                with Connection(port) as client:
+                    self.assertEqual(client.ask(b"SET", b"node", b"%d" % node), b"+OK")
+        finally:
+            stop(folder)
+        return sorted(ports)
+
+    def test_starts(self):
+        """Later starts need no option, and keep the cluster file."""
+        folder = Path(tempfile.mkdtemp()) / "cluster"
+        self.assertEqual(self.nodes_of(folder, "--own-mover"), [1, 2, 3, 4])
+        before = (folder / "cluster").read_text()
+        self.assertEqual(settings_in(before), {"nodes": "1 2 3", "n": "3", "k": "1", "delta": "2", "mover": "4",
+                                               "later": "4", "ticks": "50"})
+        self.assertEqual(self.nodes_of(folder), [1, 2, 3, 4])
+        self.assertEqual(self.nodes_of(folder, "--own-mover"), [1, 2, 3, 4])
+        self.assertEqual((folder / "cluster").read_text(), before)
+
+    def test_another_mover(self):
+        """A cluster that has another mover keeps it."""
+        folder = Path(tempfile.mkdtemp()) / "cluster"
+        self.assertEqual(self.nodes_of(folder), [1, 2, 3])
+        wanted = f"deploy/run: the mover of {folder}/cluster is node 1, and a cluster keeps its mover\n"
+        self.assertEqual(start(folder, "--own-mover"), (1, wanted))
+
+
+def settings_in(text):
+    """The settings of a cluster file."""
+    lines = [line.partition("#")[0].split() for line in text.splitlines()]
+    return {words[0]: " ".join(words[1:]) for words in lines if words}
+
+
+class ClusterFiles(unittest.TestCase):
+    def run_it(self, *words):
+        return subprocess.run([DEPLOY / "cluster-file", *words], capture_output=True, text=True, check=False)
+
+    def test_settings(self):
+        five = {"nodes": "1 2 3 4 5", "n": "5", "k": "3", "delta": "2", "mover": "1", "later": "", "ticks": "50"}
+        self.assertEqual(settings_in(self.run_it("5").stdout), five)
+        self.assertEqual(settings_in(self.run_it("5", "600").stdout), {**five, "ticks": "600"})
+        own = {**five, "mover": "6", "later": "6"}
+        self.assertEqual(settings_in(self.run_it("--own-mover", "5").stdout), own)
+        self.assertEqual(settings_in(self.run_it("--own-mover", "5", "7").stdout), {**own, "ticks": "7"})
+
+    def test_wrong_words(self):
+        for words in ([], ["--own-mover"], ["5", "50", "6"]):
+            ran = self.run_it(*words)
+            usage = "usage: deploy/cluster-file [--own-mover] N [TICKS]\n"
+            self.assertEqual((ran.returncode, ran.stdout, ran.stderr), (2, "", usage))
 
 
 @unittest.skipUnless(shutil.which("nats-server"), "nats-server is missing")
