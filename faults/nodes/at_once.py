@@ -1,7 +1,7 @@
 """A cluster of node programs on pipes, in which each frame arrives at once if both nodes run."""
 from pathlib import Path
 
-from cluster import Node
+from node_pipes import Node
 
 MOST_TICKS = 200
 

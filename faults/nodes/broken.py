@@ -1,12 +1,15 @@
 #!/usr/bin/env python3
 """A node program that is broken on purpose: broken.py KIND PROGRAM FILE NODE FOLDER. It starts PROGRAM and stands
-between it and its pipes, or changes its log before it starts. `try` requires that the checker finds each KIND but the
-first one, whose runs take minutes, because its reads may never end:
+between it and its pipes, or changes its log before it starts. `try` requires that the checker of histories finds `hasty`,
+`skips` and `stale`, and that whole banks find `none` and `old`. Runs with `forgets` take minutes, because its reads may
+never end:
 
 forgets  at a start, no request that it served is in the log, as where none was written before the answers went out
 hasty    a write is answered before the node hears of it
 skips    every third write is answered and not carried out
 stale    a read is answered with the value that the node read or wrote last under that name, where there is one
+none     every third fetch of another node that has a piece as its answer is answered without a piece
+old      another node that asks for the greatest tag is told the one before, until it asks again
 """
 import ctypes
 import fcntl
@@ -15,11 +18,13 @@ import signal
 import subprocess
 import sys
 import threading
+from dataclasses import replace
 from pathlib import Path
 
 sys.path[:0] = [str(Path(__file__).resolve().parents[2] / "deploy" / "test")]
 sys.dont_write_bytecode = True
 
+import messages  # noqa: E402
 from frames import Frames, encode, frame_at  # noqa: E402
 from log_form import HEAD, log_of  # noqa: E402
 
@@ -47,6 +52,7 @@ class Between:
     def __init__(self, kind, child):
         self.kind, self.child = kind, child
         self.values, self.asked, self.answered, self.writes = {}, {}, set(), 0
+        self.fetched, self.greatest = 0, {}
         self.lock = threading.Lock()
 
     def write(self, data):
@@ -78,14 +84,29 @@ class Between:
         return True
 
     def leave(self, frame):
-        """A frame from the node. Returns whether it goes on."""
+        """A frame from the node. Returns whether it goes on; a reply to another node may be changed."""
         client = frame[0]
+        if client.startswith(b"node "):
+            if self.kind in ("none", "old"):
+                frame[1:] = self.changed(messages.read(frame[1:])).strings()
+            return True
         if len(frame) == 4 and client in self.asked:
             self.values[self.asked[client]] = frame[2]
         if client in self.answered and len(frame) > 1:
             self.answered.remove(client)
             return False
         return True
+
+    def changed(self, made):
+        """A reply to a fetch without its piece, or one that tells the greatest tag of before."""
+        if self.kind == "none" and made.is_reply and made.kind == b"fetch" and made.piece:
+            self.fetched += 1
+            return replace(made, piece=None) if self.fetched % 3 == 0 else made
+        if self.kind == "old" and made.is_reply and made.kind == b"query":
+            told = self.greatest.get((made.name, made.position), made.tag)
+            self.greatest[made.name, made.position] = made.tag
+            return replace(made, tag=told)
+        return made
 
     def pass_output(self):
         frames = Frames()

@@ -1,118 +1,37 @@
 """A cluster of node programs on pipes. Nothing moves by itself: a frame is given to a node, which then handles it."""
-import os
-import select
 import subprocess
 from collections import namedtuple
 from pathlib import Path
 
-from frames import Frames, encode
+from frames import encode
+from node_pipes import Node, NodeEnded
 
 CLUSTER_FILE = Path(__file__).resolve().parent.parent.parent / "deploy" / "cluster-file"
-PATIENCE = 30
-BARRIER = b"client 0"
 
-# A frame on its way: the step from which on it may arrive, and where it goes to and comes from.
-Flying = namedtuple("Flying", "due to sender strings")
-
-
-class NodeEnded(Exception):
-    """A node program ended by itself, wrote what is no frame, or did not answer in time."""
-
-
-def library_in(folder):
-    """The library that is loaded into node programs whose computers stop at a sync, built in this folder."""
-    library, source = Path(folder) / "lost_sync.so", Path(__file__).resolve().parent / "lost_sync.c"
-    subprocess.run(["cc", "-O1", "-shared", "-fPIC", "-o", library, source, "-ldl"], check=True)
-    return library
-
-
-class Node:
-    """One node program. After each frame it is sent a PING, whose answer says that it has handled the frame."""
-
-    def __init__(self, words, number, folder, file, library=None):
-        self.words, self.number, self.folder, self.file = words, number, folder, file
-        self.mark, self.library = Path(folder) / "lost-sync", library
-        self.process = None
-
-    def start(self):
-        arguments = [*self.words, str(self.file), str(self.number), str(self.folder)]
-        around = dict(os.environ)
-        if self.library is not None:
-            around.update(LD_PRELOAD=str(self.library), LOST_SYNC=str(self.mark))
-        try:
-            self.process = subprocess.Popen(arguments, stdin=subprocess.PIPE, stdout=subprocess.PIPE, bufsize=0,
-                                            env=around)
-        except OSError as fault:
-            raise NodeEnded(f"node {self.number} does not start: {fault}") from None
-        self.frames = Frames()
-        return self.give(None)
-
-    def kill(self):
-        self.process.kill()
-        self.process.wait()
-        self.process.stdin.close()
-        self.process.stdout.close()
-        self.process = None
-
-    def give(self, frame):
-        """Gives the node a frame, and returns all frames that it wrote until it had handled it."""
-        given = b"" if frame is None else encode(frame)
-        self.write(given + encode([BARRIER, b"PING"]))
-        written = []
-        while not any(frame[0] == BARRIER for frame in written):
-            written += self.frames.take(self.read())
-        return [frame for frame in written if frame[0] != BARRIER]
-
-    def stop_at_sync(self, frame):
-        """Gives the node a frame; when it is to sync its log, its computer stops, and what was not synced is lost.
-        Returns whether it stopped so, and the frames that it wrote. A frame may need no sync."""
-        self.mark.touch()
-        self.write(encode(frame) + encode([BARRIER, b"PING"]))
-        written, ended = [], False
-        while not ended and not any(frame[0] == BARRIER for frame in written):
-            try:
-                written += self.frames.take(self.read())
-            except NodeEnded as fault:
-                try:
-                    ended = self.process.wait(PATIENCE) == 0
-                except subprocess.TimeoutExpired:
-                    raise fault from None
-                if not ended:
-                    raise
-        self.mark.unlink()
-        return ended, [frame for frame in written if frame[0] != BARRIER]
-
-    def write(self, data):
-        """Writes while the node reads: a frame can be longer than the pipe, but the node reads it whole."""
-        view = memoryview(data)
-        try:
-            while view:
-                view = view[os.write(self.process.stdin.fileno(), view):]
-        except BrokenPipeError:
-            raise NodeEnded(f"node {self.number} ended") from None
-
-    def read(self):
-        output = self.process.stdout.fileno()
-        ready, _, _ = select.select([output], [], [], PATIENCE)
-        data = os.read(output, 1 << 20) if ready else b""
-        if not data:
-            raise NodeEnded(f"node {self.number} ended, or was silent for {PATIENCE} s")
-        return data
+# A frame on its way: the step from which on it may arrive, where it goes to and comes from, and how often the node to
+# which it goes had been started, with how many calls since, when the frame was sent.
+Flying = namedtuple("Flying", "due to sender strings starts begun")
 
 
 class Cluster:
-    """`due` gives the step from which on a frame that is sent may arrive; calls are given up after some ticks."""
+    """`due` gives the step from which on a frame that is sent may arrive; calls are given up after some ticks. With
+    `own_mover`, a node more moves objects and keeps none; else node 1 moves them."""
 
-    def __init__(self, words, count, ticks, folder, history, due, library=None):
+    def __init__(self, words, count, ticks, folder, history, due, library=None, own_mover=False):
         self.file = file = Path(folder) / "cluster"
+        self.members, self.mover = list(range(1, count + 1)), count + 1 if own_mover else 1
         with open(file, "wb") as output:
-            subprocess.run([CLUSTER_FILE, str(count), str(ticks)], check=True, stdout=output)
+            option = ["--own-mover"] if own_mover else []
+            subprocess.run([CLUSTER_FILE, *option, str(count), str(ticks)], check=True, stdout=output)
         self.nodes, self.history, self.due = {}, history, due
         self.flying = []   # frames between nodes, in the order in which they were sent
         self.open = {}     # the calls that are open: of a connection, its client, node and key in the history
         self.ended = []    # the clients whose calls have ended
+        self.whole, self.held = None, None  # whole banks to compare with, and frames that are held back, if any are
         self.connections = 0
-        for number in range(1, count + 1):
+        self.starts = dict.fromkeys(range(1, count + 1 + own_mover), 0)  # how often a node was started
+        self.begun = dict(self.starts)                       # how many calls a node was given since its last start
+        for number in range(1, count + 1 + own_mover):
             (Path(folder) / str(number)).mkdir()
             self.nodes[number] = Node(words, number, Path(folder) / str(number), file, library)
 
@@ -122,6 +41,15 @@ class Cluster:
         written = (f"{setting} {value}" if line.startswith(f"{setting} ") else line for line in lines)
         self.file.write_text("\n".join(written))
 
+    def unlike(self):
+        """The replies that differed from those of whole banks, if these were compared."""
+        return [] if self.whole is None else self.whole.faults
+
+    def comparisons(self):
+        """What was compared, and what was held back."""
+        held = {} if self.held is None else {"held back": self.held.count}
+        return held if self.whole is None else {**held, **self.whole.counts}
+
     def up(self):
         return [number for number, node in self.nodes.items() if node.process is not None]
 
@@ -129,7 +57,9 @@ class Cluster:
         return [number for number, node in self.nodes.items() if node.process is None]
 
     def start(self, number):
-        self.route(number, self.nodes[number].start())
+        self.starts[number], self.begun[number] = self.starts[number] + 1, 0
+        self.read_log(number)
+        self.take_written(number, [b"start"], self.nodes[number].start())
 
     def start_all(self):
         for number in self.down():
@@ -158,8 +88,9 @@ class Cluster:
         ended = False
         while waiting and not ended:
             self.flying.remove(flying := waiting.pop())
-            ended, written = self.nodes[number].stop_at_sync([b"node %d" % flying.sender, *flying.strings])
-            self.route(number, written)
+            came = [b"node %d" % flying.sender, *flying.strings]
+            ended, written = self.nodes[number].stop_at_sync(came)
+            self.take_written(number, came, written, is_whole=not ended)
         self.kill(number)
         return ended
 
@@ -171,13 +102,31 @@ class Cluster:
         self.give(number, [b"tick"])
 
     def give(self, number, frame):
-        self.route(number, self.nodes[number].give(frame))
+        self.take_written(number, frame, self.nodes[number].give(frame))
+
+    def take_written(self, number, came, written, is_whole=True):
+        """The node handled a frame, and wrote these. What belongs to the frame is in its log, unless its computer stopped
+        meanwhile."""
+        if self.whole is not None:
+            if is_whole:
+                self.read_log(number)
+            self.whole.compare(number, came, written, is_whole)
+        self.route(number, written)
+
+    def read_log(self, number):
+        """The whole banks of the node serve what has come to its log."""
+        log = self.nodes[number].folder / "log"
+        if self.whole is not None and log.exists():
+            self.whole.read_log(number, log)
 
     def route(self, sender, frames):
         for address, *strings in frames:
             kind, number = address.split()
             if kind == b"node":
-                self.flying.append(Flying(self.due(), int(number), sender, strings))
+                to = int(number)
+                flying = Flying(self.due(), to, sender, strings, self.starts[to], self.begun[to])
+                if self.held is None or not self.held.takes(flying):
+                    self.flying.append(flying)
             elif kind == b"client":
                 self.take_answer(int(number), b"".join(strings))
             else:
@@ -188,6 +137,7 @@ class Cluster:
     def call(self, number, client, name, value):
         """A client reads a name, or writes it where a value is given."""
         self.connections += 1
+        self.begun[number] += 1
         connection, key = self.connections, self.history.begin(name, value)
         self.open[connection] = client, number, key
         words = [b"GET", name.encode()] if value is None else [b"SET", name.encode(), value.encode()]
@@ -222,15 +172,15 @@ class Cluster:
         self.give(number, [b"client %d" % connection])
 
     def move(self, source, name):
-        """Asks the administrator's node, which is node 1, to move an object to some of the nodes."""
-        if 1 not in self.up():
+        """Asks the mover to move an object to some of the nodes that may keep objects."""
+        if self.mover not in self.up():
             return
-        members = sorted(source.sample(sorted(self.nodes), source.randint(1, len(self.nodes))))
+        members = sorted(source.sample(self.members, source.randint(1, len(self.members))))
         k = source.randint(1, len(members))
         self.connections += 1
-        self.open[self.connections] = "administrator", 1, None
+        self.open[self.connections] = "administrator", self.mover, None
         words = [b"MOVE", name.encode(), b"%d" % k, *(b"%d" % member for member in members)]
-        self.give(1, [b"client %d" % self.connections, *words])
+        self.give(self.mover, [b"client %d" % self.connections, *words])
 
     def take_ended(self):
         """The clients that may call again."""

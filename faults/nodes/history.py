@@ -10,6 +10,7 @@ class History:
         self.answered_writes = 0
         self.given_up = 0
         self.moves = 0
+        self.answered_of = {}
 
     def begin(self, name, value):
         """Begins a read, where the value is None, or a write. Returns a key of the call."""
@@ -28,7 +29,12 @@ class History:
             call = call._replace(value=value or INITIAL)
         else:
             self.answered_writes += 1
+            self.answered_of[name] = self.writes_of(name) + 1
         self.objects[name][place] = call._replace(ended=self.moment)
+
+    def writes_of(self, name):
+        """How many writes of an object have been answered."""
+        return self.answered_of.get(name, 0)
 
     def give_up(self, key):
         """A call was answered that it has no result: a write may still take effect, and a read says nothing."""

@@ -68,17 +68,20 @@ class Process:
 
 class LiveCluster:
     """Nodes 1 to `count`, all on loopback addresses with one NATS server between them; the last ones, `later` of them,
-    keep no names at first. Another network may give each node a machine of its own: `address_of` and `words_on` say
-    where it is and how a command runs there."""
+    keep no names at first. With `own_mover` the first of these moves objects, and else node 1. Another network may give
+    each node a machine of its own: `address_of` and `words_on` say where it is and how a command runs there."""
 
-    def __init__(self, options, folder, network=None, ticks=50, later=0):
+    def __init__(self, options, folder, network=None, ticks=50, later=0, own_mover=False):
         self.count, self.folder, self.network = options.nodes + later, Path(folder), network
-        self.program, self.host = options.program, options.host
+        self.program, self.host = options.program, options.host  # what nodes start with
         self.numbers = range(1, self.count + 1)
         self.file = self.folder / "cluster"
-        said = subprocess.run([TOP / "deploy" / "cluster-file", str(options.nodes), str(ticks)], check=True,
+        self.members = list(self.numbers[:options.nodes])
+        self.mover = options.nodes + 1 if own_mover else 1
+        option = ["--own-mover"] if own_mover else []
+        said = subprocess.run([TOP / "deploy" / "cluster-file", *option, str(options.nodes), str(ticks)], check=True,
                               stdout=subprocess.PIPE, text=True).stdout
-        joined = " ".join(str(number) for number in self.numbers[options.nodes:])
+        joined = " ".join(str(number) for number in self.numbers[options.nodes + own_mover:])
         self.file.write_text(said.replace("\nlater ", f"\nlater {joined} "))
         if network is None:
             *ports, nats_port = free_ports(self.count + 1)
@@ -106,12 +109,12 @@ class LiveCluster:
         path.write_text(text)
         return Process([*self.words_on(number), "nats-server", "-c", path], self.folder / f"nats-{number}.log")
 
-    def make_node(self, number, program=None):
+    def make_node(self, number):
         (self.folder / f"node-{number}").mkdir(exist_ok=True)
         index = 0 if self.network is None else number - 1
         port = self.relays.get(number, self.nats_ports[index])
         return Process([*self.words_on(number), self.host, "--node", number, "--cluster", self.file,
-                        "--folder", self.folder / f"node-{number}", "--program", program or self.program,
+                        "--folder", self.folder / f"node-{number}", "--program", self.program,
                         "--listen", self.address_of(number), "--port", self.ports[number],
                         "--nats", f"nats://{self.address_of(number)}:{port}"], self.folder / f"node-{number}.log")
 

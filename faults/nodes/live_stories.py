@@ -4,10 +4,10 @@ A story leaves everything whole: all nodes run, no link is cut, and nothing is h
 """
 import subprocess
 import sys
-import threading
 from pathlib import Path
 
 from live_cluster import Broken
+from live_moves import mover, moves
 from live_replacement import replacement
 from live_upgrade import upgrade
 
@@ -166,49 +166,6 @@ def mount(test, node, options):
     return mounted.returncode == 0
 
 
-def moves(test):
-    """Objects move under load, while nodes other than the mover are down one after another."""
-    cluster, source = test.cluster, test.source
-    moving = threading.Thread(target=move_objects, args=[test])
-    moving.start()
-    while test.goes_on("moves"):
-        node, began = source.choice(list(cluster.numbers)[1:]), test.history.now()
-        cluster.kill(node)
-        test.count("kills")
-        test.sleep(1, 3)
-        restart(test, node)
-        test.history.note("down", node, began)
-        test.sleep(0.5, 1.5)
-    moving.join()
-    test.needs("kills")
-    test.needs("moves")
-
-
-# What a client may get for a move while nodes fail.
-MOVED_OR_NOT = (b"+OK", b"-ERR another move of this name is under way", b"-ERR no quorum",
-                b"-ERR fewer than a quorum of the new nodes answer")
-
-
-def move_objects(test):
-    """Node 1 moves objects to some of the nodes, with some number of fragments that suffice."""
-    source, numbers = test.choices_of("moves"), list(test.cluster.numbers)
-    while test.goes_on("moves"):
-        members = sorted(source.sample(numbers, source.randint(1, len(numbers))))
-        words = [b"MOVE", source.choice(test.names.all()).encode(), b"%d" % source.randint(1, len(members)),
-                 *(b"%d" % member for member in members)]
-        try:
-            with test.cluster.connect(1) as client:
-                answer = client.ask(*words)
-        except OSError as fault:
-            test.history.fault(f"a move was not answered: {fault}")
-            return
-        test.count("moves", answer == b"+OK")
-        if answer is None or not answer.startswith(MOVED_OR_NOT):
-            test.history.fault(f"unexpected answer to a move: {answer}")
-            return
-        test.sleep(0, 0.2)
-
-
 def noise(test):
     """Some clients send random bytes, cut frames and endless numbers; the others notice nothing."""
     source = test.source
@@ -234,6 +191,6 @@ def noise(test):
 
 # The stories in which each node has a machine of its own, and those in which all nodes have loopback addresses.
 ON_MACHINES = {"cuts": cuts, "delays": delays}
-ON_LOOPBACK = {"kills": kills, "nats": nats, "relays": relays, "disk": disk, "moves": moves, "noise": noise,
-               "replacement": replacement, "upgrade": upgrade}
+ON_LOOPBACK = {"kills": kills, "nats": nats, "relays": relays, "disk": disk, "moves": moves, "mover": mover,
+               "noise": noise, "replacement": replacement, "upgrade": upgrade}
 NEED_NAMESPACES = {"cuts", "delays", "disk"}

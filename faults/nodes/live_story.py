@@ -20,7 +20,8 @@ from relay import Relays
 
 PASSED, FAILED, SKIPPED, NOT_SET_UP = 0, 1, 3, 4
 GIVE_UP_SOON = {"nats", "cuts", "delays"}
-LATER = {"replacement": 2}    # how many nodes join later, where some do
+LATER = {"replacement": 2, "mover": 1}  # how many nodes are in no first layout, where there are some
+OWN_MOVER = {"mover"}  # where the first of these moves objects
 ACTIVE = {"replacement": 120}  # how many names are in use at a time, where they are not four
 MOST_READ_AGAIN = 60
 
@@ -36,7 +37,9 @@ class Test:
         network = live_network.Network(options.nodes) if name in ON_MACHINES else None
         # Where nodes are often apart, calls are given up soon, so that histories have such calls too.
         self.cluster = LiveCluster(options, folder, network, ticks=15 if name in GIVE_UP_SOON else 50,
-                                   later=LATER.get(name, 0))
+                                   later=LATER.get(name, 0), own_mover=name in OWN_MOVER)
+        if name == "upgrade":
+            self.cluster.program, self.cluster.host = options.before, options.host_before
         if name == "relays":
             self.wires = Relays(self.cluster.numbers, self.cluster.nats_ports[0])
             self.cluster.relays = self.wires.ports()

@@ -1,5 +1,6 @@
-"""The story in which a new program is rolled through a cluster, one node after another, while clients read and write.
-The new program is a copy of the one before, under another path. Some nodes also go on from a copy of their folder."""
+"""The story in which new programs are rolled through a cluster, one node after another, while clients read and write. The
+nodes begin with the programs of --before and --host-before. Without these options, each new program is a copy of the
+one before, under another path. Some nodes also go on from a copy of their folder, and names are moved in between."""
 import shutil
 import signal
 from pathlib import Path
@@ -7,21 +8,28 @@ from pathlib import Path
 from live_cluster import Broken
 
 ENOUGH = 20  # calls that the other nodes answer while one is down; more than there are clients
+FORTH, BACK = "new programs in all nodes", "programs of before in all nodes"
 
 
 def upgrade(test):
-    """All nodes get a new program, and then one more as long as the story goes on."""
-    while test.goes_on("new programs in all nodes"):
-        program = test.folder / f"program-{test.counts.get('new programs in all nodes', 0) + 1}"
-        shutil.copy(test.options.program, program)
+    """All nodes get the new programs, and then one more copy of them as long as the story goes on. With --back they get
+    the programs of before and the new ones in turn."""
+    options, rounds, wanted = test.options, 0, BACK if test.options.back else FORTH
+    while test.goes_on(wanted):
+        is_back = options.back and rounds % 2 == 1
+        rounds += 1
+        program = options.before if is_back else options.program
+        test.cluster.program = shutil.copy(program, test.folder / f"program-{rounds}")
+        test.cluster.host = options.host_before if is_back else options.host
         for node in test.cluster.numbers:
-            exchange(test, node, program)
-        test.count("new programs in all nodes")
-    test.needs("new programs in all nodes")
+            exchange(test, node)
+            move_one(test)
+        test.count(BACK if is_back else FORTH)
+    test.needs(wanted)
 
 
-def exchange(test, node, program):
-    """Stops a node, waits while the others answer calls, and starts it with the new program. Once it answers a write, a
+def exchange(test, node):
+    """Stops a node, waits while the others answer calls, and starts it with the new programs. Once it answers a write, a
     quorum hears it, and the next node may stop."""
     cluster, began = test.cluster, test.history.now()
     cluster.kill(node, signal.SIGTERM)
@@ -31,14 +39,23 @@ def exchange(test, node, program):
     if test.source.random() < 0.5:
         go_on_from_copy(cluster.folder / f"node-{node}")
         test.count("copied folders")
-    cluster.nodes[node] = cluster.make_node(node, program)
+    cluster.nodes[node] = cluster.make_node(node)
     cluster.start_node(node)
-    cluster.wait_for_answer(node, (b"SET", b"exchanged", program.name.encode()), b"+OK")
+    cluster.wait_for_answer(node, (b"SET", b"exchanged", cluster.program.name.encode()), b"+OK")
     test.history.note("down", node, began)
     words = [Path(f"/proc/{process}/cmdline").read_text().split("\0") for process in cluster.programs_of(node)]
-    if len(words) != 1 or str(program) not in words[0]:
+    if len(words) != 1 or str(cluster.program) not in words[0]:
         raise Broken(f"node {node} does not run its new program, but {words}")
     test.count("exchanged programs")
+
+
+def move_one(test):
+    """The mover, with the new program or that of before, moves a name to some four of the nodes, which may have either."""
+    cluster, source = test.cluster, test.source
+    members = sorted(source.sample(list(cluster.numbers), min(4, cluster.count)))
+    name = source.choice(test.names.all())
+    cluster.wait_for_answer(1, (b"MOVE", name.encode(), b"2", *(b"%d" % member for member in members)), b"+OK")
+    test.count("moves")
 
 
 def go_on_from_copy(folder):

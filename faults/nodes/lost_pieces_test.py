@@ -13,8 +13,8 @@ from pathlib import Path
 sys.path[:0] = [str(Path(__file__).resolve().parent), str(Path(__file__).resolve().parents[2] / "deploy" / "test")]
 sys.dont_write_bytecode = True
 
-from cluster import Node  # noqa: E402
 from messages import Message, read  # noqa: E402
+from node_pipes import Node  # noqa: E402
 
 # One of the two nodes keeps each object, and one piece gives its value back.
 CLUSTER = "nodes 1 2\nn 1\nk 1\ndelta 8\nmover 1\nlater\nticks %d\n"

@@ -1,5 +1,5 @@
 #!/usr/bin/env python3
-"""Tests that names which are read and were never written cost a node nothing that stays: names_test.py PROGRAM.
+"""Tests what names cost a node that are read and were never written, or that are deleted: names_test.py PROGRAM.
 
 The nodes are on pipes, and each frame arrives at once. INFO says how many objects a node keeps in memory."""
 import sys
@@ -31,10 +31,14 @@ class Six(Cluster):
         self.file.write_text(FILE)
         self.start(*NUMBERS)
 
+    def told(self, key):
+        """What each node that runs tells behind a key of INFO."""
+        lines = [self.ask(number, b"INFO").split(b"\r\n") for number in self.nodes]
+        return [int(line.split(b":")[1]) for node in lines for line in node if line.startswith(key + b":")]
+
     def objects(self):
         """How many objects each node that runs keeps in memory."""
-        lines = [self.ask(number, b"INFO").split(b"\r\n") for number in self.nodes]
-        return [int(line.split(b":")[1]) for node in lines for line in node if line.startswith(b"objects:")]
+        return self.told(b"objects")
 
 
 class Names(unittest.TestCase):
@@ -76,6 +80,33 @@ class Names(unittest.TestCase):
         for number in self.cluster.nodes:
             self.assertEqual(self.cluster.ask(number, b"GET", b"name"), NO_QUORUM)
         self.assertEqual(self.cluster.objects(), [0, 0, 0])
+
+    def test_deleted_names(self):
+        """Names that were written and then deleted read as nil, and no node keeps a byte of their values, also after
+        a start. They are objects and count as names still."""
+        for name in (b"first", b"second", b"third"):
+            self.assertEqual(self.cluster.ask(1, b"SET", name, b"x" * 3000), OK)
+            self.assertEqual(self.cluster.ask(2, b"SET", name, b"y" * 3000), OK)
+        kept = self.cluster.objects()
+        # Two versions of three names, at five members each, with a third of 3,000 bytes in a fragment.
+        self.assertGreaterEqual(sum(self.cluster.told(b"bytes_stored")), 2 * 3 * 5 * 1000)
+        self.assertEqual(self.cluster.ask(3, b"DEL", b"first", b"second", b"third"), b":3\r\n")
+        for _ in range(2):
+            self.assertEqual(self.cluster.told(b"bytes_stored"), [0] * len(NUMBERS))
+            self.assertEqual(self.cluster.objects(), kept)
+            for number in NUMBERS:
+                self.assertEqual(self.cluster.ask(number, b"GET", b"second"), NIL)
+            self.cluster.stop(*NUMBERS)
+            self.cluster.start(*NUMBERS)
+
+    def test_deletion_without_a_quorum(self):
+        """A DEL that no quorum answers is given up, with one error, and the next name keeps its value."""
+        for name in (b"first", b"second"):
+            self.assertEqual(self.cluster.ask(1, b"SET", name, b"value"), OK)
+        self.cluster.stop(4, 5, 6)
+        self.assertEqual(self.cluster.ask(1, b"DEL", b"first", b"second"), NO_QUORUM)
+        self.cluster.start(4, 5, 6)
+        self.assertEqual(self.cluster.ask(2, b"GET", b"second"), VALUE)
 
 
 if __name__ == "__main__":

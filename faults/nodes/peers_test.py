@@ -11,9 +11,9 @@ from pathlib import Path
 sys.path[:0] = [str(Path(__file__).resolve().parent), str(Path(__file__).resolve().parents[2] / "deploy" / "test")]
 sys.dont_write_bytecode = True
 
-from cluster import Node  # noqa: E402
 from frames import Frames, encode  # noqa: E402
 from messages import Message, old_strings  # noqa: E402
+from node_pipes import Node  # noqa: E402
 from one_node import CLUSTER, OneNode, command  # noqa: E402
 
 # Node 1 moves objects and keeps all of them at first. The other nodes joined later.
@@ -129,6 +129,38 @@ class Readiness(unittest.TestCase):
         lines = b"".join(frame[1:]).decode().split("\r\n")
         return dict(line.split(":", 1) for line in lines if ":" in line)
 
+    def silences(self, lines):
+        """The ticks since each node was heard."""
+        return {int(key.split("_")[2]): value for key, value in lines.items() if key.endswith("_ticks_since_heard")}
+
+    def test_ticks_since_a_node_was_heard(self):
+        """A tick that names a node counts as 0 ticks, and the node itself has no line."""
+        node = self.start("1 2 3 4 5")
+        self.assertEqual(self.silences(self.info(node)), dict.fromkeys((2, 3, 4, 5, 7, 8), "never"))
+        self.info(node, 1, 2, 3, 9)
+        self.info(node, 3, 7)
+        found = self.silences(self.info(node, 1, 3))
+        self.assertEqual(found, {2: "2", 3: "0", 4: "never", 5: "never", 7: "1", 8: "never"})
+        for _ in range(300):
+            node.give(tick())
+        found = self.silences(self.info(node, 4))
+        self.assertEqual(found, {2: "303", 3: "301", 4: "0", 5: "never", 7: "302", 8: "never"})
+
+    def test_sections(self):
+        node = self.start("1 2 3 4 5")
+
+        def heads(*words):
+            [frame] = [frame for frame in node.give([b"client 9", b"INFO", *words]) if frame[0] == b"client 9"]
+            lines = b"".join(frame[1:]).decode().split("\r\n")
+            return " ".join(line[2:] for line in lines if line.startswith("#"))
+        everything = "Server Clients Memory Persistence Stats Replication Cluster Keyspace Node"
+        for words in ([], [b"all"], [b"x", b"Everything"], [b"DEFAULT", b"node"], everything.encode().split()[::-1]):
+            self.assertEqual(heads(*words), everything)
+        for section in everything.split():
+            self.assertEqual(heads(section.upper().encode()), section)
+        self.assertEqual(heads(b"node", b"SERVER", b"stats", b"node", b"nodes"), "Server Stats Node")
+        self.assertEqual(heads(b""), "")
+
     def start(self, nodes):
         home = Path(self.enterContext(tempfile.TemporaryDirectory()))
         (home / "cluster").write_text(f"nodes {nodes}\nn 5\nk 3\ndelta 2\nmover 1\nlater 7 8\nticks 50\n")
@@ -147,7 +179,8 @@ class Readiness(unittest.TestCase):
             self.assertEqual((info["cluster_state"], info["cluster_nodes_heard"]), (state, str(count)), heard)
         self.assertEqual((info["cluster_known_nodes"], info["nodes"].split(), info["later"].split()),
                          ("7", ["1", "2", "3", "4", "5"], ["7", "8"]))
-        self.assertEqual({key: value for key, value in info.items() if key.endswith("_heard")},
+        self.assertEqual({key: value for key, value in info.items()
+                          if key.endswith("_heard") and not key.endswith("_since_heard")},
                          {"cluster_nodes_heard": "5", **{f"cluster_node_{node}_heard": "1" for node in range(1, 6)},
                           "cluster_node_7_heard": "0", "cluster_node_8_heard": "0"})
 

@@ -12,7 +12,8 @@ from pathlib import Path
 sys.path[:0] = [str(Path(__file__).resolve().parent), str(Path(__file__).resolve().parents[2] / "deploy" / "test")]
 sys.dont_write_bytecode = True
 
-from cluster import CLUSTER_FILE, Node, library_in  # noqa: E402
+from cluster import CLUSTER_FILE  # noqa: E402
+from node_pipes import Node, library_in  # noqa: E402
 
 WRITTEN = [b"client 1", b"+OK\r\n"]
 

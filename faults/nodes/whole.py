@@ -1,0 +1,151 @@
+"""Whole banks, which forget nothing, beside the nodes of a test cluster: each reply of a node has to be that of its
+whole bank.
+
+A node has a whole bank for each position of each name. The bank serves what the node serves: the requests in frames that
+the node replies to, and those in the node's log, where it also writes what it asks of itself. Serving a request twice
+changes nothing more, and the order changes no state, so it does not matter that the log has requests which also came as
+frames. A request of a node to itself that its log does not have names a tag that the node forgets; no answer depends on
+it. A frame that is lost, or that meets a node which is killed before it logs it, reaches neither bank.
+
+What a bank does is in crates/bank/specs: `served_bank` and `answer_to` of Serve.antt, `fetched_piece` of Collect.antt,
+and `is_forgotten` of Floor.antt."""
+import bisect
+import os
+from dataclasses import replace
+
+import messages
+from frames import frame_at
+from log_form import HEAD
+
+OPENING = (0, 0)
+WITH_TAG = (b"pre-write", b"finalize", b"fetch")
+MOST_FAULTS = 3
+
+
+class WholeBank:
+    """The bank of the member with this number, counted from 0 in its layout, for one object at one position. `delta` is a
+    number, or None where all pieces are kept."""
+
+    def __init__(self, member, delta):
+        self.delta, self.status = delta, 0
+        self.finals = [OPENING]                     # the finalized tags, in rising order
+        self.pieces = {OPENING: (member, 0, b"")}   # of each tag the first piece that came
+
+    def is_below(self, tag):
+        """Whether `delta` + 1 greater tags are finalized."""
+        return self.delta is not None and len(self.finals) - bisect.bisect_right(self.finals, tag) > self.delta
+
+    def forgets(self, asked):
+        """Whether a node may have forgotten the tag that this request names."""
+        return asked.kind in WITH_TAG and asked.tag != OPENING and self.is_below(asked.tag)
+
+    def serve(self, asked):
+        if asked.kind == b"spread":
+            self.status = max(self.status, messages.STATUSES.index(asked.status))
+        elif asked.kind == b"pre-write":
+            self.pieces.setdefault(asked.tag, asked.piece)
+        elif asked.kind in (b"finalize", b"fetch"):
+            place = bisect.bisect_left(self.finals, asked.tag)
+            if self.finals[place:place + 1] != [asked.tag]:
+                self.finals.insert(place, asked.tag)
+
+    def reply_to(self, asked, next_layout):
+        """The reply to a request. `next_layout` is that of the next position, if the bank has heard of one."""
+        made = replace(asked, is_reply=True, piece=None, next=b"", step=0)
+        if asked.kind == b"next":
+            return replace(made, status=messages.STATUSES[self.status], next=next_layout if self.status else b"")
+        if asked.kind == b"query":
+            return replace(made, tag=self.finals[-1])
+        if asked.kind == b"fetch" and not self.is_below(asked.tag):
+            return replace(made, piece=self.pieces.get(asked.tag))
+        return made
+
+
+def is_message(strings):
+    return len(strings) > 1 and strings[0][:1] == bytes([messages.FORM])
+
+
+def said(it):
+    """What a reply says, in words."""
+    piece = "none" if it.piece is None else f"the piece of point {it.piece[0]} and {len(it.piece[2])} bytes"
+    return {b"next": f"{it.status.decode()} {list(it.next)}", b"query": f"the greatest tag is {it.tag}",
+            b"fetch": piece}.get(it.kind, f"done, for the tag {it.tag}")
+
+
+class WholeBanks:
+    """The whole banks of all nodes, what they found, and how many replies were compared."""
+
+    def __init__(self, delta):
+        self.delta = delta
+        self.banks, self.layouts, self.read = {}, {}, {}
+        self.faults = []
+        self.counts = {"replies compared": 0, "requests without a reply": 0, "late pre-writes": 0, "late finalizes": 0,
+                       "late fetches": 0}
+
+    def fault(self, text):
+        if len(self.faults) < MOST_FAULTS:
+            self.faults.append(text)
+
+    def bank(self, node, it):
+        key = node, it.name, it.position
+        if key not in self.banks:
+            self.banks[key] = WholeBank(it.member, self.delta)
+        return self.banks[key]
+
+    def hear(self, it):
+        """All nodes have one layout for each position of a name."""
+        for position, layout in ((it.position, it.layout), (it.position + 1, it.next)):
+            if layout and self.layouts.setdefault((it.name, position), layout) != layout:
+                self.fault(f"{it.name.decode()} has two layouts at position {position}")
+
+    def serve(self, node, asked):
+        self.hear(asked)
+        self.bank(node, asked).serve(asked)
+
+    def read_log(self, node, log):
+        """Serves the requests of the entries that have come to the log since it was last read."""
+        place = self.read.get(node, 0)
+        with open(log, "rb") as file:
+            length = file.seek(0, os.SEEK_END)
+            if length < place:
+                self.fault(f"the log of node {node} lacks entries: it had {place} bytes, and has {length}")
+            file.seek(place)
+            data = file.read()
+        at = 0
+        while at + HEAD <= len(data) and (found := frame_at(data, at + HEAD)) is not None:
+            strings, at = found
+            if strings[0] == b"serve" and is_message(strings[1:]):
+                self.serve(node, messages.read(strings[1:]))
+        self.read[node] = place + at
+
+    def compare(self, node, came, written, is_whole=True):
+        """The node handled a frame, and wrote these, or its computer stopped meanwhile. Each reply among them has to be that
+        to the request that came."""
+        asked = messages.read(came[1:]) if came[0].startswith(b"node ") and is_message(came[1:]) else None
+        expected = None
+        if asked is not None and not asked.is_reply:
+            bank = self.bank(node, asked)
+            is_late = bank.forgets(asked)
+            expected = bank.reply_to(asked, self.layouts.get((asked.name, asked.position + 1), b""))
+        replies = 0
+        for address, *strings in written:
+            if not address.startswith(b"node ") or not is_message(strings):
+                continue
+            made = messages.read(strings)
+            if not made.is_reply:
+                self.hear(made)
+                continue
+            replies += 1
+            if expected is None or replies > 1 or address != came[0]:
+                self.fault(f"node {node} replies to no request: {said(made)}")
+            elif made != expected:
+                what = f"{asked.kind.decode()}{f' {asked.tag}' if asked.kind in WITH_TAG else ''}"
+                self.fault(f"node {node} replies to {what} of {asked.name.decode()} at position {asked.position}: "
+                           f"{said(made)}; its whole bank replies: {said(expected)}")
+        if expected is not None and replies == 0:
+            self.counts["requests without a reply"] += is_whole
+        elif expected is not None:
+            self.serve(node, asked)
+            self.counts["replies compared"] += 1
+            if is_late:
+                self.counts[f"late {asked.kind.decode()}{'es' if asked.kind == b'fetch' else 's'}"] += 1
