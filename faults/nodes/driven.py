@@ -190,8 +190,11 @@ class Run:
                 self.cluster.tick(node)
 
     def read_all(self):
-        """Has each node read each object, one read at a time, while nothing is lost. Returns the reads that fail."""
+        """Has each node read each object, one read at a time, while nothing is lost or held back. Returns the reads that
+        fail."""
         unread = []
+        if self.cluster.held is not None:
+            self.cluster.held.rests = True
         reads = [(node, name) for node in self.cluster.up() for name in self.plan.objects]
         self.source.shuffle(reads)
         for node, name in reads:
@@ -200,6 +203,8 @@ class Run:
             self.settle()
             if self.history.answered_reads == before:
                 unread.append(f"node {node} does not answer a read of {name}, though all nodes are up")
+        if self.cluster.held is not None:
+            self.cluster.held.rests = False
         return unread
 
     def deliver_held(self):

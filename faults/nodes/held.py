@@ -15,10 +15,11 @@ class HeldBack:
         self.share = self.source.choice([0, 0.02, 0.1])
         self.most = 2 * ((delta or 0) + 1) + 1
         self.frames, self.count, self.seen = [], 0, 0
+        self.rests = False  # whether it holds nothing back for now, as while each node has to answer reads
 
     def takes(self, flying):
         """Whether a frame that is sent now waits here alone."""
-        if self.source.random() >= self.share or not is_message(flying.strings):
+        if self.rests or self.source.random() >= self.share or not is_message(flying.strings):
             return False
         asked = messages.read(flying.strings)
         if asked.is_reply or asked.kind not in WITH_TAG:
