@@ -67,6 +67,15 @@ remain_or_lost (Some most) length = go (ltb most length) refl
     })
     go false e = inl (λ count le. remains most count (let more = ltb-false most length e in omega arith))
 
+-- what follows if all entries remain, or what follows if some are lost
+pub as_remain_or_lost : {A B : Type 0} (fate : Option ℕ) (length : ℕ) → (AllRemain fate length → A) →
+    (SomeAreLost fate length → B) → B ⊎ A
+as_remain_or_lost {A} {B} fate length wholly partly = go (remain_or_lost fate length)
+  where
+    go : AllRemain fate length ⊎ SomeAreLost fate length → B ⊎ A
+    go (inl all) = inr (wholly all)
+    go (inr lost) = inl (partly lost)
+
 pub most_remain : (fate : Option ℕ) (length : ℕ) → remaining fate length ≤ length
 most_remain None length = omega arith
 most_remain (Some most) length = go (ltb most length) refl

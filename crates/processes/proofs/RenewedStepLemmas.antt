@@ -23,7 +23,7 @@ use Rattle.node.proofs.AnewLemmas.{own_distinct}
 use Rattle.processes.specs.Events.{MayStart, started_process}
 use Rattle.processes.specs.Processes.{Process}
 use Rattle.processes.proofs.CopyLemmas.{copy_twice}
-use Rattle.processes.proofs.FateLemmas.{AllRemain, AreSafe, SomeAreLost, all_safe, loses, remain_or_lost, remaining}
+use Rattle.processes.proofs.FateLemmas.{AllRemain, AreSafe, SomeAreLost, all_safe, loses, as_remain_or_lost, remaining}
 use Rattle.processes.proofs.LogLemmas.{all_records, all_records_append, anew_recorded, apart, some_is, start_cut, start_recorded}
 use Rattle.processes.proofs.LogLemmas.{take_beyond}
 use Rattle.processes.proofs.StandingLemmas.{IsOwnNode, Stands, left_in}
@@ -136,10 +136,4 @@ module _ (names : FileOfNames) (number : ℕ) (later : Option ℕ) (process : Pr
 
   pub renewed_stands : Stands names number later then kept letters notices
       ⊎ (IsRestarted kept (kept_of after.keeper) × Stands names number later then (kept_of after.keeper) letters notices)
-  renewed_stands = go (remain_or_lost later (length (entries ++ more)))
-    where
-      go : AllRemain later (length (entries ++ more)) ⊎ SomeAreLost later (length (entries ++ more)) →
-          Stands names number later then kept letters notices
-          ⊎ (IsRestarted kept (kept_of after.keeper) × Stands names number later then (kept_of after.keeper) letters notices)
-      go (inl all) = inr (wholly all)
-      go (inr lost) = inl (partly lost)
+  renewed_stands = as_remain_or_lost later (length (entries ++ more)) wholly partly

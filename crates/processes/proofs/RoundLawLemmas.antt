@@ -28,7 +28,7 @@ use Rattle.processes.proofs.HandledRoundLemmas.{Handled, after_events, handles_a
 use Rattle.processes.proofs.LeadLemmas.{LeadsTo, leads_on, leads_once, own_process}
 use Rattle.processes.proofs.LogLemmas.{take_beyond}
 use Rattle.processes.proofs.WrittenEventLemmas.{writes_all}
-use Rattle.processes.proofs.WrittenRoundLemmas.{HaveAllFrames, all_frames_second, all_own_frames}
+use Rattle.processes.proofs.WrittenRoundLemmas.{HaveAllFrames, all_frames_among, all_own_frames, waits_second}
 
 -- Bytes of logs
 
@@ -87,7 +87,8 @@ module _ (names : FileOfNames) (number : ℕ) where
         log = ap (λ (p : Process). p.log) same;
         synced = ap (λ (p : Process). p.synced) same;
         frames = subst (λ (p : Process). HaveAllFrames p.frames n events) (sym same)
-            (all_frames_second process.frames (waiting_frames n events) n events (all_own_frames n events));
+            (all_frames_among (waiting_frames n events) (process.frames ++ waiting_frames n events)
+            (waits_second process.frames (waiting_frames n events)) n events (all_own_frames n events));
         answers = ap (λ (p : Process). p.answers) same ∙ ap (λ them. them ++ waiting_answers n events) rests.told;
       }
 

@@ -35,16 +35,18 @@ pub record HasWholeLog (process : Process) : Type 0 where
   pub whole : AllByRecursion IsWholeEntry process.log
   pub fits : process.synced ≤ length process.log
 
+-- something waits behind so many entries of the log, and if those remain, this holds of it
+abbrev pub IsBehind : (behind length left : ℕ) → (Holds : Type 0) → Type 0
+IsBehind behind length left Holds = (behind ≤ length) × (behind ≤ left → Holds)
+
 -- a frame waits behind entries of the log, and if those remain, it has one of these letters
 abbrev pub FrameStands : (length left : ℕ) → List Named → WaitingFrame → Type 0
-FrameStands length left letters waiting =
-    (waiting.behind ≤ length) × (waiting.behind ≤ left → IsCarried letters waiting.frame)
+FrameStands length left letters waiting = IsBehind waiting.behind length left (IsCarried letters waiting.frame)
 
 -- answers wait behind entries of the log, and if those remain, clients are told nothing but these notices
 abbrev pub AnswersStand : (length left : ℕ) → List Notice → WaitingAnswers → Type 0
-AnswersStand length left notices waiting =
-    (waiting.behind ≤ length)
-    × (waiting.behind ≤ left → (notice : Notice) → IsAmong waiting.told notice → IsAmong notices notice)
+AnswersStand length left notices waiting = IsBehind waiting.behind length left
+    ((notice : Notice) → IsAmong waiting.told notice → IsAmong notices notice)
 
 -- how many entries of the process's log remain
 abbrev pub left_in : Option ℕ → Process → ℕ
@@ -97,17 +99,21 @@ among_filtered p (x ∷ xs) notice is = go (p x) is (among_filtered p xs notice)
 
 -- What waits
 
--- what stood with fewer letters, a shorter log, and where as much or less remains, stands
+-- what stood with a shorter log, and where as much or less remains, stands; `reach` says that what remains now had remained
+behind_later : (behind length left long now : ℕ) (P Q : Type 0) → length ≤ long →
+    (behind ≤ length → behind ≤ now → behind ≤ left) → (P → Q) → IsBehind behind length left P → IsBehind behind long now Q
+behind_later behind length left long now P Q longer reach wider is =
+    let within = is.0 in (omega arith, λ early. wider (is.1 (reach is.0 early)))
+
+-- so do frames with fewer letters, and answers with fewer notices
 pub frames_stand : (length left long now : ℕ) (letters more : List Named) → length ≤ long →
     ((behind : ℕ) → behind ≤ length → behind ≤ now → behind ≤ left) →
     ((letter : Named) → IsOneOf letters letter → IsOneOf more letter) → (frames : List WaitingFrame) →
     AllByRecursion (FrameStands length left letters) frames → AllByRecursion (FrameStands long now more) frames
 frames_stand length left long now letters more longer reach among frames stand =
     all_weaker (FrameStands length left letters) (FrameStands long now more)
-    (λ waiting is.
-    let within = is.0 in
-    (omega arith, λ early. carried_among letters more among waiting.frame (is.1 (reach waiting.behind is.0 early))))
-    frames stand
+    (λ waiting. behind_later waiting.behind length left long now (IsCarried letters waiting.frame) (IsCarried more waiting.frame)
+    longer (reach waiting.behind) (carried_among letters more among waiting.frame)) frames stand
 
 pub answers_stand : (length left long now : ℕ) (notices more : List Notice) → length ≤ long →
     ((behind : ℕ) → behind ≤ length → behind ≤ now → behind ≤ left) →
@@ -115,10 +121,10 @@ pub answers_stand : (length left long now : ℕ) (notices more : List Notice) �
     AllByRecursion (AnswersStand length left notices) answers → AllByRecursion (AnswersStand long now more) answers
 answers_stand length left long now notices more longer reach among answers stand =
     all_weaker (AnswersStand length left notices) (AnswersStand long now more)
-    (λ waiting is.
-    let within = is.0 in
-    (omega arith, λ early notice told. among notice (is.1 (reach waiting.behind is.0 early) notice told)))
-    answers stand
+    (λ waiting. behind_later waiting.behind length left long now
+    ((notice : Notice) → IsAmong waiting.told notice → IsAmong notices notice)
+    ((notice : Notice) → IsAmong waiting.told notice → IsAmong more notice)
+    longer (reach waiting.behind) (λ all notice told. among notice (all notice told))) answers stand
 
 -- a process stands beside more letters and notices
 pub stands_wider : (names : FileOfNames) (number : ℕ) (fate : Option ℕ) (process : Process) (kept : KeptNode)

@@ -20,7 +20,7 @@ use Rattle.node.specs.Starts.{start_entries}
 use Rattle.node.proofs.AnewLemmas.{own_distinct}
 use Rattle.processes.specs.Events.{MayStart, rewritten_process, started_process}
 use Rattle.processes.specs.Processes.{Process}
-use Rattle.processes.proofs.FateLemmas.{AllRemain, AreSafe, SomeAreLost, all_safe, loses, remain_or_lost, remaining}
+use Rattle.processes.proofs.FateLemmas.{AllRemain, AreSafe, SomeAreLost, all_safe, loses, as_remain_or_lost, remaining}
 use Rattle.processes.proofs.FateLemmas.{most_remain}
 use Rattle.processes.proofs.LogLemmas.{apart, some_is, take_beyond}
 use Rattle.processes.proofs.LogLemmas.{all_records, all_records_append, anew_recorded, start_cut}
@@ -135,13 +135,7 @@ module _ (names : FileOfNames) (number : ℕ) (later : Option ℕ) (process : Pr
 
   pub started_stands : Stands names number later then kept letters notices
       ⊎ (IsRestarted kept (kept_of after.keeper) × Stands names number later then (kept_of after.keeper) letters notices)
-  started_stands = go (remain_or_lost later (length (found ++ more)))
-    where
-      go : AllRemain later (length (found ++ more)) ⊎ SomeAreLost later (length (found ++ more)) →
-          Stands names number later then kept letters notices
-          ⊎ (IsRestarted kept (kept_of after.keeper) × Stands names number later then (kept_of after.keeper) letters notices)
-      go (inl all) = inr (wholly all)
-      go (inr lost) = inl (partly lost)
+  started_stands = as_remain_or_lost later (length (found ++ more)) wholly partly
 
 -- a log that is written anew records the same
 pub rewritten_stands : (names : FileOfNames) (number : ℕ) (later : Option ℕ) (process : Process) (kept : KeptNode)

@@ -49,27 +49,24 @@ waits_second [] ys most frame waits = waits
 waits_second (x ∷ xs) ys most frame waits =
     let rest = waits_second xs ys most frame waits in (suc rest.0, rest.1, rest.2, rest.3, rest.4)
 
-pub frames_first : (xs ys : List WaitingFrame) (entries : ℕ) (outputs : List Output) → HaveFrames xs entries outputs →
-    HaveFrames (xs ++ ys) entries outputs
-frames_first xs ys entries [] have = tt
-frames_first xs ys entries (output.Log entry ∷ outputs) have = frames_first xs ys (suc entries) outputs have
-frames_first xs ys entries (output.Send frame ∷ outputs) have =
-    (waits_first xs ys entries frame have.0, frames_first xs ys entries outputs have.1)
+-- frames that are among more ones
+abbrev pub AreAmong : (xs ys : List WaitingFrame) → Type 0
+AreAmong xs ys = (most : ℕ) (frame : Strings) → Waits xs most frame → Waits ys most frame
 
-pub frames_second : (xs ys : List WaitingFrame) (entries : ℕ) (outputs : List Output) → HaveFrames ys entries outputs →
-    HaveFrames (xs ++ ys) entries outputs
-frames_second xs ys entries [] have = tt
-frames_second xs ys entries (output.Log entry ∷ outputs) have = frames_second xs ys (suc entries) outputs have
-frames_second xs ys entries (output.Send frame ∷ outputs) have =
-    (waits_second xs ys entries frame have.0, frames_second xs ys entries outputs have.1)
+pub frames_among : (xs ys : List WaitingFrame) → AreAmong xs ys → (entries : ℕ) (outputs : List Output) →
+    HaveFrames xs entries outputs → HaveFrames ys entries outputs
+frames_among xs ys among entries [] have = tt
+frames_among xs ys among entries (output.Log entry ∷ outputs) have = frames_among xs ys among (suc entries) outputs have
+frames_among xs ys among entries (output.Send frame ∷ outputs) have =
+    (among entries frame have.0, frames_among xs ys among entries outputs have.1)
 
-pub all_frames_second : (xs ys : List WaitingFrame) (entries : ℕ) (events : List LoopEvent) → HaveAllFrames ys entries events →
-    HaveAllFrames (xs ++ ys) entries events
-all_frames_second xs ys entries [] have = tt
-all_frames_second xs ys entries (Notes bytes ∷ events) have = all_frames_second xs ys entries events have
-all_frames_second xs ys entries (Handles frame effects ∷ events) have = (
-  frames_second xs ys entries effects.outputs.items have.0,
-  all_frames_second xs ys (entries + length (entries_in effects.outputs.items)) events have.1,
+pub all_frames_among : (xs ys : List WaitingFrame) → AreAmong xs ys → (entries : ℕ) (events : List LoopEvent) →
+    HaveAllFrames xs entries events → HaveAllFrames ys entries events
+all_frames_among xs ys among entries [] have = tt
+all_frames_among xs ys among entries (Notes bytes ∷ events) have = all_frames_among xs ys among entries events have
+all_frames_among xs ys among entries (Handles frame effects ∷ events) have = (
+  frames_among xs ys among entries effects.outputs.items have.0,
+  all_frames_among xs ys among (entries + length (entries_in effects.outputs.items)) events have.1,
 )
 
 pub own_frames : (entries : ℕ) (outputs : List Output) → HaveFrames (frames_behind entries outputs) entries outputs
@@ -78,7 +75,8 @@ own_frames entries (output.Log entry ∷ outputs) = own_frames (suc entries) out
 own_frames entries (output.Send frame ∷ outputs) =
     let waiting : WaitingFrame = record { behind = entries; frame = frame } in (
       (0, waiting, refl, refl, omega arith),
-      frames_second (waiting ∷ []) (frames_behind entries outputs) entries outputs (own_frames entries outputs),
+      frames_among (frames_behind entries outputs) (waiting ∷ frames_behind entries outputs)
+          (waits_second (waiting ∷ []) (frames_behind entries outputs)) entries outputs (own_frames entries outputs),
     )
 
 pub all_own_frames : (entries : ℕ) (events : List LoopEvent) → HaveAllFrames (waiting_frames entries events) entries events
@@ -86,9 +84,11 @@ all_own_frames entries [] = tt
 all_own_frames entries (Notes bytes ∷ events) = all_own_frames entries events
 all_own_frames entries (Handles frame effects ∷ events) =
     let behind = frames_behind entries effects.outputs.items in
-    let all = entries + length (entries_in effects.outputs.items) in (
-      frames_first behind (waiting_frames all events) entries effects.outputs.items (own_frames entries effects.outputs.items),
-      all_frames_second behind (waiting_frames all events) all events (all_own_frames all events),
+    let all = entries + length (entries_in effects.outputs.items) in
+    let rest = waiting_frames all events in (
+      frames_among behind (behind ++ rest) (waits_first behind rest) entries effects.outputs.items
+          (own_frames entries effects.outputs.items),
+      all_frames_among rest (behind ++ rest) (waits_second behind rest) all events (all_own_frames all events),
     )
 
 -- Bytes
