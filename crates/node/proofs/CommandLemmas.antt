@@ -18,6 +18,7 @@ use Rattle.node_clients.specs.Served.{HasQuit, IsClientAnswered, IsOpened, IsSer
 use Rattle.node_clients.specs.Services.{Service}
 use Rattle.node_clients.specs.declared.desk.Desk.{Desk}
 use Rattle.node_clients.proofs.ServedLemmas.{busy_is_there}
+use Rattle.node_clients.proofs.WaitLemmas.{IsOfCommand}
 use Rattle.node_keeper.specs.declared.keeper.Keeper.{Keeper}
 use Rattle.indexmap.specs.IndexMap.{index_map_len}
 use Rattle.node_clients.specs.declared.counts.Counts.{Counts}
@@ -70,20 +71,20 @@ command_served ticks delta a b c client next (Service.GivesUp id told) taken don
 command_served ticks delta a b c client next (Service.Releases id told) taken done = absurd done
 command_served ticks delta a b c client next Service.Drops taken done = absurd done
 
--- what is done with a command follows up
-command_follows : (old new : Desk) (client : ℕ) (next : Next) (service : Service) →
-    IsCommandDone old client next service new → FollowsUp service
-command_follows old new client next (Service.Begins other command id) done = tt
-command_follows old new client next (Service.Replies other command answer) done = tt
-command_follows old new client next (Service.Quits other) done = tt
-command_follows old new client next (Service.Arrives other command) done = absurd done
-command_follows old new client next (Service.Leaves other) done = absurd done
-command_follows old new client next (Service.Ends name ended answer told) done = absurd done
-command_follows old new client next (Service.Passes name ended other rest) done = absurd done
-command_follows old new client next (Service.Ages id) done = absurd done
-command_follows old new client next (Service.GivesUp id told) done = absurd done
-command_follows old new client next (Service.Releases id told) done = absurd done
-command_follows old new client next Service.Drops done = absurd done
+-- what is done with a command of a client is of this client, and follows up
+pub command_is : (old new : Desk) (client : ℕ) (next : Next) (service : Service) →
+    IsCommandDone old client next service new → IsOfCommand client service × FollowsUp service
+command_is old new client next (Service.Begins other command id) done = (done.0, tt)
+command_is old new client next (Service.Replies other command answer) done = (done.0, tt)
+command_is old new client next (Service.Quits other) done = (done.0, tt)
+command_is old new client next (Service.Arrives other command) done = absurd done
+command_is old new client next (Service.Leaves other) done = absurd done
+command_is old new client next (Service.Ends name ended answer told) done = absurd done
+command_is old new client next (Service.Passes name ended other rest) done = absurd done
+command_is old new client next (Service.Ages id) done = absurd done
+command_is old new client next (Service.GivesUp id told) done = absurd done
+command_is old new client next (Service.Releases id told) done = absurd done
+command_is old new client next Service.Drops done = absurd done
 
 -- an idle connection on which a command waits gives a next command
 no_first : (connection : Option Connection) (next : Next) (waiting : List Next) → has_next connection ≡ false →
@@ -127,7 +128,7 @@ taken_served a b c u v client next same peers taken s =
             s.told s.due s.notices
             (subst (λ (k : Keeper). IsRight k.ids.node k.file s.service) same s.right)
             (s.file ∙ ap (λ (k : Keeper). k.file) same) (s.number ∙ ap (λ (k : Keeper). k.ids.node) same);
-        follows = (command_follows b.desk c.desk client next s.service s.done, tt);
+        follows = ((command_is b.desk c.desk client next s.service s.done).1, tt);
       };
       first = λ command waiting idle waits.
           let both : command ∷ waiting ≡ next ∷ waiting_on (connection_of b.desk client) = sym waits ∙ taken.taken.1 in

@@ -12,11 +12,11 @@ use Rattle.node_clients.specs.Desk.{IsDue, NoneWaits}
 use Rattle.node_clients.specs.Served.{IsCommandTaken}
 use Rattle.node_clients.specs.Services.{Service}
 use Rattle.node_clients.specs.declared.desk.Desk.{Desk}
-use Rattle.node_clients.proofs.WaitLemmas.{IsNoArrival, IsOfCommand, command_waits, services_wait}
+use Rattle.node_clients.proofs.WaitLemmas.{IsNoArrival, command_waits, services_wait}
 use Rattle.node.specs.Serving.{AreTicksOf, FollowsUp, IsCommandDone, IsTickOf, ServesClients, ServesCommand, ServesMore}
 use Rattle.node.specs.Serving.{ServesTicks}
 use Rattle.node.specs.declared.node.Node.{Node}
-use Rattle.node.proofs.CommandLemmas.{command_served}
+use Rattle.node.proofs.CommandLemmas.{command_is, command_served}
 
 -- a connection that gives no next command need not be due
 pub not_next_waits : (clients : Connections) (client : ℕ) (due : List ℕ) →
@@ -28,20 +28,6 @@ not_next_waits clients client due none waits other next = go (waits other next)
         absurd (false≢true (sym none ∙ subst (λ n. has_next (get nat_eq clients.by_number n) ≡ true) same next))
     go (inr is) = is
 
-command_of : (old new : Desk) (client : ℕ) (next : Next) (service : Service) →
-    IsCommandDone old client next service new → IsOfCommand client service
-command_of old new client next (Service.Begins other command id) done = done.0
-command_of old new client next (Service.Replies other command answer) done = done.0
-command_of old new client next (Service.Quits other) done = done.0
-command_of old new client next (Service.Arrives other command) done = absurd done
-command_of old new client next (Service.Leaves other) done = absurd done
-command_of old new client next (Service.Ends name ended answer told) done = absurd done
-command_of old new client next (Service.Passes name ended other rest) done = absurd done
-command_of old new client next (Service.Ages id) done = absurd done
-command_of old new client next (Service.GivesUp id told) done = absurd done
-command_of old new client next (Service.Releases id told) done = absurd done
-command_of old new client next Service.Drops done = absurd done
-
 -- the next command of a connection was carried out, which need not be due any more
 pub taken_waits : (a b c : Node) (u v : Work) (client : ℕ) (next : Next) → IsCommandTaken a.desk client next b.desk →
     ServesCommand client next b u c v → NoneWaits a.desk.clients (client ∷ u.due.items) →
@@ -51,7 +37,7 @@ taken_waits a b c u v client next taken s waits =
     let delta = a.keeper.file.fixed.delta in
     subst (λ xs. NoneWaits c.desk.clients xs) (sym s.due)
     (command_waits ticks delta a.desk c.desk client s.service u.due.items
-    (command_of b.desk c.desk client next s.service s.done)
+    (command_is b.desk c.desk client next s.service s.done).0
     (command_served ticks delta a.desk b.desk c.desk client next s.service taken s.done)
     (λ other apart next. others other apart (waits other next)))
   where

@@ -1,11 +1,17 @@
-use Rattle.std.proofs.Common.{[], refl, sym, subst, ◌∙◌}
+use Rattle.std.proofs.Common.{[], ◌≡◌, ℕ, List, refl, sym, subst, ◌∙◌}
 use Rattle.std.proofs.lemmas.List.{append-nil}
 use Rattle.std.proofs.lemmas.Result.{on_ok_weaker}
 use Rattle.node_effects.specs.Seen.{named_of}
 use Rattle.node_keeper.specs.Keeping.{if_heeded, kept_of}
 use Rattle.node_keeper.proofs.ActLemmas.{acts_more}
 use Rattle.node.proofs.TellLemmas.{tells_acts}
+use Rattle.letter.specs.declared.letter.NamedLetter.{NamedLetter}
+use Rattle.node_effects.specs.declared.output.Output.{Output}
+use Rattle.node_effects.specs.declared.work.Work.{Work}
 use Rattle.node_keeper.specs.Delivering.{DeliversLetter}
+use Rattle.node_keeper.specs.declared.delivered.Delivered.{Delivered}
+use Rattle.node_keeper.specs.declared.keeper.Keeper.{Keeper}
+use Rattle.node.specs.Hearing.{Hears}
 use Rattle.node.specs.declared.node.Node.{Node}
 use Rattle.node_clients.specs.Calls.{call_under, rest_of, waiting_for}
 use Rattle.node_clients.proofs.EndLemmas.{EndsAs, concluded}
@@ -56,34 +62,32 @@ returns-in-Ended-clause-serves c =
     (record { gone = c.end.ensures.gone; others = c.end.ensures.others; idle = idle; counts = counts }))))
     c.end.ensures.told c.end.ensures.idle c.end.ensures.counts
 
-pub returns-in-Dropped-clause-hears : goal.returns-in-Dropped-clause-hears
-returns-in-Dropped-clause-hears c = record {
-  first = c.args.work.now;
-  then = c.deliver.new.work;
-  result = _;
-  delivers = c.in_ok-deliver.ensures.delivers;
+-- what was delivered was heard
+heard : (sender : ℕ) (it : NamedLetter) (old new : Keeper) (before after : Work) (result : Delivered) (outputs : List Output) →
+    DeliversLetter sender it old before new after result → after.outputs.items ≡ outputs →
+    Hears sender it old before.outputs.items new outputs
+heard sender it old new before after result outputs delivers same = record {
+  first = before;
+  then = after;
+  result = result;
+  delivers = delivers;
   before_are = refl;
-  after_are = refl;
+  after_are = same;
 }
 
+pub returns-in-Dropped-clause-hears : goal.returns-in-Dropped-clause-hears
+returns-in-Dropped-clause-hears c =
+    heard c.args.sender c.args.it c.args.self.now.keeper c.deliver.new.self c.args.work.now c.deliver.new.work _
+    c.deliver.new.work.outputs.items c.in_ok-deliver.ensures.delivers refl
+
 pub returns-in-Handled-clause-hears : goal.returns-in-Handled-clause-hears
-returns-in-Handled-clause-hears c = record {
-  first = c.args.work.now;
-  then = c.deliver.new.work;
-  result = _;
-  delivers = c.in_ok-deliver.ensures.delivers;
-  before_are = refl;
-  after_are = refl;
-}
+returns-in-Handled-clause-hears c =
+    heard c.args.sender c.args.it c.args.self.now.keeper c.deliver.new.self c.args.work.now c.deliver.new.work _
+    c.deliver.new.work.outputs.items c.in_ok-deliver.ensures.delivers refl
 
 pub returns-in-Ended-clause-hears : goal.returns-in-Ended-clause-hears
 returns-in-Ended-clause-hears c =
     on_ok_weaker c.end.result
-    (λ tells. record {
-      first = c.args.work.now;
-      then = c.deliver.new.work;
-      result = _;
-      delivers = c.in_ok-deliver.ensures.delivers;
-      before_are = refl;
-      after_are = sym (tells.grown.outputs ∙ append-nil c.deliver.new.work.outputs.items);
-    }) c.end.ensures.tells
+    (λ tells. heard c.args.sender c.args.it c.args.self.now.keeper c.deliver.new.self c.args.work.now c.deliver.new.work _
+    c.end.new.work.outputs.items c.in_ok-deliver.ensures.delivers
+    (sym (tells.grown.outputs ∙ append-nil c.deliver.new.work.outputs.items))) c.end.ensures.tells

@@ -2,8 +2,7 @@ use Rattle.std.proofs.Common.{[], None, Some, ◌≡◌, ◌∙◌, refl, subst,
 use Rattle.std.proofs.lemmas.Result.{on_ok_weaker}
 use Rattle.indexmap.specs.IndexMap.{index_map_len}
 use Rattle.node.specs.AtOnce.{IsMoveRefusedHere, IsReplyHere}
-use Rattle.node_keeper.proofs.ActLemmas.{acts_more}
-use Rattle.node.proofs.TellLemmas.{tells_acts}
+use Rattle.node.proofs.TellLemmas.{acts_and_tells, tells_acts}
 use Rattle.client_commands.specs.declared.answer.Answer.TheVariants as answers
 use Rattle.client_commands.specs.declared.answer.AnswerError.TheVariants as errors
 use Rattle.client_commands.specs.declared.command.Command.TheVariants as ask
@@ -22,11 +21,8 @@ returns-in-Some-clause-acts c =
 
 pub returns-clause-acts : goal.returns-clause-acts
 returns-clause-acts c =
-    let old = c.args.self.now.keeper in
-    let new = c.begin_move.new.self in
-    on_ok_weaker c.wait.result
-    (λ tells asker. acts_more asker [] old new new c.args.work.now c.begin_move.new.work c.wait.new.work
-    (c.in_ok-begun.ensures.acts asker) (tells_acts asker [] new c.begin_move.new.work c.wait.new.work tells)) c.wait.ensures.tells
+    acts_and_tells c.wait.result c.args.self.now.keeper c.begin_move.new.self c.args.work.now c.begin_move.new.work c.wait.new.work
+    c.in_ok-begun.ensures.acts c.wait.ensures.tells
 
 pub returns-in-Some-clause-serves : goal.returns-in-Some-clause-serves
 returns-in-Some-clause-serves c =

@@ -1,7 +1,6 @@
-use Rattle.std.proofs.Common.{[], refl}
+use Rattle.std.proofs.Common.{refl}
 use Rattle.std.proofs.lemmas.Result.{on_ok_weaker}
-use Rattle.node_keeper.proofs.ActLemmas.{acts_more}
-use Rattle.node.proofs.TellLemmas.{tells_acts}
+use Rattle.node.proofs.TellLemmas.{acts_and_tells}
 use Rattle.client_commands.specs.declared.command.Command.TheVariants as ask
 use Rattle.node_keeper.specs.Beginning.{reading_call}
 use Rattle.node.specs.declared.node.Node.{Node}
@@ -10,11 +9,8 @@ use Rattle.node.proofs.node.Node.read.Goals as goal
 
 pub returns-clause-acts : goal.returns-clause-acts
 returns-clause-acts c =
-    let old = c.args.self.now.keeper in
-    let new = c.begin_read.new.self in
-    on_ok_weaker c.wait.result
-    (λ tells asker. acts_more asker [] old new new c.args.work.now c.begin_read.new.work c.wait.new.work
-    (c.in_ok-begun.ensures.acts asker) (tells_acts asker [] new c.begin_read.new.work c.wait.new.work tells)) c.wait.ensures.tells
+    acts_and_tells c.wait.result c.args.self.now.keeper c.begin_read.new.self c.args.work.now c.begin_read.new.work c.wait.new.work
+    c.in_ok-begun.ensures.acts c.wait.ensures.tells
 
 pub returns-clause-serves : goal.returns-clause-serves
 returns-clause-serves c =
