@@ -74,6 +74,18 @@ class Names(unittest.TestCase):
         for number in NUMBERS:
             self.assertEqual(self.cluster.ask(number, b"GET", b"name"), VALUE)
 
+    def test_tags(self):
+        """A bank knows the tags of the nine newest writes and the one with which each object begins, also after a
+        start; each member of the name has one bank."""
+        for write in range(1, 21):
+            self.assertEqual(self.cluster.ask(write % 6 + 1, b"SET", b"name", b"%d" % write), OK)
+            self.assertEqual(sorted(self.cluster.told(b"cluster_tags")), [0] + [min(write, 9) + 1] * 5)
+        for _ in range(2):
+            self.assertEqual(sorted(self.cluster.told(b"cluster_open_banks")), [0, 1, 1, 1, 1, 1])
+            self.assertEqual(sorted(self.cluster.told(b"cluster_tags")), [0] + [10] * 5)
+            self.cluster.stop(*NUMBERS)
+            self.cluster.start(*NUMBERS)
+
     def test_given_up_read(self):
         """A read that no quorum answers is given up, and leaves nothing at the nodes that run."""
         self.cluster.stop(4, 5, 6)

@@ -10,6 +10,7 @@ use Rattle.cluster_file.specs.Placement.{AreLawfulNodes, placed}
 use Rattle.layout.specs.Layout.{quorum_of}
 use Rattle.node_strings.specs.declared.heard.Heard.{Heard}
 use Rattle.node_keeper.specs.Objects.{bytes_in_banks, heard_names}
+use Rattle.node_keeper.specs.Sizes.{known_tags, open_banks}
 use Rattle.node_keeper.specs.Written.{written_names}
 use Rattle.node_clients.specs.declared.counts.Counts.{Counts}
 use Rattle.node_clients.specs.declared.open_call.OpenCall.{OpenCall}
@@ -65,6 +66,11 @@ cluster_lines ready nodes heard calls moves = concat (
     ∷ codes "\r\ncluster_known_nodes:" ∷ decimal nodes ∷ codes "\r\ncluster_nodes_heard:" ∷ decimal heard
     ∷ codes "\r\ncluster_calls_open:" ∷ decimal calls ∷ codes "\r\ncluster_moves_open:" ∷ decimal moves
     ∷ codes "\r\n" ∷ [])
+
+-- the lines of that section with how many banks of all objects the node keeps, and how many tags these know
+abbrev pub kept_lines : (banks tags : ℕ) → List ℕ
+kept_lines banks tags = concat (
+    codes "cluster_open_banks:" ∷ decimal banks ∷ codes "\r\ncluster_tags:" ∷ decimal tags ∷ codes "\r\n" ∷ [])
 
 -- the lines of that section with what was given up and dropped; `foreign` is the number of messages of nodes with
 -- another cluster file
@@ -171,6 +177,14 @@ keyspace_section names =
 abbrev pub stored_bytes : Keeper → ℕ
 stored_bytes keeper = min (bytes_in_banks keeper.objects) (2 ^ 64 - 1)
 
+-- how many banks a node keeps
+abbrev pub kept_banks : Keeper → ℕ
+kept_banks keeper = min (open_banks keeper.objects) (2 ^ 64 - 1)
+
+-- how many tags these banks know
+abbrev pub kept_tags : Keeper → ℕ
+kept_tags keeper = min (known_tags keeper.objects) (2 ^ 64 - 1)
+
 -- how many of these nodes a node hears
 abbrev pub count_heard : Keeper → Peers → List ℕ → ℕ
 count_heard keeper peers nodes = count_by (hears_now keeper.ids.node peers.heard) nodes
@@ -182,7 +196,9 @@ about_cluster keeper peers calls moves counts =
     let later = keeper.file.later in
     let heard = count_heard keeper peers fixed.nodes in
     cluster_lines (is_ready fixed heard) (length fixed.nodes + length later)
-    (heard + count_heard keeper peers later) calls moves ++ (lost_lines counts peers.foreign ++ drop_lines peers.drops)
+    (heard + count_heard keeper peers later) calls moves
+    ++ (kept_lines (kept_banks keeper) (kept_tags keeper)
+    ++ (lost_lines counts peers.foreign ++ drop_lines peers.drops))
 
 -- what that section tells of these nodes one by one
 abbrev pub about_nodes : Keeper → Peers → List ℕ → List ℕ

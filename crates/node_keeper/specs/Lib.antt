@@ -10,5 +10,6 @@ pub mod NextIds
 pub mod Objects
 pub mod Resending
 pub mod Sendings
+pub mod Sizes
 pub mod Wants
 pub mod Written

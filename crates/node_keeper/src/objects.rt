@@ -23,6 +23,7 @@ mod questions;
 mod replies;
 mod requests;
 pub(crate) mod scan;
+pub(crate) mod sizes;
 
 /// What a node keeps of all its objects, each under its name. Any bytes are a name. An object of which the node has not
 /// heard counts as a new one, with the layout that placement gives its name. So an object that equals a new one leaves

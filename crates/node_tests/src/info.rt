@@ -8,9 +8,10 @@ static NODES: &[u8] = b"nodes 1 2 3\nn 3\nk 1\ndelta 8\nmover 1\nlater 4\nticks 
 static TICKS: [Step; 8] = [
     Step {
         words: "client 1|INFO|cluster",
-        answers: "[Frame { strings: [b\"client 1\", b\"$534\\r\\n\", b\"# Cluster\\r\\ncluster_enabled:0\\r\\n\
+        answers: "[Frame { strings: [b\"client 1\", b\"$572\\r\\n\", b\"# Cluster\\r\\ncluster_enabled:0\\r\\n\
             cluster_state:fail\\r\\ncluster_known_nodes:4\\r\\ncluster_nodes_heard:0\\r\\n\
-            cluster_calls_open:0\\r\\ncluster_moves_open:0\\r\\ncluster_calls_given_up:0\\r\\n\
+            cluster_calls_open:0\\r\\ncluster_moves_open:0\\r\\ncluster_open_banks:0\\r\\n\
+            cluster_tags:0\\r\\ncluster_calls_given_up:0\\r\\n\
             cluster_frames_dropped:0\\r\\ncluster_frames_of_other_clusters:0\\r\\n\
             cluster_frames_malformed:0\\r\\ncluster_frames_unreadable:0\\r\\n\
             cluster_frames_not_admitted:0\\r\\ncluster_node_1_heard:0\\r\\ncluster_node_2_heard:0\\r\\n\
@@ -26,9 +27,10 @@ static TICKS: [Step; 8] = [
     },
     Step {
         words: "client 1|INFO|Cluster",
-        answers: "[Frame { strings: [b\"client 1\", b\"$524\\r\\n\", b\"# Cluster\\r\\ncluster_enabled:0\\r\\n\
+        answers: "[Frame { strings: [b\"client 1\", b\"$562\\r\\n\", b\"# Cluster\\r\\ncluster_enabled:0\\r\\n\
             cluster_state:ok\\r\\ncluster_known_nodes:4\\r\\ncluster_nodes_heard:3\\r\\n\
-            cluster_calls_open:0\\r\\ncluster_moves_open:0\\r\\ncluster_calls_given_up:0\\r\\n\
+            cluster_calls_open:0\\r\\ncluster_moves_open:0\\r\\ncluster_open_banks:0\\r\\n\
+            cluster_tags:0\\r\\ncluster_calls_given_up:0\\r\\n\
             cluster_frames_dropped:0\\r\\ncluster_frames_of_other_clusters:0\\r\\n\
             cluster_frames_malformed:0\\r\\ncluster_frames_unreadable:0\\r\\n\
             cluster_frames_not_admitted:0\\r\\ncluster_node_1_heard:1\\r\\ncluster_node_2_heard:1\\r\\n\
@@ -49,9 +51,10 @@ static TICKS: [Step; 8] = [
     },
     Step {
         words: "client 1|INFO|CLUSTER",
-        answers: "[Frame { strings: [b\"client 1\", b\"$520\\r\\n\", b\"# Cluster\\r\\ncluster_enabled:0\\r\\n\
+        answers: "[Frame { strings: [b\"client 1\", b\"$558\\r\\n\", b\"# Cluster\\r\\ncluster_enabled:0\\r\\n\
             cluster_state:ok\\r\\ncluster_known_nodes:4\\r\\ncluster_nodes_heard:3\\r\\n\
-            cluster_calls_open:0\\r\\ncluster_moves_open:0\\r\\ncluster_calls_given_up:0\\r\\n\
+            cluster_calls_open:0\\r\\ncluster_moves_open:0\\r\\ncluster_open_banks:0\\r\\n\
+            cluster_tags:0\\r\\ncluster_calls_given_up:0\\r\\n\
             cluster_frames_dropped:0\\r\\ncluster_frames_of_other_clusters:0\\r\\n\
             cluster_frames_malformed:0\\r\\ncluster_frames_unreadable:0\\r\\n\
             cluster_frames_not_admitted:0\\r\\ncluster_node_1_heard:1\\r\\ncluster_node_2_heard:1\\r\\n\
@@ -67,9 +70,10 @@ static TICKS: [Step; 8] = [
     },
     Step {
         words: "client 1|INFO|cluster",
-        answers: "[Frame { strings: [b\"client 1\", b\"$522\\r\\n\", b\"# Cluster\\r\\ncluster_enabled:0\\r\\n\
+        answers: "[Frame { strings: [b\"client 1\", b\"$560\\r\\n\", b\"# Cluster\\r\\ncluster_enabled:0\\r\\n\
             cluster_state:fail\\r\\ncluster_known_nodes:4\\r\\ncluster_nodes_heard:0\\r\\n\
-            cluster_calls_open:0\\r\\ncluster_moves_open:0\\r\\ncluster_calls_given_up:0\\r\\n\
+            cluster_calls_open:0\\r\\ncluster_moves_open:0\\r\\ncluster_open_banks:0\\r\\n\
+            cluster_tags:0\\r\\ncluster_calls_given_up:0\\r\\n\
             cluster_frames_dropped:0\\r\\ncluster_frames_of_other_clusters:0\\r\\n\
             cluster_frames_malformed:0\\r\\ncluster_frames_unreadable:0\\r\\n\
             cluster_frames_not_admitted:0\\r\\ncluster_node_1_heard:0\\r\\ncluster_node_2_heard:0\\r\\n\
@@ -131,9 +135,10 @@ static SECTIONS: [Step; 8] = [
     },
     Step {
         words: "client 1|INFO|cluster",
-        answers: "[Frame { strings: [b\"client 1\", b\"$342\\r\\n\", b\"# Cluster\\r\\ncluster_enabled:0\\r\\n\
+        answers: "[Frame { strings: [b\"client 1\", b\"$380\\r\\n\", b\"# Cluster\\r\\ncluster_enabled:0\\r\\n\
             cluster_state:fail\\r\\ncluster_known_nodes:1\\r\\ncluster_nodes_heard:0\\r\\n\
-            cluster_calls_open:0\\r\\ncluster_moves_open:0\\r\\ncluster_calls_given_up:0\\r\\n\
+            cluster_calls_open:0\\r\\ncluster_moves_open:0\\r\\ncluster_open_banks:1\\r\\n\
+            cluster_tags:2\\r\\ncluster_calls_given_up:0\\r\\n\
             cluster_frames_dropped:2\\r\\ncluster_frames_of_other_clusters:0\\r\\n\
             cluster_frames_malformed:1\\r\\ncluster_frames_unreadable:1\\r\\n\
             cluster_frames_not_admitted:0\\r\\ncluster_node_1_heard:0\\r\\n\\r\\n\", b\"\\r\\n\"] }]",

@@ -6,7 +6,7 @@ ghost use Rattle.node.specs.Info.{about_cluster, about_nodes, cluster_section, c
 ghost use Rattle.node.specs.Info.{is_move_open, is_ready, section_if, silence_line, silence_line_of, silence_lines};
 
 use super::Node;
-use super::sections::{ClusterLines, DropLines, LostLines, SilenceWord};
+use super::sections::{ClusterLines, DropLines, KeptLines, LostLines, SilenceWord};
 use crate::peers::Peers;
 use cluster_file::ClusterFile;
 use indexmap::IndexMap;
@@ -51,6 +51,10 @@ impl Node {
             (count_by is_move_open (values self.now.desk.calls)) self.now.desk.counts) }
     {
         let cluster = self.cluster_lines();
+        let kept = KeptLines {
+            banks: self.keeper.objects.open_banks(),
+            tags: self.keeper.objects.known_tags(),
+        };
         let lost = LostLines {
             counts: self.desk.counts,
             foreign: self.peers.foreign,
@@ -58,7 +62,7 @@ impl Node {
         let drops = DropLines {
             drops: self.peers.drops,
         };
-        let lines = format!(in self.alloc; "{cluster}{lost}{drops}")?;
+        let lines = format!(in self.alloc; "{cluster}{kept}{lost}{drops}")?;
         text.extend_from_slice(lines.as_bytes())?;
         Ok(())
     }

@@ -1,7 +1,7 @@
 //! The lines of `INFO`.
 ghost use Rattle.std.specs.Prelude.{◌≡◌, Some};
-ghost use Rattle.node.specs.Info.{cluster_lines, count_lines, drop_lines, lost_lines, name_lines, silence_word};
-ghost use Rattle.node.specs.Info.{size_lines, state_word};
+ghost use Rattle.node.specs.Info.{cluster_lines, count_lines, drop_lines, kept_lines, lost_lines, name_lines};
+ghost use Rattle.node.specs.Info.{silence_word, size_lines, state_word};
 
 use crate::drops::Drops;
 use node_clients::Counts;
@@ -43,7 +43,26 @@ fn state_word(is_ready: bool) -> &'static str
     if is_ready { "ok" } else { "fail" }
 }
 
-/// The lines of the section on the cluster with what was given up and dropped.
+/// The lines of the section on the cluster with how many banks the node keeps, and how many tags these know.
+#[derive(Clone, Copy)]
+pub(super) struct KeptLines {
+    pub banks: u64,
+    pub tags: u64,
+}
+
+impl fmt::Display for KeptLines {
+    ghost output = { λ it. Some (kept_lines it.banks it.tags) };
+
+    fn fmt<W: fmt::Write>(&self, f: &mut fmt::Formatter<W>) -> fmt::Result {
+        write!(
+            f,
+            "cluster_open_banks:{}\r\ncluster_tags:{}\r\n",
+            self.banks, self.tags
+        )
+    }
+}
+
+/// The lines of that section with what was given up and dropped.
 #[derive(Clone, Copy)]
 pub(super) struct LostLines {
     pub counts: Counts,

@@ -1,6 +1,6 @@
 //! How long a log would be that is written anew.
 use super::Keeper;
-use local_object::LocalObject;
+use crate::objects::sizes::tags_in;
 
 // How many bytes the entries of one tag take, without a piece and without the object's name.
 const TAG_BYTES: u64 = 250;
@@ -18,20 +18,9 @@ impl Keeper {
                 let each = (name.len() as u64)
                     .saturating_mul(2)
                     .saturating_add(TAG_BYTES);
-                bytes = bytes.saturating_add(each.saturating_mul(tags_of(object)));
+                bytes = bytes.saturating_add(each.saturating_mul(tags_in(object.places())));
             }
         }
         bytes
     }
-}
-
-// The number of tags in all banks of an object.
-fn tags_of(object: &LocalObject) -> u64 {
-    let mut tags = 0u64;
-    for place in object.places() {
-        if let Some(bank) = place.bank() {
-            tags = tags.saturating_add(bank.count() as u64);
-        }
-    }
-    tags
 }

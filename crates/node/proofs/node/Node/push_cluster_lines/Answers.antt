@@ -1,6 +1,8 @@
 use Rattle.std.proofs.Common.{◌≡◌, ℕ, Bool, List, length, ◌+◌, ◌++◌, ◌∙◌, ap}
-use Rattle.indexmap.specs.IndexMap.{index_map_len}
-use Rattle.node.specs.Info.{cluster_lines, count_heard, drop_lines, is_ready, lost_lines}
+use Rattle.std.specs.List.{count_by}
+use Rattle.indexmap.specs.IndexMap.{index_map_len, values}
+use Rattle.node.specs.Info.{cluster_lines, count_heard, drop_lines, is_move_open, is_ready, kept_banks, kept_lines, kept_tags}
+use Rattle.node.specs.Info.{lost_lines}
 use Rattle.node.proofs.node.Node.push_cluster_lines.Goals as goal
 
 pub returns : goal.returns
@@ -10,19 +12,24 @@ returns c =
     let counts = c.args.self.now.desk.counts in
     let fixed = keeper.file.fixed in
     let later = keeper.file.later in
-    let text : (ready : Bool) (nodes heard calls moves : ℕ) → List ℕ =
-    λ ready nodes heard calls moves. cluster_lines ready nodes heard calls moves
-    ++ (lost_lines counts peers.foreign ++ drop_lines peers.drops) in
+    let text : (ready : Bool) (nodes heard calls moves banks tags : ℕ) → List ℕ =
+    λ ready nodes heard calls moves banks tags. cluster_lines ready nodes heard calls moves
+    ++ (kept_lines banks tags ++ (lost_lines counts peers.foreign ++ drop_lines peers.drops)) in
     let it = c.cluster_lines-cluster.result in
     let told = c.cluster_lines-cluster.ensures in
+    let b = c.open_banks.result in
+    let t = c.known_tags.result in
     let known : ℕ = count_heard keeper peers fixed.nodes in
     let ready : Bool = is_ready fixed known in
     let nodes : ℕ = length fixed.nodes + length later in
     let heard : ℕ = known + count_heard keeper peers later in
     let calls : ℕ = index_map_len c.args.self.now.desk.calls in
+    let moves : ℕ = count_by is_move_open (values c.args.self.now.desk.calls) in
     c.in_ok-extend_from_slice.ensures.items ∙ ap (λ t. c.args.text.now.items ++ t) (c.as_bytes.ensures.value ∙ c.in_ok-lines.ensures.ok
-    ∙ ap (λ b. text b it.nodes it.heard it.calls it.moves) told.ready
-    ∙ ap (λ n. text ready n it.heard it.calls it.moves) told.nodes
-    ∙ ap (λ n. text ready nodes n it.calls it.moves) told.heard
-    ∙ ap (λ n. text ready nodes heard n it.moves) told.calls
-    ∙ ap (λ n. text ready nodes heard calls n) told.moves)
+    ∙ ap (λ r. text r it.nodes it.heard it.calls it.moves b t) told.ready
+    ∙ ap (λ n. text ready n it.heard it.calls it.moves b t) told.nodes
+    ∙ ap (λ n. text ready nodes n it.calls it.moves b t) told.heard
+    ∙ ap (λ n. text ready nodes heard n it.moves b t) told.calls
+    ∙ ap (λ n. text ready nodes heard calls n b t) told.moves
+    ∙ ap (λ n. text ready nodes heard calls moves n t) c.open_banks.ensures
+    ∙ ap (λ n. text ready nodes heard calls moves (kept_banks keeper) n) c.known_tags.ensures)

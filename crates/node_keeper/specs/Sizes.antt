@@ -1,0 +1,41 @@
+-- How many banks and tags a node keeps.
+use Rattle.std.specs.Prelude.{ℕ, Option, None, Some, sum_by}
+use Rattle.std.specs.FinMap as map
+use Rattle.indexmap.specs.IndexMap.{values}
+use Rattle.bank.specs.Bank.{Bank}
+use Rattle.local_object.specs.Local.{LocalObject, Place}
+use Rattle.node_keeper.specs.declared.objects.Objects.{Objects}
+
+-- 1 if a bank is open, and otherwise 0
+abbrev pub count_of_banks : Option Bank → ℕ
+count_of_banks None = 0
+count_of_banks (Some bank) = 1
+
+-- how many tags a bank knows, if it is open
+abbrev pub count_of_tags : Option Bank → ℕ
+count_of_tags None = 0
+count_of_tags (Some bank) = map.len bank.rows
+
+-- the same for the bank of a place
+abbrev pub place_banks : Place → ℕ
+place_banks place = count_of_banks place.bank
+
+-- how many tags the bank of a place knows
+abbrev pub place_tags : Place → ℕ
+place_tags place = count_of_tags place.bank
+
+-- how many banks of an object the node keeps
+abbrev pub banks_at_places : LocalObject → ℕ
+banks_at_places local = sum_by place_banks local.places
+
+-- how many tags these banks know
+abbrev pub tags_at_places : LocalObject → ℕ
+tags_at_places local = sum_by place_tags local.places
+
+-- how many banks of all objects the node keeps
+abbrev pub open_banks : Objects → ℕ
+open_banks objects = sum_by banks_at_places (values objects.by_name)
+
+-- how many tags these banks know
+abbrev pub known_tags : Objects → ℕ
+known_tags objects = sum_by tags_at_places (values objects.by_name)

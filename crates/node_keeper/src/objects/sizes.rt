@@ -1,0 +1,74 @@
+//! How many banks and tags a node keeps.
+ghost use Rattle.std.specs.Prelude.{◌≡◌, ◌-◌, ◌^◌, min, sum_by};
+ghost use Rattle.node_keeper.specs.Sizes.{known_tags, open_banks, place_banks, place_tags};
+
+use super::Objects;
+use local_object::Place;
+
+impl Objects {
+    /// Returns how many banks the node keeps, or `u64::MAX` if there are more. An object has at most one for each of
+    /// its positions. It takes time linear in the number of positions of all objects in the map.
+    pub fn open_banks(&self) -> u64
+        ensures { result ≡ min (open_banks self.now) (2 ^ 64 - 1) }
+    {
+        let mut banks = 0u64;
+        for object in self.by_name.values() {
+            banks = banks.saturating_add(banks_in(object.places()));
+        }
+        banks
+    }
+
+    /// Returns how many tags these banks know, or `u64::MAX` if there are more. It takes time linear in the number of
+    /// positions of all objects in the map.
+    pub fn known_tags(&self) -> u64
+        ensures { result ≡ min (known_tags self.now) (2 ^ 64 - 1) }
+    {
+        let mut tags = 0u64;
+        for object in self.by_name.values() {
+            tags = tags.saturating_add(tags_in(object.places()));
+        }
+        tags
+    }
+}
+
+// How many banks there are in these places, or `u64::MAX` if there are more.
+fn banks_in(places: &[Place]) -> u64
+    ensures { result ≡ min (sum_by place_banks places.now) (2 ^ 64 - 1) }
+{
+    let mut banks = 0u64;
+    for place in places {
+        banks = banks.saturating_add(banks_of(place));
+    }
+    banks
+}
+
+/// Returns how many tags the banks in these places know, or `u64::MAX` if there are more.
+pub(crate) fn tags_in(places: &[Place]) -> u64
+    ensures { result ≡ min (sum_by place_tags places.now) (2 ^ 64 - 1) }
+{
+    let mut tags = 0u64;
+    for place in places {
+        tags = tags.saturating_add(tags_of(place));
+    }
+    tags
+}
+
+// How many banks a place has: one or none.
+fn banks_of(place: &Place) -> u64
+    ensures { result ≡ place_banks place.now }
+{
+    match place.bank() {
+        Some(_) => 1,
+        None => 0,
+    }
+}
+
+// How many tags the bank of a place knows.
+fn tags_of(place: &Place) -> u64
+    ensures { result ≡ place_tags place.now }
+{
+    match place.bank() {
+        Some(bank) => bank.count() as u64,
+        None => 0,
+    }
+}
