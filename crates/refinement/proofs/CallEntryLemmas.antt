@@ -1,5 +1,5 @@
 -- The entries that the history has of open calls.
-use Rattle.std.proofs.Common.{◌≡◌, ℕ, cond, List, [], ◌∷◌, ◌++◌, length, map, Some, option_map}
+use Rattle.std.proofs.Common.{◌≡◌, ℕ, cond, List, [], ◌∷◌, ◌++◌, length, map, None, Some, option_map}
 use Rattle.std.proofs.Common.{refl, sym, ap, ◌∙◌, slice_get}
 use Rattle.std.proofs.lemmas.Option.{slice_get-map}
 use Rattle.std.specs.List.{AllByRecursion}
@@ -24,6 +24,7 @@ entry_push history new call has = record {
   same_id = has.same_id;
   kind = has.kind;
   unanswered = has.unanswered;
+  value = has.value;
 }
 
 pub entry_new : (history : List Entry) (call : NodeCall) (now : ℕ) → HasEntry (history ++ begun_entry call.id call.kind now ∷ []) call
@@ -34,6 +35,7 @@ entry_new history call now = record {
   same_id = refl;
   kind = refl;
   unanswered = refl;
+  value = refl;
 }
 
 -- the answer of a call leaves the entries of others
@@ -48,6 +50,7 @@ entry_answered history call now other apart has = record {
   same_id = has.same_id;
   kind = has.kind;
   unanswered = has.unanswered;
+  value = has.value;
 }
 
 -- a call that is changed has its entry
@@ -60,6 +63,7 @@ entry_of history old new id kind has = record {
   same_id = has.same_id ∙ sym id;
   kind = has.kind ∙ ap operation_of (sym kind);
   unanswered = has.unanswered;
+  value = has.value ∙ ap (λ k. entry_value k None None) (sym kind);
 }
 
 -- an id that no entry has is that of no open call

@@ -22,7 +22,7 @@ use Rattle.open_calls.proofs.ListLemmas.{all_weaker, all_at}
 use Rattle.refinement.specs.Clusters.{NodeCluster, ClusterEvent, cluster_after, cluster_run, new_cluster, with_kept_node}
 use Rattle.refinement.specs.Premises.{AreNodeEvents, LettersAreAsSent, IsKeptByItsLog, IsNodeEvent, IsReachedCluster}
 use Rattle.deeds.specs.Restarts.{IsRestarted}
-use Rattle.refinement.specs.ClusterLaws.{ClustersAreAtomic, ClustersHaveSystems, ClustersKeepValues, IsSystemOf}
+use Rattle.refinement.specs.ClusterLaws.{ClustersAreAtomic, ClustersHaveSystems, ClustersKeepValues, IsSystemOf, SeenHistoriesAreAtomic}
 use Rattle.refinement.proofs.HistoryLemmas.{history_is, history_later}
 use Rattle.refinement.proofs.SystemRunLemmas.{reached_next}
 use Rattle.deeds.proofs.UsedIdLemmas.{IsUsed, used_later, with_ids}
@@ -192,6 +192,15 @@ stand_first fragment cluster reached name =
           rising = omega arith;
           result = refl;
           told = λ place ended at. absurd (cc);
+          seen = record {
+            seen = record {
+              begins = λ index. index;
+              begun = λ index entry at. absurd (cc);
+              distinct = λ one other first second a b same. absurd (cc);
+              told = λ time ended at. absurd (cc);
+            };
+            past = λ index entry step at e. absurd (cc);
+          };
         };
       };
       objects = λ m. refl;
@@ -201,12 +210,16 @@ stand_first fragment cluster reached name =
       movers = λ m. refl;
     }
 
-pub have_systems : ClustersHaveSystems
-have_systems fragment cluster reached name =
-    let is : Stands fragment reached.files name cluster =
+stand_last : (fragment : Code) (cluster : NodeCluster) (reached : IsReachedCluster fragment cluster) (name : List ℕ) →
+    Stands fragment reached.files name cluster
+stand_last fragment cluster reached name =
     subst (Stands fragment reached.files name) reached.result
     (all_stand fragment reached.files name reached.events (new_cluster reached.files)
-    (stand_first fragment cluster reached name) reached.may) in
+    (stand_first fragment cluster reached name) reached.may)
+
+pub have_systems : ClustersHaveSystems
+have_systems fragment cluster reached name =
+    let is = stand_last fragment cluster reached name in
     let of : IsSystemOf cluster name is.system = record {
       objects = is.objects;
       letters = is.follows.posted;
@@ -218,6 +231,11 @@ pub atomic_clusters : ClustersAreAtomic
 atomic_clusters fragment cluster code reached name =
     let has = have_systems fragment cluster reached name in
     (has.0.history, has.2.history, atomic_systems fragment has.0 code has.1)
+
+pub seen_atomic : SeenHistoriesAreAtomic
+seen_atomic fragment cluster code reached name =
+    let is = stand_last fragment cluster reached name in
+    (is.system.history, is.follows.history.seen.seen, atomic_systems fragment is.system code is.follows.reached)
 
 pub valued_clusters : ClustersKeepValues
 valued_clusters fragment cluster code reached name =

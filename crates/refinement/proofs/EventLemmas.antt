@@ -16,6 +16,7 @@ use Rattle.local_object.specs.Ended.{told_if, told_of}
 use Rattle.local_object.specs.May.{MayHappenHere}
 use Rattle.refinement.specs.Refined.{begun_entry, with_answer}
 use Rattle.refinement.specs.WellFormed.{HasEntry}
+use Rattle.refinement.specs.SeenHistories.{IsBegunAs}
 use Rattle.refinement.specs.Systems.{IsPremisedIn, System, SystemEvent, system_after}
 use Rattle.deeds.specs.Named.{NamedLetter, with_names}
 use Rattle.deeds.specs.Deeds.{Notice, noticed}
@@ -25,6 +26,8 @@ use Rattle.deeds.proofs.IdLemmas.{given_later, next_later}
 use Rattle.open_calls.proofs.ListLemmas.{all_append, all_weaker}
 use Rattle.deeds.proofs.NameLemmas.{names_decided}
 use Rattle.refinement.proofs.HistoryLemmas.{AreTold, IsHistoryAt, history_later, history_push}
+use Rattle.refinement.proofs.SeenAnswerLemmas.{seen_answered}
+use Rattle.refinement.proofs.SeenHistoryLemmas.{IsSeenAt, seen_begun}
 use Rattle.refinement.proofs.SystemRunLemmas.{open_entry, reached_next}
 use Rattle.refinement.proofs.ToldLemmas.{IsToldIn, later_told, now_told, open_apart, still_told, told_answer}
 use Rattle.deeds.proofs.UsedIdLemmas.{IsUsed, next_free, used_later, used_now, with_ids}
@@ -92,6 +95,14 @@ module _ (fragment : Code) (name : List ℕ) (system : System) (ids : ℕ → Ca
   not_told notice never history zero ended at = absurd (never ended at)
   not_told notice never history (suc place) ended at = absurd (cc)
 
+  begins : (id : ℕ) (notice : Notice) (entry : Entry) → entry.call ≡ id → IsNextId mine id now → IsBegunAs name notice entry →
+      entry.called ≡ suc system.now → entry.answered ≡ None →
+      IsSeenAt name (notices ++ notice ∷ []) (system.history ++ entry ∷ []) (system.now + 1)
+  begins id notice entry same next begun called unanswered =
+      seen_begun name notices notice system.history entry system.now (system.now + 1) follows.history.seen begun (omega arith)
+      (omega arith) unanswered
+      (subst (λ i. AllByRecursion (λ (e : Entry). e.call ≡ i → ⊥) system.history) (sym same) (free id next))
+
   -- a call is answered
   answered_used : (o : Option NodeCall) → AllByRecursion (λ entry. IsUsed (with_ids ids number now) entry.call) system.history →
       AllByRecursion (λ entry. IsUsed (with_ids ids number now) entry.call) (with_answer o (suc system.now) system.history)
@@ -114,7 +125,10 @@ module _ (fragment : Code) (name : List ℕ) (system : System) (ids : ℕ → Ca
       (history_push name notices (Notice.Tells name (told_of call)) system.history system.now time (system.now + 1)
       ((names_decided name name).1 refl) (omega arith) (omega arith) follows.history
       (subst (AreTold name notices) same told)
-      (subst (AreTold name (Notice.Tells name (told_of call) ∷ [])) same (one_told call time has)))
+      (subst (AreTold name (Notice.Tells name (told_of call) ∷ [])) same (one_told call time has))
+      (subst (λ history. IsSeenAt name (notices ++ Notice.Tells name (told_of call) ∷ []) history (system.now + 1)) same
+      (seen_answered name notices system.history call system.now time (system.now + 1) follows.history.seen has (omega arith)
+      (omega arith))))
     where
       one_told : (call : NodeCall) (time : ℕ) → HasEntry system.history call →
           AreTold name (Notice.Tells name (told_of call) ∷ []) (map (answered_entry call time) system.history)
@@ -133,14 +147,16 @@ module _ (fragment : Code) (name : List ℕ) (system : System) (ids : ℕ → Ca
       leads (LocalEvent.BeginRead id) (Notice.Reads name id ∷ []) may (free id given) (begun_used id entry refl given)
       (history_push name notices (Notice.Reads name id) system.history system.now time (system.now + 1)
       ((names_decided name name).1 refl) (omega arith) (omega arith) follows.history (begun_told id entry refl given)
-      (not_told (Notice.Reads name id) (λ ended e. absurd (cc)) (system.history ++ entry ∷ [])))
+      (not_told (Notice.Reads name id) (λ ended e. absurd (cc)) (system.history ++ entry ∷ []))
+      (begins id (Notice.Reads name id) entry refl given (refl, refl, refl) refl refl))
   acted (LocalEvent.BeginWrite id value) may fed allowed given =
       let time = suc system.now in
       let entry = begun_entry id (Write value) time in
       leads (LocalEvent.BeginWrite id value) (Notice.Writes name id value ∷ []) may (free id given) (begun_used id entry refl given)
       (history_push name notices (Notice.Writes name id value) system.history system.now time (system.now + 1)
       ((names_decided name name).1 refl) (omega arith) (omega arith) follows.history (begun_told id entry refl given)
-      (not_told (Notice.Writes name id value) (λ ended e. absurd (cc)) (system.history ++ entry ∷ [])))
+      (not_told (Notice.Writes name id value) (λ ended e. absurd (cc)) (system.history ++ entry ∷ []))
+      (begins id (Notice.Writes name id value) entry refl given (refl, refl, refl, refl) refl refl))
   acted (LocalEvent.BeginMove id layout) may fed allowed given =
       let time = suc system.now in
       let entry = begun_entry id Move time in
@@ -148,7 +164,8 @@ module _ (fragment : Code) (name : List ℕ) (system : System) (ids : ℕ → Ca
       (begun_used id entry refl given)
       (history_push name notices (Notice.Moves name id layout) system.history system.now time (system.now + 1)
       ((names_decided name name).1 refl) (omega arith) (omega arith) follows.history (begun_told id entry refl given)
-      (not_told (Notice.Moves name id layout) (λ ended e. absurd (cc)) (system.history ++ entry ∷ [])))
+      (not_told (Notice.Moves name id layout) (λ ended e. absurd (cc)) (system.history ++ entry ∷ []))
+      (begins id (Notice.Moves name id layout) entry refl given (refl, refl, refl) refl refl))
   acted (LocalEvent.Advance id) may fed allowed given =
       leads (LocalEvent.Advance id) [] may tt (still_used (given_later mine now None within given))
       (quiet (after (LocalEvent.Advance id)).now (omega arith))

@@ -8,6 +8,7 @@ use Rattle.record.specs.declared.call.Entry.{Entry}
 use Rattle.local_object.specs.declared.progress.Ended.{Ended}
 use Rattle.deeds.specs.Deeds.{Notice}
 use Rattle.refinement.specs.Histories.{IsHistoryOf, TimedNotice, after_notice, after_notices, is_about, notices_about}
+use Rattle.refinement.proofs.SeenHistoryLemmas.{IsSeenAt, seen_beside, seen_later}
 use Rattle.refinement.proofs.TimedLemmas.{IsRisingTo, after_push, rising_is, rising_more, rising_push}
 use Rattle.refinement.proofs.ToldLemmas.{IsToldIn}
 use Rattle.open_calls.proofs.ListLemmas.{all_at}
@@ -24,6 +25,7 @@ pub record IsHistoryAt (name : List ℕ) (notices : List Notice) (history : List
   pub rising : IsRisingTo 0 timed now
   pub result : history ≡ after_notices timed []
   pub told : AreTold name notices history
+  pub seen : IsSeenAt name notices history now
 
 pub history_is : (name : List ℕ) (notices : List Notice) (history : List Entry) (now : ℕ) →
     IsHistoryAt name notices history now → IsHistoryOf name notices history
@@ -43,6 +45,7 @@ history_later name notices history now later more is = record {
   rising = rising_more 0 now later is.timed is.rising more;
   result = is.result;
   told = is.told;
+  seen = seen_later name notices history now later more is.seen;
 }
 
 -- what is in two lists is in one of them
@@ -73,8 +76,9 @@ pub history_push : (name : List ℕ) (notices : List Notice) (notice : Notice) (
     is_about name notice ≡ true → now < time → time ≤ later → IsHistoryAt name notices history now →
     AreTold name notices (after_notice time notice history) →
     AreTold name (notice ∷ []) (after_notice time notice history) →
+    IsSeenAt name (notices ++ notice ∷ []) (after_notice time notice history) later →
     IsHistoryAt name (notices ++ notice ∷ []) (after_notice time notice history) later
-history_push name notices notice history now time later about after within is first second =
+history_push name notices notice history now time later about after within is first second seen =
     let timed : TimedNotice = record { time = time; notice = notice } in record {
       timed = is.timed ++ timed ∷ [];
       those = map-append (λ (t : TimedNotice). t.notice) is.timed (timed ∷ []) ∙ ap (λ xs. xs ++ notice ∷ []) is.those
@@ -82,6 +86,7 @@ history_push name notices notice history now time later about after within is fi
       rising = rising_push 0 now later is.timed timed is.rising after within;
       result = ap (after_notice time notice) is.result ∙ sym (after_push is.timed timed []);
       told = told_more name notices (notice ∷ []) (after_notice time notice history) first second;
+      seen = seen;
     }
 
 -- notices about other names
@@ -106,4 +111,5 @@ history_beside name notices more history now none own is = record {
       (λ place ended at. absurd (let wrong : false ≡ true =
       sym (all_at (λ notice. is_about name notice ≡ false) more place (Notice.Tells name ended) none at)
       ∙ own ended in cc));
+  seen = seen_beside name notices more history now none own is.seen;
 }

@@ -19,8 +19,11 @@ pub mod LeftCallLemmas
 pub mod LetterLemmas
 pub mod LocalEventLemmas
 pub mod PartLemmas
+pub mod PlaceLemmas
 pub mod ResentLetterLemmas
 pub mod RestartedNodeLemmas
+pub mod SeenAnswerLemmas
+pub mod SeenHistoryLemmas
 pub mod ServedLetterLemmas
 pub mod SettledValueLemmas
 pub mod SystemEventLemmas

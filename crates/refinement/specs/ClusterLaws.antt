@@ -10,6 +10,7 @@ use Rattle.deeds.specs.Named.{IsOneOf}
 use Rattle.refinement.specs.Clusters.{NodeCluster}
 use Rattle.refinement.specs.Premises.{IsReachedCluster}
 use Rattle.refinement.specs.Histories.{IsHistoryOf}
+use Rattle.refinement.specs.SeenHistories.{IsHistoryOfSeen}
 
 -- the system has the cluster's nodes for the object of this name: each node keeps the same of the object, each letter
 -- about it is one that the system's nodes sent, and the history is the one of what clients saw
@@ -28,6 +29,12 @@ ClustersHaveSystems = (fragment : Code) (cluster : NodeCluster) → IsReachedClu
 abbrev pub ClustersAreAtomic : Type 0
 ClustersAreAtomic = (fragment : Code) (cluster : NodeCluster) → IsCode fragment → IsReachedCluster fragment cluster →
     (name : List ℕ) → (history : List Entry) × IsHistoryOf name cluster.notices history × IsAtomic history
+
+-- for each name, there is an atomic history of what clients saw
+abbrev pub SeenHistoriesAreAtomic : Type 0
+SeenHistoriesAreAtomic = (fragment : Code) (cluster : NodeCluster) → IsCode fragment →
+    IsReachedCluster fragment cluster → (name : List ℕ) →
+    (history : List Entry) × IsHistoryOfSeen name cluster.notices history × IsAtomic history
 
 -- the nodes keep the values of tags, for each object
 abbrev pub ClustersKeepValues : Type 0

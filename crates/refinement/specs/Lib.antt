@@ -7,4 +7,5 @@ pub mod Laws
 pub mod Clusters
 pub mod Premises
 pub mod Histories
+pub mod SeenHistories
 pub mod ClusterLaws

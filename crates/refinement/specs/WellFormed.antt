@@ -6,14 +6,14 @@ use Rattle.layout.specs.Layout.{Layout, IsLawful}
 use Rattle.record.specs.declared.call.Entry.{Entry}
 use Rattle.mail.specs.declared.message.Message.{Message}
 use Rattle.record.specs.Fragments.{Code}
-use Rattle.record.specs.Journals.{operation_of}
+use Rattle.record.specs.Journals.{entry_value, operation_of}
 use Rattle.record.specs.Sending.{requests}
 use Rattle.network.specs.Worlds.{World, known_layouts}
 use Rattle.open_calls.specs.OpenCalls.{NodeCall, NodeCallsDiffer}
 use Rattle.network.specs.Premises.{IsOneFile, WasSent}
 use Rattle.local_object.specs.Events.{pieces_here}
 
--- the history has an entry of the call, which has no answer yet
+-- the history has an entry of the call, which has no answer yet, and if the call is a write its value
 pub record HasEntry (history : List Entry) (call : NodeCall) : Type 0 where
   pub place : ℕ
   pub entry : Entry
@@ -21,6 +21,7 @@ pub record HasEntry (history : List Entry) (call : NodeCall) : Type 0 where
   pub same_id : entry.call ≡ call.id
   pub kind : entry.kind ≡ operation_of call.kind
   pub unanswered : entry.answered ≡ None
+  pub value : entry.value ≡ entry_value call.kind None None
 
 -- the requests of a call's current phase, at a position with this layout
 abbrev pub current_requests : Code → Layout → NodeCall → List Message

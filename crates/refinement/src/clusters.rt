@@ -1,5 +1,5 @@
 //! What each run of a cluster of nodes promises.
-ghost use Rattle.refinement.specs.ClusterLaws.{ClustersAreAtomic, ClustersHaveSystems, ClustersKeepValues};
+ghost use Rattle.refinement.specs.ClusterLaws.{ClustersAreAtomic, ClustersHaveSystems, ClustersKeepValues, SeenHistoriesAreAtomic};
 
 /// A law: whatever nodes do with all their objects, and however often they stop and start again, for each name they do
 /// what nodes would do that keep that object alone.
@@ -11,6 +11,11 @@ pub fn clusters_have_systems()
 /// atomic.
 pub fn clusters_are_atomic()
     ensures { ClustersAreAtomic }
+{}
+
+/// A law: for each name there is an atomic history, which has each answer that a client was told, at its own call.
+pub fn seen_histories_are_atomic()
+    ensures { SeenHistoriesAreAtomic }
 {}
 
 /// A law: each piece that a node keeps or sends is its member's fragment of its tag's value.

@@ -5,7 +5,9 @@
 //! empty body.
 #![tactic(auto)]
 
-pub use clusters::{clusters_are_atomic, clusters_have_systems, clusters_keep_values};
+pub use clusters::{
+    clusters_are_atomic, clusters_have_systems, clusters_keep_values, seen_histories_are_atomic,
+};
 pub use events::{
     local_events_are_world_events, resent_letters_were_sent, restarts_are_world_events,
 };
