@@ -17,6 +17,7 @@ pub mod CameLemmas
 pub mod OutcomeLemmas
 pub mod StepLemmas
 pub mod ProcessLawLemmas
+pub mod SeenHistoryLemmas
 pub mod LeadLemmas
 pub mod HandledRoundLemmas
 pub mod WrittenRoundLemmas

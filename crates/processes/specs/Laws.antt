@@ -8,6 +8,7 @@ use Rattle.deeds.specs.Kept.{FileOfNames}
 use Rattle.refinement.specs.Clusters.{ClusterEvent, NodeCluster, cluster_after, new_cluster}
 use Rattle.refinement.specs.ClusterLaws.{IsSystemOf}
 use Rattle.refinement.specs.Histories.{IsHistoryOf}
+use Rattle.refinement.specs.SeenHistories.{IsHistoryOfSeen}
 use Rattle.refinement.specs.Premises.{IsKeptByItsLog, IsNodeEvent, IsReachedCluster, LettersAreAsSent}
 use Rattle.refinement.specs.SystemValues.{KeepsValuesIn}
 use Rattle.refinement.specs.Systems.{System}
@@ -54,6 +55,12 @@ abbrev pub ProcessesAreAtomic : Type 0
 ProcessesAreAtomic = (processes : Processes) → AreReached processes → (name : List ℕ) →
     (cluster : NodeCluster) × (history : List Entry) × IsReachedCluster fragment cluster
     × IsClusterOf processes cluster × IsHistoryOf name cluster.notices history × IsAtomic history
+
+-- Whatever the processes of a cluster do and wherever they stop, for each name there is an atomic history of what their
+-- clients saw.
+abbrev pub ClientsSeeAtomicHistories : Type 0
+ClientsSeeAtomicHistories = (processes : Processes) → AreReached processes → (name : List ℕ) →
+    (history : List Entry) × IsHistoryOfSeen name processes.seen history × IsAtomic history
 
 -- Each frame that a process wrote carries a letter of that cluster, and the cluster keeps the values of tags: for each
 -- name, a tag has one value, and each piece in a letter is its member's fragment of its tag's value.

@@ -1,5 +1,6 @@
 //! What each run of the processes of a cluster promises.
-ghost use Rattle.processes.specs.Laws.{ProcessesAreAtomic, ProcessesHaveClusters, ProcessesKeepValues};
+ghost use Rattle.processes.specs.Laws.{ClientsSeeAtomicHistories, ProcessesAreAtomic};
+ghost use Rattle.processes.specs.Laws.{ProcessesHaveClusters, ProcessesKeepValues};
 ghost use Rattle.processes.specs.Loops.{RoundsAreEvents, StopsAreEvents};
 ghost use Rattle.processes.specs.Programs.{RewritesAreEvents, StartsAreEvents};
 
@@ -16,6 +17,13 @@ pub fn processes_have_clusters()
 /// A law: for each name there is an atomic history, which has each answer that a client of the processes was told.
 pub fn processes_are_atomic()
     ensures { ProcessesAreAtomic }
+{
+    left_logs_are_read();
+}
+
+/// A law: for each name there is an atomic history of what the clients of the processes saw.
+pub fn clients_see_atomic_histories()
+    ensures { ClientsSeeAtomicHistories }
 {
     left_logs_are_read();
 }

@@ -6,8 +6,9 @@
 #![tactic(auto)]
 
 pub use laws::{
-    processes_are_atomic, processes_have_clusters, processes_keep_values, rewrites_are_events,
-    rounds_are_events, starts_are_events, stops_are_events,
+    clients_see_atomic_histories, processes_are_atomic, processes_have_clusters,
+    processes_keep_values, rewrites_are_events, rounds_are_events, starts_are_events,
+    stops_are_events,
 };
 
 mod laws;
