@@ -196,6 +196,7 @@ stand_first fragment cluster reached name =
             seen = record {
               begins = λ index. index;
               begun = λ index entry at. absurd (cc);
+              last = λ index time entry other notice at. absurd (cc);
               distinct = λ one other first second a b same. absurd (cc);
               told = λ time ended at. absurd (cc);
             };

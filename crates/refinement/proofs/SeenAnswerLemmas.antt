@@ -147,6 +147,12 @@ module _ (name : List ℕ) (notices : List Notice) (history : List Entry) (call 
       subst (λ n. IsToldAt (map answer history) old.begins n ended) (sym new.0)
       (subst (IsToldAt (map answer history) old.begins (length notices)) same told_now)
 
+  last_there : (index times : ℕ) (entry other : Entry) (seen : Notice) → slice_get history index ≡ Some entry →
+      IsBegunAs name seen other → other.call ≡ entry.call →
+      (slice_get notices times ≡ Some seen) ⊎ ((times ≡ length notices) × (notice ≡ seen)) → times ≤ old.begins index
+  last_there index times entry other seen at by same (inl before) = old.last index times entry other seen at before by same
+  last_there index times entry other seen at by same (inr new) = absurd (subst (λ n. IsBegunAs name n other) (sym new.1) by)
+
   past_there : (index : ℕ) (entry : Entry) (step : ℕ) → slice_get history index ≡ Some entry → (answer entry).answered ≡ Some step →
       step ≤ later
   past_there index entry step at = go (eqb entry.call call.id)
@@ -165,6 +171,9 @@ module _ (name : List ℕ) (notices : List Notice) (history : List Entry) (call 
             get_first notices (notice ∷ []) (old.begins index) there.0 there.1,
             subst (IsBegunAs name there.0) was.2 (begun_there index was.0 was.1 there.0 there.2),
           );
+      last = λ index time entry other seen at there by same. let was = get_mapped answer history index entry at in
+          last_there index time was.0 other seen was.1 by
+          (same ∙ ap (λ (e : Entry). e.call) (sym was.2) ∙ same_call was.0) (get_pushed notices notice time seen there);
       distinct = λ one other first second a b same.
           let was = get_mapped answer history one first a in
           let then = get_mapped answer history other second b in

@@ -10,6 +10,7 @@ use Rattle.atomicity.specs.Atomic.{IsAnsweredBefore}
 use Rattle.open_calls.proofs.ListLemmas.{all_at}
 use Rattle.local_object.specs.declared.progress.Ended.{Ended}
 use Rattle.deeds.specs.Deeds.{Notice}
+use Rattle.deeds.proofs.NameLemmas.{names_decided}
 use Rattle.refinement.specs.Histories.{is_about}
 use Rattle.refinement.specs.SeenHistories.{IsBegunAs, IsHistoryOfSeen, IsToldAt}
 use Rattle.refinement.proofs.CallEntryLemmas.{at_end}
@@ -20,6 +21,21 @@ use Rattle.refinement.proofs.ToldLemmas.{get_first}
 pub record IsSeenAt (name : List ℕ) (notices : List Notice) (history : List Entry) (now : ℕ) : Type 0 where
   pub seen : IsHistoryOfSeen name notices history
   pub past : (index : ℕ) (entry : Entry) (step : ℕ) → slice_get history index ≡ Some entry → entry.answered ≡ Some step → step ≤ now
+
+-- a notice with which a call of the object began is about it
+begun_about : (name : List ℕ) (notice : Notice) (entry : Entry) → IsBegunAs name notice entry → is_about name notice ≡ true
+begun_about name (Notice.Reads other id) entry begun = (names_decided name other).1 (sym begun.0)
+begun_about name (Notice.Writes other id value) entry begun = (names_decided name other).1 (sym begun.0)
+begun_about name (Notice.Moves other id layout) entry begun = (names_decided name other).1 (sym begun.0)
+begun_about name (Notice.Tells other ended) entry begun = absurd begun
+
+-- it has one id
+begun_once : (name : List ℕ) (notice : Notice) (one other : Entry) → IsBegunAs name notice one → IsBegunAs name notice other →
+    one.call ≡ other.call
+begun_once name (Notice.Reads named id) one other first second = first.1 ∙ sym second.1
+begun_once name (Notice.Writes named id value) one other first second = first.1 ∙ sym second.1
+begun_once name (Notice.Moves named id layout) one other first second = first.1 ∙ sym second.1
+begun_once name (Notice.Tells named ended) one other first second = absurd first
 
 -- Time goes on, and clients see things of other names
 
@@ -39,6 +55,8 @@ seen_beside name notices more history now none own is = record {
     begins = of.begins;
     begun = λ index entry at. let there = of.begun index entry at in
         (there.0, get_first notices more (of.begins index) there.0 there.1, there.2);
+    last = λ index time entry other notice at there begun. before index time entry other notice at begun
+        (get_either notices more time notice there);
     distinct = of.distinct;
     told = λ time ended at. go time ended (get_either notices more time (Notice.Tells name ended) at);
   };
@@ -47,6 +65,14 @@ seen_beside name notices more history now none own is = record {
   where
     of : IsHistoryOfSeen name notices history
     of = is.seen
+
+    before : (index time : ℕ) (entry other : Entry) (notice : Notice) → slice_get history index ≡ Some entry →
+        IsBegunAs name notice other → (slice_get notices time ≡ Some notice) ⊎ ((j : ℕ) × (slice_get more j ≡ Some notice)) →
+        other.call ≡ entry.call → time ≤ of.begins index
+    before index time entry other notice at begun (inl here) same = of.last index time entry other notice at here begun same
+    before index time entry other notice at begun (inr there) same = absurd (let wrong : false ≡ true =
+        sym (all_at (λ notice. is_about name notice ≡ false) more there.0 notice none there.1)
+        ∙ begun_about name notice other begun in cc)
 
     go : (time : ℕ) (ended : Ended) → (slice_get notices time ≡ Some (Notice.Tells name ended))
         ⊎ ((j : ℕ) × (slice_get more j ≡ Some (Notice.Tells name ended))) → IsToldAt history of.begins time ended
@@ -103,6 +129,21 @@ module _ (name : List ℕ) (notices : List Notice) (notice : Notice) (history : 
       (sym same ∙ ap (λ (e : Entry). e.call) (sym a.1)))
   distinct_there one other first second (inr a) (inr b) same = a.0 ∙ sym b.0
 
+  last_there : (index time : ℕ) (one other : Entry) (seen : Notice) → IsBegunAs name seen other → other.call ≡ one.call →
+      (slice_get history index ≡ Some one) ⊎ ((index ≡ length history) × (entry ≡ one)) →
+      (slice_get notices time ≡ Some seen) ⊎ ((time ≡ length notices) × (notice ≡ seen)) → time ≤ begins index
+  last_there index time one other seen by same (inl a) (inl b) =
+      subst (λ n. time ≤ n) (sym (begins_before index one a)) (old.last index time one other seen a b by same)
+  last_there index time one other seen by same (inl a) (inr b) =
+      absurd (all_at (λ (e : Entry). e.call ≡ entry.call → ⊥) history index one free a
+      (sym same ∙ begun_once name seen other entry by (subst (λ n. IsBegunAs name n entry) b.1 begun)))
+  last_there index time one other seen by same (inr a) (inl b) =
+      let less = get_within notices time seen b in
+      let now = begins_now index a.0 in omega arith
+  last_there index time one other seen by same (inr a) (inr b) =
+      let there = b.0 in
+      let now = begins_now index a.0 in omega arith
+
   -- an answer from before is before the call that begins
   answer_before : (index : ℕ) (one : Entry) → slice_get history index ≡ Some one → (o : Option ℕ) → one.answered ≡ o →
       is_some o ≡ true → IsAnsweredBefore one entry
@@ -144,6 +185,8 @@ module _ (name : List ℕ) (notices : List Notice) (notice : Notice) (history : 
     seen = record {
       begins = begins;
       begun = λ index one at. begun_there index one (get_pushed history entry index one at);
+      last = λ index time one other seen at there by same. last_there index time one other seen by same
+          (get_pushed history entry index one at) (get_pushed notices notice time seen there);
       distinct = λ one other first second a b same. distinct_there one other first second (get_pushed history entry one first a)
           (get_pushed history entry other second b) same;
       told = λ time ended at. told_there time ended (get_pushed notices notice time (Notice.Tells name ended) at);

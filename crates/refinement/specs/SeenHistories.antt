@@ -1,5 +1,5 @@
 -- When a history is one of what clients saw: which of its calls is which of theirs, and what they were told.
-use Rattle.std.specs.Prelude.{◌≡◌, ◌<◌, ℕ, List, Some, IsSome, slice_get}
+use Rattle.std.specs.Prelude.{◌≡◌, ◌<◌, ◌≤◌, ℕ, List, Some, IsSome, slice_get}
 use Rattle.record.specs.declared.call.Entry.{Entry}
 use Rattle.record.specs.declared.call.Operation.TheVariants as operation
 use Rattle.atomicity.specs.Atomic.{IsAnsweredBefore}
@@ -17,8 +17,8 @@ IsBegunAs name (Notice.Moves other id layout) entry =
     (other ≡ name) × (entry.call ≡ id) × (entry.kind ≡ operation.Move)
 IsBegunAs name (Notice.Tells other ended) entry = ⊥
 
--- The history has the call that was answered, with this answer, which a client was told at this time. `begins` says when
--- the call of each entry began: this one began before, and it was answered before each call that began later.
+-- The history has the call that was answered, with this answer, which a client was told at this time. `begins` says
+-- when the call of each entry began: this one began before, and it was answered before each call that began later.
 pub record IsToldAt (history : List Entry) (begins : (index : ℕ) → ℕ) (time : ℕ) (ended : Ended) : Type 0 where
   pub index : ℕ
   pub entry : Entry
@@ -31,13 +31,15 @@ pub record IsToldAt (history : List Entry) (begins : (index : ℕ) → ℕ) (tim
   pub order : (other : ℕ) (later : Entry) → slice_get history other ≡ Some later → time < begins other →
       IsAnsweredBefore entry later
 
--- The history is one of what clients saw of the object of this name, where a time is a place in `seen`. Each call of the
--- history began at a client, at the time that `begins` says. No two calls of the history have the same id, so it has
--- none twice. And each answer that a client was told is in the history.
+-- The history is one of what clients saw of the object of this name, where a time is a place in `seen`. Each call of
+-- the history began at a client, at the time that `begins` says, and is the last call of the object that began with its
+-- id. No two calls of the history have the same id. And each answer that a client was told is in the history.
 pub record IsHistoryOfSeen (name : List ℕ) (seen : List Notice) (history : List Entry) : Type 0 where
   pub begins : (index : ℕ) → ℕ
   pub begun : (index : ℕ) (entry : Entry) → slice_get history index ≡ Some entry →
       (notice : Notice) × (slice_get seen (begins index) ≡ Some notice) × IsBegunAs name notice entry
+  pub last : (index time : ℕ) (entry other : Entry) (notice : Notice) → slice_get history index ≡ Some entry →
+      slice_get seen time ≡ Some notice → IsBegunAs name notice other → other.call ≡ entry.call → time ≤ begins index
   pub distinct : (one other : ℕ) (first second : Entry) → slice_get history one ≡ Some first →
       slice_get history other ≡ Some second → first.call ≡ second.call → one ≡ other
   pub told : (time : ℕ) (ended : Ended) → slice_get seen time ≡ Some (Notice.Tells name ended) →

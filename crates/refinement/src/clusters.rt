@@ -1,5 +1,6 @@
 //! What each run of a cluster of nodes promises.
-ghost use Rattle.refinement.specs.ClusterLaws.{ClustersAreAtomic, ClustersHaveSystems, ClustersKeepValues, SeenHistoriesAreAtomic};
+ghost use Rattle.refinement.specs.ClusterLaws.{ClustersAreAtomic, ClustersHaveSystems, ClustersKeepValues};
+ghost use Rattle.refinement.specs.ClusterLaws.{SeenHistoriesAreAtomic};
 
 /// A law: whatever nodes do with all their objects, and however often they stop and start again, for each name they do
 /// what nodes would do that keep that object alone.
