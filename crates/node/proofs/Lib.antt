@@ -14,5 +14,6 @@ pub mod AgainLemmas
 pub mod LeftLemmas
 pub mod ActedLemmas
 pub mod StartLemmas
+pub mod RecoveryLemmas
 pub mod AnewLemmas
 pub mod AnewCopyLemmas

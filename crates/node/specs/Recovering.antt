@@ -1,11 +1,14 @@
 -- What a node carries out again from an entry of its log, and which entries it refuses.
-use Rattle.std.specs.Prelude.{◌≡◌, ◌≢◌, ◌⊎◌, ◌^◌, ⊤, ℕ, suc, nat_lt, Bool, true, false, Option, None, Some, Ok, Err}
+use Rattle.std.specs.Prelude.{◌≡◌, ◌≢◌, ◌⊎◌, ◌^◌, ⊤, ℕ, suc, nat_lt, Bool, true, false, List, Option, None, Some, Ok, Err}
 use Rattle.std.specs.Prelude.{Result}
+use Rattle.client_commands.specs.declared.command.Wanted.TheVariants as wanted
 use Rattle.frames.specs.Frame.{IsFrame}
 use Rattle.tag.specs.declared.refusal.Refusal.{Refusal}
 use Rattle.local_object.specs.Doing.{move_refusal}
 use Rattle.node_keeper.specs.Objects.{objects_of}
-use Rattle.recoveries.specs.Records.{Recovers}
+use Rattle.recoveries.specs.Records.{IsNamedReplyOutcome, Recovers}
+use Rattle.node_clients.specs.Calls.{call_under}
+use Rattle.node_clients.specs.declared.open_call.OpenCall.{OpenCall}
 use Rattle.node_log.specs.Entry.{sealed}
 use Rattle.node_messages.specs.Reading.{message_from}
 use Rattle.node_messages.specs.declared.error.Fault.{Fault}
@@ -17,6 +20,7 @@ use Rattle.node_strings.specs.Strings.{Strings}
 use Rattle.node_effects.specs.declared.error.NodeError.TheVariants as errors
 use Rattle.node_effects.specs.declared.error.RecoveryError.{RecoveryError}
 use Rattle.node_effects.specs.declared.error.RecoveryError.TheVariants as refusals
+use Rattle.node_keeper.specs.Delivering.{first_id}
 use Rattle.node_keeper.specs.Keeping.{kept_of}
 use Rattle.node_keeper.specs.Logging.{deeds_of}
 use Rattle.node_keeper.specs.declared.keeper.Keeper.{Keeper}
@@ -46,6 +50,46 @@ pub record KeepsDesk (old new : Node) : Type 0 where
   pub named : new.is_named ≡ old.is_named
   pub clients : new.desk.clients ≡ old.desk.clients
 
+-- the open calls of the desk are as they were
+abbrev pub KeepsCalls : (old new : Node) → Type 0
+KeepsCalls old new = new.desk.calls ≡ old.desk.calls
+
+-- under this id the desk has this call, or none, and under each other id what it had
+pub record HasCallUnder (old : Node) (id : ℕ) (call : Option OpenCall) (new : Node) : Type 0 where
+  pub here : call_under new.desk.calls id ≡ call
+  pub others : (other : ℕ) → other ≢ id → call_under new.desk.calls other ≡ call_under old.desk.calls other
+
+-- the call of this id is open at the desk no more, if an id is given, and no other has changed
+abbrev pub ClosesCall : (old : Node) → (id : Option ℕ) → (new : Node) → Type 0
+ClosesCall old None new = KeepsCalls old new
+ClosesCall old (Some id) new = HasCallUnder old id None new
+
+-- a move of the object of this name that goes on after a restart, as the desk has it: no client waits for it
+abbrev pub resumed_move : (name : List ℕ) → OpenCall
+resumed_move name = record {
+  name = name;
+  client = None;
+  wanted = wanted.Value;
+  is_move = true;
+  age = 0;
+  deletion = None;
+}
+
+-- a letter was taken again, if a frame was read as a message: the call that it ended, if it ended one, is open at the
+-- desk no more
+abbrev pub ClosesTaken : Result NodeMessage Fault → (old new : Node) → Type 0
+ClosesTaken (Ok message) old new =
+    (taken : IsNamedReplyOutcome (kept_of old.keeper) message.named.name message.named.letter (kept_of new.keeper))
+    × ClosesCall old (first_id taken.ended) new
+ClosesTaken (Err fault) old new = ⊥
+
+-- how the open calls of the desk change when a record is carried out again: a reply that is taken again closes the call
+-- that it ends, a move that begins again is open, and no other record changes them
+abbrev pub CarriesOutCalls : (old : Node) → Record → (new : Node) → Type 0
+CarriesOutCalls old (record_of.Take frame) new = ClosesTaken (message_from frame) old new
+CarriesOutCalls old (record_of.Move id name layout) new = HasCallUnder old id (Some (resumed_move name)) new
+CarriesOutCalls old it new = KeepsCalls old new
+
 -- the node carried out a record of its own log again
 pub record CarriesOutRecord (old : Node) (it : Record) (new : Node) : Type 0 where
   pub own : IsOwnLog it old
@@ -53,6 +97,7 @@ pub record CarriesOutRecord (old : Node) (it : Record) (new : Node) : Type 0 whe
   pub letter : HasItsLetter it
   pub recovers : Recovers (deeds_of it) (kept_of old.keeper) (kept_of new.keeper)
   pub clients : new.desk.clients ≡ old.desk.clients
+  pub calls : CarriesOutCalls old it new
 
 -- a node carried out again what an entry of its log records
 pub record CarriesOutEntry (old : Node) (entry : Strings) (new : Node) : Type 0 where

@@ -1,5 +1,5 @@
 //! How a node carries out the entries of its log again.
-ghost use Rattle.std.specs.Prelude.{◌≡◌, ◌∷◌, [], true, IfErr, IfOk, OnOk};
+ghost use Rattle.std.specs.Prelude.{◌≡◌, ◌∷◌, [], true, IfErr, IfOk, OnOk, Some};
 ghost use Rattle.local_object.specs.Doing.{serve_events};
 ghost use Rattle.local_object.specs.Events.{LocalEvent};
 ghost use Rattle.node_keeper.specs.Objects.{objects_of};
@@ -7,9 +7,11 @@ ghost use Rattle.node_effects.specs.declared.error.NodeError.TheVariants.{NoMemo
 ghost use Rattle.node_effects.specs.declared.error.RecoveryError.TheVariants.{Stopped};
 ghost use Rattle.node_strings.specs.declared.record.Record.TheVariants as record_of;
 ghost use Rattle.recoveries.specs.Records.{IsNamedHearing, IsNamedOutcome, IsStarted, IsNamedReplyOutcome};
+ghost use Rattle.node_keeper.specs.Delivering.{first_id};
 ghost use Rattle.node_keeper.specs.Keeping.{kept_of};
 ghost use Rattle.node.specs.Frames.{IsLetterOf};
-ghost use Rattle.node.specs.Recovering.{CarriesOutRecord, KeepsDesk, RefusesLetter, RefusesOwn, RefusesRecord};
+ghost use Rattle.node.specs.Recovering.{CarriesOutRecord, ClosesCall, HasCallUnder, KeepsCalls, KeepsDesk, RefusesLetter};
+ghost use Rattle.node.specs.Recovering.{RefusesOwn, RefusesRecord, resumed_move};
 
 use super::Node;
 use bytes::Bytes;
@@ -90,6 +92,7 @@ impl Node {
     fn recover_start(&mut self) -> Result<(), RecoveryError>
         ensures started { OnOk result (IsStarted (kept_of self.old.keeper) (kept_of self.new.keeper)) }
         ensures rest { KeepsDesk self.old self.new }
+        ensures calls { KeepsCalls self.old self.new }
         ensures refused { IfErr result (RefusesOwn self.old.keeper record_of.Start) }
     {
         if self.keeper.start_again() {
@@ -116,6 +119,7 @@ impl Node {
         ensures served { OnOk result (IsNamedOutcome (kept_of self.old.keeper) it.name
             (serve_events (objects_of self.old.keeper.objects it.name) it.letter) (kept_of self.new.keeper)) }
         ensures rest { KeepsDesk self.old self.new }
+        ensures calls { KeepsCalls self.old self.new }
         ensures refused { IfErr result (λ e. e ≡ Stopped NoMemory) }
     {
         match self.keeper.serve_again(it) {
@@ -127,7 +131,8 @@ impl Node {
     // A reply is taken again. A call that it answers is open no more, and nobody is told again.
     fn take_again(&mut self, it: NamedLetter) -> Result<(), RecoveryError>
         ensures taken { OnOk result
-            (IsNamedReplyOutcome (kept_of self.old.keeper) it.name it.letter (kept_of self.new.keeper)) }
+            ((taken : IsNamedReplyOutcome (kept_of self.old.keeper) it.name it.letter (kept_of self.new.keeper))
+            × ClosesCall self.old (first_id taken.ended) self.new) }
         ensures rest { KeepsDesk self.old self.new }
         ensures refused { IfErr result (λ e. e ≡ Stopped NoMemory) }
     {
@@ -145,6 +150,7 @@ impl Node {
     fn recover_move(&mut self, id: CallId, name: Bytes, layout: Layout) -> Result<(), RecoveryError>
         ensures begun { OnOk result (IsNamedOutcome (kept_of self.old.keeper) name (LocalEvent.BeginMove id layout ∷ [])
             (kept_of self.new.keeper)) }
+        ensures opened { OnOk result (HasCallUnder self.old id (Some (resumed_move name)) self.new) }
         ensures rest { KeepsDesk self.old self.new }
         ensures refused { IfErr result (RefusesOwn self.old.keeper (record_of.Move id name layout)) }
     {
@@ -177,6 +183,7 @@ impl Node {
         ensures heard { OnOk result
             (IsNamedHearing (kept_of self.old.keeper) name position layout (kept_of self.new.keeper)) }
         ensures rest { KeepsDesk self.old self.new }
+        ensures calls { KeepsCalls self.old self.new }
         ensures refused { IfErr result (λ e. e ≡ Stopped NoMemory) }
     {
         match self.keeper.hear_again(&name, position, layout) {
