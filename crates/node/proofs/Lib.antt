@@ -15,5 +15,8 @@ pub mod LeftLemmas
 pub mod ActedLemmas
 pub mod StartLemmas
 pub mod RecoveryLemmas
+pub mod OpenObjectLemmas
+pub mod TakenObjectLemmas
 pub mod AnewLemmas
 pub mod AnewCopyLemmas
+pub mod OpenMoveLemmas

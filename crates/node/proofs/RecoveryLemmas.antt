@@ -1,5 +1,5 @@
 -- A reply that is taken again.
-use Rattle.std.proofs.Common.{◌≡◌, true, List, [], ◌∷◌, OnOk, Result, Ok, Err, sym, subst, ◌∙◌}
+use Rattle.std.proofs.Common.{◌≡◌, true, [], ◌∷◌, OnOk, Result, Ok, Err, sym, subst, ◌∙◌}
 use Rattle.letter.specs.declared.letter.NamedLetter.{NamedLetter}
 use Rattle.node_strings.specs.Strings.{Strings}
 use Rattle.node_strings.specs.declared.record.Record.TheVariants as record_of

@@ -12,3 +12,4 @@ pub mod Handles
 pub mod Recovering
 pub mod Starts
 pub mod Anew
+pub mod OpenMoves

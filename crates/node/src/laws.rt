@@ -3,6 +3,7 @@ ghost use Rattle.node.specs.Anew.{AnewGivesCopies, HandledFramesKeepOwn, Handled
 ghost use Rattle.node.specs.Anew.{OwnCallsAreDistinct, RecoveredEntriesKeepOwn, StartedNodesKeepOwn};
 ghost use Rattle.node.specs.Anew.{StartingNodesHaveOwn};
 ghost use Rattle.node.specs.Info.{ReadyNodesHearQuorums};
+ghost use Rattle.node.specs.OpenMoves.{DesksHaveTheOpenMoves, StartedDesksHaveTheOpenMoves};
 ghost use Rattle.node.specs.Peers.{OthersAreToldOnce};
 
 /// A law: what a new node has from the entries that `Node::entries_anew` returns is a copy of the node.
@@ -52,4 +53,15 @@ pub fn others_are_told_once()
 /// before any move.
 pub fn ready_nodes_hear_quorums()
     ensures { ReadyNodesHearQuorums }
+{}
+
+/// A law: after a new node has carried out its log again, its desk has exactly the moves that are open at its objects,
+/// and no other call.
+pub fn desks_have_the_open_moves()
+    ensures { DesksHaveTheOpenMoves }
+{}
+
+/// A law: that is still so when the node has started.
+pub fn started_desks_have_the_open_moves()
+    ensures { StartedDesksHaveTheOpenMoves }
 {}

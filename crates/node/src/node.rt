@@ -77,6 +77,7 @@ impl Node {
         ensures digest { result.keeper.digest ≡ fixed_digest file.fixed }
         ensures named { result.is_named ≡ false }
         ensures waits { NoneWaits result.desk.clients [] }
+        ensures calls { result.desk.calls.entries ≡ [] }
         ensures peers { KnowsNothing result.peers }
     {
         Node {
@@ -96,6 +97,7 @@ impl Node {
         ensures started { OnOk result (IsStarted (kept_of self.old.keeper) (kept_of self.new.keeper)) }
         ensures entries { IfOk result (λ entries. entries.items ≡ start_entries self.old) }
         ensures named { OnOk result (CanBeNamed self.old) }
+        ensures desk { self.new.desk ≡ self.old.desk }
         ensures refused { IfErr result (IsNotStarted self.old.keeper.digest self.old.keeper.ids) }
     {
         let mut work = Work::new(self.alloc);
@@ -110,6 +112,7 @@ impl Node {
         ensures grown { OnOk result (IsGrown work.old work.new (name_growth self.old)) }
         ensures named { OnOk result (CanBeNamed self.old) }
         ensures keeper { self.new.keeper ≡ self.old.keeper }
+        ensures desk { self.new.desk ≡ self.old.desk }
         ensures refused { IfErr result (IsUnwritten
             (IsEntry (cluster_strings self.old.keeper.digest self.old.keeper.ids.node))) }
     {

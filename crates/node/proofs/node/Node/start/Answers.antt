@@ -20,6 +20,7 @@ returns c =
           c.in_ok-begin_epoch.ensures.ids c.in_ok-begin_epoch.ensures.objects c.in_ok-begin_epoch.ensures.file);
       entries = c.in_ok-entries.ensures.entries ∙ done.entries;
       named = c.in_ok-name_log.ensures.named;
+      desk = c.name_log.ensures.desk;
       refused = tt;
     }
 
