@@ -10,15 +10,19 @@ use Rattle.processes.specs.Events.{ProcessEvent, number_of, process_after, proce
 use Rattle.processes.specs.Laws.{IsClusterOf}
 use Rattle.processes.specs.Processes.{Process, Processes, SentFrame}
 use Rattle.processes.proofs.FateLemmas.{fate, fate_by}
+use Rattle.processes.proofs.KnownIdLemmas.{AreKnown}
 use Rattle.processes.proofs.StandingLemmas.{IsAmong, Stands, stands_wider}
+use Rattle.processes.proofs.ToldOnlyLemmas.{AllTellOnly}
 use Rattle.processes.specs.Letters.{IsCarried}
 
 -- the process of each node stands beside the cluster's node, all frames that were written have letters of the cluster,
--- and the cluster is one of these processes
+-- the ids of its calls are known, answers that wait tell nothing else, and the cluster is one of these processes
 pub record GoesOn (names : FileOfNames) (events : List ProcessEvent) (processes : Processes) (cluster : NodeCluster) : Type 0 where
   pub each : (number : ℕ) →
       Stands names number (fate events number) (processes.at number) (cluster.nodes number) cluster.letters cluster.notices
   pub sent : AllByRecursion (λ (it : SentFrame). IsCarried cluster.letters it.frame) processes.sent
+  pub known : AreKnown processes cluster
+  pub tell : AllTellOnly processes
   pub is : IsClusterOf processes cluster
 
 -- the process of the event, before it

@@ -11,7 +11,10 @@ pub mod StartedStepLemmas
 pub mod RenewedStepLemmas
 pub mod NotedLemmas
 pub mod SafeLogLemmas
+pub mod GivenIdLemmas
+pub mod KnownIdLemmas
 pub mod SeenLemmas
+pub mod ToldOnlyLemmas
 pub mod BesideLemmas
 pub mod CameLemmas
 pub mod OutcomeLemmas

@@ -45,8 +45,11 @@ begins names events = record {
     file = refl;
   };
   sent = tt;
+  known = λ place id begins. absurd (none begins.0 place begins.1);
+  tell = λ number. tt;
   is = record {
     place = λ index. index;
+    last = λ index at id call other there. absurd (none call index there);
     begun = λ index notice at begins. absurd (none notice index at);
     told = λ at notice here tells. absurd (none notice at here);
   };

@@ -30,7 +30,7 @@ one_number (LogRecord.Takes name letter) old new is = is.put.node
 one_number (LogRecord.Moves name id layout) old new is = is.put.node
 one_number (LogRecord.Hears name position layout) old new is = is.put.node
 
-number_kept : (records : List LogRecord) (old new : KeptNode) → Recovers records old new → new.ids.node ≡ old.ids.node
+pub number_kept : (records : List LogRecord) (old new : KeptNode) → Recovers records old new → new.ids.node ≡ old.ids.node
 number_kept [] old new same = same.node
 number_kept (one ∷ records) old new is =
     number_kept records is.0 new is.2 ∙ one_number one old is.0 is.1

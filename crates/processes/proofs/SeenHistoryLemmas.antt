@@ -1,5 +1,5 @@
 -- An atomic history of what clients of the cluster saw is one of what those of the processes saw.
-use Rattle.std.proofs.Common.{◌≡◌, ◌⊎◌, inl, inr, ◌<◌, ℕ, true, List, Some, slice_get, refl, sym, ap, ◌∙◌, arith}
+use Rattle.std.proofs.Common.{◌≡◌, ◌⊎◌, inl, inr, ◌<◌, ◌≤◌, ℕ, true, List, Some, slice_get, refl, sym, ap, ◌∙◌, arith}
 use Rattle.std.proofs.lemmas.Option.{same_Some}
 use Rattle.encoder.specs.Fragment.{fragment}
 use Rattle.record.specs.declared.call.Entry.{Entry}
@@ -11,7 +11,7 @@ use Rattle.refinement.specs.Clusters.{NodeCluster}
 use Rattle.refinement.specs.SeenHistories.{IsBegunAs, IsHistoryOfSeen, IsToldAt}
 use Rattle.refinement.proofs.ClusterLemmas.{seen_atomic}
 use Rattle.processes.specs.Events.{is_begun}
-use Rattle.processes.specs.Laws.{ClientsSeeAtomicHistories, IsClusterOf}
+use Rattle.processes.specs.Laws.{ClientsSeeAtomicHistories, IsClusterOf, call_begun}
 use Rattle.processes.specs.Processes.{Processes}
 use Rattle.processes.proofs.ProcessLawLemmas.{are_atomic}
 
@@ -21,6 +21,12 @@ says_begun name (Notice.Reads other id) entry begun = refl
 says_begun name (Notice.Writes other id value) entry begun = refl
 says_begun name (Notice.Moves other id layout) entry begun = refl
 says_begun name (Notice.Tells other ended) entry begun = absurd begun
+
+begins_with : (name : List ℕ) (notice : Notice) (entry : Entry) → IsBegunAs name notice entry → call_begun notice ≡ Some entry.call
+begins_with name (Notice.Reads other id) entry begun = ap Some (sym begun.1)
+begins_with name (Notice.Writes other id value) entry begun = ap Some (sym begun.1)
+begins_with name (Notice.Moves other id layout) entry begun = ap Some (sym begun.1)
+begins_with name (Notice.Tells other ended) entry begun = absurd begun
 
 module _ (processes : Processes) (cluster : NodeCluster) (is : IsClusterOf processes cluster) (name : List ℕ) (history : List Entry)
     (of : IsHistoryOfSeen name cluster.notices history) where
@@ -32,6 +38,13 @@ module _ (processes : Processes) (cluster : NodeCluster) (is : IsClusterOf proce
   begun_there index entry at =
       let there = of.begun index entry at in
       (there.0, is.begun (of.begins index) there.0 there.1 (says_begun name there.0 entry there.2), there.2)
+
+  last_there : (index time : ℕ) (entry other : Entry) (notice : Notice) → slice_get history index ≡ Some entry →
+      slice_get processes.seen time ≡ Some notice → IsBegunAs name notice other → other.call ≡ entry.call → time ≤ begins index
+  last_there index time entry other notice at seen by same =
+      let there = of.begun index entry at in
+      is.last (of.begins index) time entry.call there.0 notice there.1 (begins_with name there.0 entry there.2) seen
+      (begins_with name notice other by ∙ ap Some same)
 
   -- a call began at another place than its answer
   apart : (time : ℕ) (ended : Ended) → slice_get processes.seen time ≡ Some (Notice.Tells name ended) → (index : ℕ) (entry : Entry) →
@@ -67,7 +80,7 @@ module _ (processes : Processes) (cluster : NodeCluster) (is : IsClusterOf proce
       before {place} {time} {index} {began} less apart later = grind arith
 
   pub seen_through : IsHistoryOfSeen name processes.seen history
-  seen_through = record { begins = begins; begun = begun_there; distinct = of.distinct; told = told_there }
+  seen_through = record { begins = begins; begun = begun_there; last = last_there; distinct = of.distinct; told = told_there }
 
 pub clients_see : LeftLogIsRead → ClientsSeeAtomicHistories
 clients_see law processes reached name =

@@ -1,5 +1,5 @@
 -- What clients of the processes see, and what clients of the cluster beside them see.
-use Rattle.std.proofs.Common.{◌≡◌, ◌⊎◌, inl, inr, ◌<◌, ◌+◌, ◌-◌, ℕ, zero, suc, Bool, true, false, cond, if◌then◌else◌}
+use Rattle.std.proofs.Common.{◌≡◌, ◌⊎◌, inl, inr, ◌<◌, ◌≤◌, ◌+◌, ◌-◌, ℕ, zero, suc, Bool, true, false, cond, if◌then◌else◌}
 use Rattle.std.proofs.Common.{List, [], ◌∷◌, ◌++◌, length, take, Some, slice_get, refl, sym, subst, ap, ◌∙◌, arith}
 use Rattle.std.specs.Prelude.{nat_lt}
 use Rattle.std.specs.List.{filter}
@@ -7,8 +7,10 @@ use Rattle.std.proofs.lemmas.Bool.{lt-ltb, le-ltb}
 use Rattle.deeds.specs.Deeds.{Notice}
 use Rattle.refinement.specs.Clusters.{NodeCluster}
 use Rattle.processes.specs.Events.{ProcessEvent, is_begun, is_told, number_of, processes_after, seen_in}
-use Rattle.processes.specs.Laws.{IsClusterOf}
+use Rattle.processes.specs.Laws.{IsClusterOf, call_begun}
 use Rattle.processes.specs.Processes.{Processes}
+use Rattle.processes.proofs.GivenIdLemmas.{BeginApart}
+use Rattle.processes.proofs.KnownIdLemmas.{AreNew}
 use Rattle.processes.proofs.LogLemmas.{some_is}
 use Rattle.processes.proofs.PlaceLemmas.{slice_first, slice_second, slice_split, slice_within}
 use Rattle.processes.proofs.StandingLemmas.{IsAmong}
@@ -35,7 +37,7 @@ passed_place p (x ∷ xs) ys (suc k) notice e passes = go (p x) (passed_place p 
     go true is = is
     go false is = is
 
-passed : (p : Notice → Bool) (xs : List Notice) (i : ℕ) (notice : Notice) → slice_get (filter p xs) i ≡ Some notice →
+pub passed : (p : Notice → Bool) (xs : List Notice) (i : ℕ) (notice : Notice) → slice_get (filter p xs) i ≡ Some notice →
     p notice ≡ true
 passed p [] i notice e = absurd (cc)
 passed p (x ∷ xs) i notice e = go (p x) refl i e (passed p xs)
@@ -47,11 +49,18 @@ passed p (x ∷ xs) i notice e = go (p x) refl i e (passed p xs)
     go false e i at later = later i notice at
 
 -- no notice says both that a call began and that a client is told an answer
-not_both : (notice : Notice) → is_begun notice ≡ true → is_told notice ≡ true → ⊥
+pub not_both : (notice : Notice) → is_begun notice ≡ true → is_told notice ≡ true → ⊥
 not_both (Notice.Reads name id) begun told = absurd (cc)
 not_both (Notice.Writes name id value) begun told = absurd (cc)
 not_both (Notice.Moves name id layout) begun told = absurd (cc)
 not_both (Notice.Tells name ended) begun told = absurd (cc)
+
+-- a notice with the id of a call that began says that it began
+pub id_begun : (notice : Notice) (id : ℕ) → call_begun notice ≡ Some id → is_begun notice ≡ true
+id_begun (Notice.Reads name given) id is = refl
+id_begun (Notice.Writes name given value) id is = refl
+id_begun (Notice.Moves name given layout) id is = refl
+id_begun (Notice.Tells name ended) id is = absurd (cc)
 
 -- of calls that begin, no client is told an answer
 pub begun_only : (xs : List Notice) (i : ℕ) (notice : Notice) → slice_get (filter is_begun xs) i ≡ Some notice →
@@ -63,16 +72,26 @@ begun_only xs i notice e told = not_both notice (passed is_begun xs i notice e) 
 -- nothing happened to the cluster, and what clients were told in the event, those of the cluster had been told
 pub quiet_seen : (processes : Processes) (cluster : NodeCluster) (event : ProcessEvent) →
     ((notice : Notice) → is_told notice ≡ true → IsAmong (seen_in (processes.at (number_of event)) event) notice →
-    IsAmong cluster.notices notice) → IsClusterOf processes cluster → IsClusterOf (processes_after processes event) cluster
-quiet_seen processes cluster event told is = record {
+    IsAmong cluster.notices notice) → AreNew cluster.notices (seen_in (processes.at (number_of event)) event) →
+    IsClusterOf processes cluster → IsClusterOf (processes_after processes event) cluster
+quiet_seen processes cluster event told fresh is = record {
   place = is.place;
   begun = λ index notice at begins.
       slice_first processes.seen now (is.place index) notice (is.begun index notice at begins);
+  last = λ index at id call other there begins seen also. latest index at id call other there begins also
+      (slice_split processes.seen now at other seen);
   told = λ at notice here tells. go at notice tells (slice_split processes.seen now at notice here);
 }
   where
     now : List Notice
     now = seen_in (processes.at (number_of event)) event
+
+    latest : (index at id : ℕ) (call other : Notice) → slice_get cluster.notices index ≡ Some call → call_begun call ≡ Some id →
+        call_begun other ≡ Some id → (slice_get processes.seen at ≡ Some other)
+        ⊎ ((k : ℕ) × (at ≡ length processes.seen + k) × (slice_get now k ≡ Some other)) → at ≤ is.place index
+    latest index at id call other there begins also (inl before) = is.last index at id call other there begins before also
+    latest index at id call other there begins also (inr new) =
+        absurd (fresh index new.0 id (call, there, begins) (other, new.2, also))
 
     Found : ℕ → Notice → Type 0
     Found at notice = (index : ℕ) × (slice_get cluster.notices index ≡ Some notice)
@@ -98,6 +117,7 @@ quiet_seen processes cluster event told is = record {
 module _ (processes : Processes) (cluster next : NodeCluster) (event : ProcessEvent) (told unseen : List Notice)
     (grown : next.notices ≡ cluster.notices ++ told)
     (shows : seen_in (processes.at (number_of event)) event ≡ filter is_begun (told ++ unseen))
+    (fresh : AreNew cluster.notices (filter is_begun (told ++ unseen))) (apart : BeginApart (filter is_begun (told ++ unseen)))
     (is : IsClusterOf processes cluster) where
   abbrev calls : List Notice
   calls = filter is_begun (told ++ unseen)
@@ -135,6 +155,24 @@ module _ (processes : Processes) (cluster next : NodeCluster) (event : ProcessEv
       ∙ slice_second processes.seen calls (length (filter is_begun (take new.0 told)))
       ∙ passed_place is_begun told unseen new.0 notice new.2 begins
 
+  last_there : (index at id : ℕ) (call other : Notice) → call_begun call ≡ Some id → call_begun other ≡ Some id →
+      (slice_get cluster.notices index ≡ Some call)
+      ⊎ ((k : ℕ) × (index ≡ length cluster.notices + k) × (slice_get told k ≡ Some call)) →
+      (slice_get processes.seen at ≡ Some other)
+      ⊎ ((k : ℕ) × (at ≡ length processes.seen + k) × (slice_get calls k ≡ Some other)) → at ≤ new_place index
+  last_there index at id call other begins also (inl a) (inl b) =
+      subst (λ n. at ≤ n) (sym (old_place index (slice_within cluster.notices index call a))) (is.last index at id call other a begins b also)
+  last_there index at id call other begins also (inl a) (inr b) =
+      absurd (fresh index b.0 id (call, a, begins) (other, b.2, also))
+  last_there index at id call other begins also (inr a) (inl b) =
+      let within = slice_within processes.seen at other b in
+      subst (λ n. at ≤ n) (sym (ap new_place a.1 ∙ later_place a.0)) (omega arith)
+  last_there index at id call other begins also (inr a) (inr b) =
+      let there = passed_place is_begun told unseen a.0 call a.2 (id_begun call id begins) in
+      let same = apart (length (filter is_begun (take a.0 told))) b.0 id (call, there, begins) (other, b.2, also) in
+      let far = b.1 in
+      subst (λ n. at ≤ n) (sym (ap new_place a.1 ∙ later_place a.0)) (omega arith)
+
   abbrev Found : ℕ → Notice → Type 0
   Found at notice = (index : ℕ) × (slice_get next.notices index ≡ Some notice)
       × ((other : ℕ) (call : Notice) → slice_get next.notices other ≡ Some call → is_begun call ≡ true →
@@ -170,6 +208,9 @@ module _ (processes : Processes) (cluster next : NodeCluster) (event : ProcessEv
     begun = λ index notice at begins. subst (λ ns. slice_get (processes.seen ++ ns) (new_place index) ≡ Some notice) (sym shows)
         (begins_there index notice begins
         (slice_split cluster.notices told index notice (subst (λ ns. slice_get ns index ≡ Some notice) grown at)));
+    last = λ index at id call other there begins seen also. last_there index at id call other begins also
+        (slice_split cluster.notices told index call (subst (λ ns. slice_get ns index ≡ Some call) grown there))
+        (slice_split processes.seen calls at other (subst (λ ns. slice_get (processes.seen ++ ns) at ≡ Some other) shows seen));
     told = λ at notice here tells. told_there at notice tells
         (slice_split processes.seen calls at notice (subst (λ ns. slice_get (processes.seen ++ ns) at ≡ Some notice) shows here));
   }

@@ -1,5 +1,6 @@
 -- The laws: a cluster of node programs is, at each moment, a cluster of nodes as `refinement` defines it.
-use Rattle.std.specs.Prelude.{◌≡◌, ◌⊎◌, ◌<◌, ℕ, true, List, [], ◌∷◌, Some, slice_get}
+use Rattle.std.specs.Prelude.{◌≡◌, ◌⊎◌, ◌<◌, ◌≤◌, ℕ, true, List, [], ◌∷◌, Option, None, Some}
+use Rattle.std.specs.Prelude.{slice_get}
 use Rattle.encoder.specs.Fragment.{fragment}
 use Rattle.record.specs.declared.call.Entry.{Entry}
 use Rattle.atomicity.specs.Atomic.{IsAtomic}
@@ -17,13 +18,22 @@ use Rattle.processes.specs.Events.{ProcessEvent, is_begun, is_told, processes_af
 use Rattle.processes.specs.Processes.{Processes, new_processes}
 use Rattle.processes.specs.Runs.{AreReached, MayAllHappenTo}
 
+-- the id of the call that began, if the notice says that one began
+abbrev pub call_begun : Notice → Option ℕ
+call_begun (Notice.Reads name id) = Some id
+call_begun (Notice.Writes name id value) = Some id
+call_begun (Notice.Moves name id layout) = Some id
+call_begun (Notice.Tells name ended) = None
+
 -- What the clients of the cluster saw is what those of the processes saw: each call of the cluster began at a client of
--- the processes, at this place among the things that they saw. What they were told, the clients of the cluster were
--- told too, and before each call that began later.
+-- the processes, at this place among the things that they saw, and no later call there began with its id. What they were
+-- told, the clients of the cluster were told too, and before each call that began later.
 pub record IsClusterOf (processes : Processes) (cluster : NodeCluster) : Type 0 where
   pub place : ℕ → ℕ
   pub begun : (index : ℕ) (notice : Notice) → slice_get cluster.notices index ≡ Some notice →
       is_begun notice ≡ true → slice_get processes.seen (place index) ≡ Some notice
+  pub last : (index at id : ℕ) (call other : Notice) → slice_get cluster.notices index ≡ Some call →
+      call_begun call ≡ Some id → slice_get processes.seen at ≡ Some other → call_begun other ≡ Some id → at ≤ place index
   pub told : (at : ℕ) (notice : Notice) → slice_get processes.seen at ≡ Some notice → is_told notice ≡ true →
       (index : ℕ) × (slice_get cluster.notices index ≡ Some notice)
       × ((other : ℕ) (call : Notice) → slice_get cluster.notices other ≡ Some call → is_begun call ≡ true →
