@@ -12,7 +12,7 @@ use Rattle.deeds.specs.CallId.{CallIds}
 use Rattle.deeds.specs.Deeds.{Deed, Notice, after_deed, after_deeds, noticed}
 use Rattle.deeds.specs.Ids.{HaveNextIds, IsGiven, IsLater, IsNextId, begun_id, deed_id}
 use Rattle.deeds.proofs.IdLemmas.{later_then, next_later}
-use Rattle.deeds.proofs.UsedIdLemmas.{next_unused, used_later, used_now}
+use Rattle.deeds.proofs.UsedIdLemmas.{next_unused, used_now}
 use Rattle.processes.specs.Events.{is_begun}
 use Rattle.processes.specs.Laws.{call_begun}
 use Rattle.processes.proofs.PlaceLemmas.{slice_split}

@@ -1,7 +1,6 @@
 -- No call begins with an id that a call of the cluster has.
-use Rattle.std.proofs.Common.{◌≡◌, ◌⊎◌, inl, inr, ◌<◌, ◌≤◌, ◌+◌, ◌^◌, ℕ, suc, Bool, true, false, cond, eqb, eqb-true, eq-eqb}
-use Rattle.std.proofs.Common.{List, [], ◌∷◌, ◌++◌, length, drop, take, Option, None, Some, slice_get, refl, sym, subst, ap, ◌∙◌, arith}
-use Rattle.std.proofs.lemmas.Bool.{ne_eqb}
+use Rattle.std.proofs.Common.{◌≡◌, ◌⊎◌, inl, inr, ◌<◌, ◌≤◌, ◌+◌, ◌^◌, ℕ, Bool, true, false, cond, eqb, eqb-true, eq-eqb}
+use Rattle.std.proofs.Common.{List, [], ◌∷◌, ◌++◌, length, drop, take, Option, Some, slice_get, refl, sym, subst, ap, ◌∙◌, arith}
 use Rattle.std.proofs.lemmas.List.{take-append-drop, take-take}
 use Rattle.std.proofs.lemmas.Option.{same_Some}
 use Rattle.deeds.specs.CallId.{CallIds, HasRanges, IdsDiffer, after_given, next_given_id}
@@ -80,7 +79,8 @@ known_after running then ids later number others_run others kept runs id is =
               (subst (λ n. (node : Node) → running n ≡ Some node → IsLater given node.keeper.ids) same is.runs),
         )
     go false e =
-        let differ : is.now.node ≡ number → ⊥ = λ same. absurd (let wrong : false ≡ true = sym e ∙ eq-eqb is.now.node number same in cc) in (
+        let differ : is.now.node ≡ number → ⊥ =
+        λ same. absurd (let wrong : false ≡ true = sym e ∙ eq-eqb is.now.node number same in cc) in (
           subst (IsLater given) (sym (others is.now.node differ)) is.kept,
           λ node r. is.runs node (sym (others_run is.now.node differ) ∙ r),
         )

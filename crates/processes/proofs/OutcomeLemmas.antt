@@ -1,5 +1,5 @@
 -- What an event of processes does to the cluster that goes beside them: nothing, a start, or what a node does with letters.
-use Rattle.std.proofs.Common.{Option, Some, ◌≡◌, inl, inr, ℕ, true, cond, eqb, eq-eqb, List, [], ◌∷◌, ◌++◌}
+use Rattle.std.proofs.Common.{Option, Some, ◌≡◌, inl, inr, ℕ, true, cond, eq-eqb, List, [], ◌∷◌, ◌++◌}
 use Rattle.std.proofs.Common.{slice_get, refl, sym, subst, ap, ◌∙◌}
 use Rattle.std.proofs.lemmas.Bool.{ne_eqb}
 use Rattle.std.proofs.lemmas.Option.{same_Some}

@@ -1,5 +1,5 @@
 -- An atomic history of what clients of the cluster saw is one of what those of the processes saw.
-use Rattle.std.proofs.Common.{◌≡◌, ◌⊎◌, inl, inr, ◌<◌, ◌≤◌, ℕ, true, List, Some, slice_get, refl, sym, ap, ◌∙◌, arith}
+use Rattle.std.proofs.Common.{◌≡◌, ◌<◌, ◌≤◌, ℕ, true, List, Some, slice_get, refl, sym, ap, ◌∙◌, arith}
 use Rattle.std.proofs.lemmas.Option.{same_Some}
 use Rattle.encoder.specs.Fragment.{fragment}
 use Rattle.record.specs.declared.call.Entry.{Entry}

@@ -161,7 +161,8 @@ module _ (processes : Processes) (cluster next : NodeCluster) (event : ProcessEv
       (slice_get processes.seen at ≡ Some other)
       ⊎ ((k : ℕ) × (at ≡ length processes.seen + k) × (slice_get calls k ≡ Some other)) → at ≤ new_place index
   last_there index at id call other begins also (inl a) (inl b) =
-      subst (λ n. at ≤ n) (sym (old_place index (slice_within cluster.notices index call a))) (is.last index at id call other a begins b also)
+      subst (λ n. at ≤ n) (sym (old_place index (slice_within cluster.notices index call a)))
+      (is.last index at id call other a begins b also)
   last_there index at id call other begins also (inl a) (inr b) =
       absurd (fresh index b.0 id (call, a, begins) (other, b.2, also))
   last_there index at id call other begins also (inr a) (inl b) =

@@ -1,6 +1,6 @@
 -- Answers that wait tell clients answers alone, and no calls that begin.
-use Rattle.std.proofs.Common.{◌≡◌, ℕ, Bool, true, false, cond, eqb, List, [], ◌∷◌, ◌++◌, drop, Some, slice_get}
-use Rattle.std.specs.List.{AllByRecursion, filter}
+use Rattle.std.proofs.Common.{◌≡◌, ℕ, Bool, true, false, cond, eqb, List, [], ◌∷◌, drop, Some, slice_get}
+use Rattle.std.specs.List.{AllByRecursion}
 use Rattle.deeds.specs.Deeds.{Notice}
 use Rattle.open_calls.proofs.ListLemmas.{all_append}
 use Rattle.processes.specs.Events.{ProcessEvent, first_told, is_told, noticed_by, number_of, process_after, processes_after}

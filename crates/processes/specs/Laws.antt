@@ -26,14 +26,15 @@ call_begun (Notice.Moves name id layout) = Some id
 call_begun (Notice.Tells name ended) = None
 
 -- What the clients of the cluster saw is what those of the processes saw: each call of the cluster began at a client of
--- the processes, at this place among the things that they saw, and no later call there began with its id. What they were
--- told, the clients of the cluster were told too, and before each call that began later.
+-- the processes, at this place among the things that they saw, and no later call there began with its id. What they
+-- were told, the clients of the cluster were told too, and before each call that began later.
 pub record IsClusterOf (processes : Processes) (cluster : NodeCluster) : Type 0 where
   pub place : ℕ → ℕ
   pub begun : (index : ℕ) (notice : Notice) → slice_get cluster.notices index ≡ Some notice →
       is_begun notice ≡ true → slice_get processes.seen (place index) ≡ Some notice
   pub last : (index at id : ℕ) (call other : Notice) → slice_get cluster.notices index ≡ Some call →
-      call_begun call ≡ Some id → slice_get processes.seen at ≡ Some other → call_begun other ≡ Some id → at ≤ place index
+      call_begun call ≡ Some id → slice_get processes.seen at ≡ Some other → call_begun other ≡ Some id →
+      at ≤ place index
   pub told : (at : ℕ) (notice : Notice) → slice_get processes.seen at ≡ Some notice → is_told notice ≡ true →
       (index : ℕ) × (slice_get cluster.notices index ≡ Some notice)
       × ((other : ℕ) (call : Notice) → slice_get cluster.notices other ≡ Some call → is_begun call ≡ true →
