@@ -19,4 +19,5 @@ pub mod OpenObjectLemmas
 pub mod TakenObjectLemmas
 pub mod AnewLemmas
 pub mod AnewCopyLemmas
+pub mod ResumedDeskLemmas
 pub mod OpenMoveLemmas

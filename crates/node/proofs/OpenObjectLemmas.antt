@@ -114,7 +114,8 @@ some_push [] new id = go (eqb new.id id)
 some_push (first ∷ calls) new id = go (eqb first.id id) (some_push calls new id)
   where
     go : (b : Bool) → is_some (open_call (calls ++ new ∷ []) id) ≡ (is_some (open_call calls id) || eqb new.id id) →
-        is_some (cond b (Some first) (open_call (calls ++ new ∷ []) id)) ≡ (is_some (cond b (Some first) (open_call calls id)) || eqb new.id id)
+        is_some (cond b (Some first) (open_call (calls ++ new ∷ []) id))
+        ≡ (is_some (cond b (Some first) (open_call calls id)) || eqb new.id id)
     go true rest = refl
     go false rest = rest
 
@@ -131,7 +132,8 @@ same_keeps old new same all = (
   λ id. ap (λ calls. is_some (open_call calls id)) same,
 )
 
-with_keeps : (local : LocalObject) (new : NodeCall) → is_move new.kind ≡ true → KeepsOpen local (record local { calls = with_open new local.calls })
+with_keeps : (local : LocalObject) (new : NodeCall) → is_move new.kind ≡ true →
+    KeepsOpen local (record local { calls = with_open new local.calls })
 with_keeps local new move all = (moves_with new local.calls move all, λ id. some_with new local.calls id)
 
 on_open_keeps : (local : LocalObject) (id : ℕ) (change : NodeCall → Outcome) →
@@ -159,7 +161,8 @@ advance_keeps local id =
     on_open_keeps local id (λ call. advanced_here fragment local call (due_phase call))
     (λ call move. advanced_keeps local call move (due_phase call))
 
-pub settle_keeps : (local : LocalObject) (id : ℕ) (value : List ℕ) → KeepsOpen local (done_here fragment local (LocalEvent.Settle id value)).local
+pub settle_keeps : (local : LocalObject) (id : ℕ) (value : List ℕ) →
+    KeepsOpen local (done_here fragment local (LocalEvent.Settle id value)).local
 settle_keeps local id value =
     on_open_keeps local id (λ call. silent (record local { calls = with_open (record call { settled = Some value }) local.calls }))
     (λ call move. with_keeps local (record call { settled = Some value }) move)

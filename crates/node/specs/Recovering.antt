@@ -1,6 +1,6 @@
 -- What a node carries out again from an entry of its log, and which entries it refuses.
-use Rattle.std.specs.Prelude.{◌≡◌, ◌≢◌, ◌⊎◌, ◌^◌, ⊤, ℕ, suc, nat_lt, Bool, true, false, List, Option, None, Some, Ok, Err}
-use Rattle.std.specs.Prelude.{Result}
+use Rattle.std.specs.Prelude.{◌≡◌, ◌≢◌, ◌⊎◌, ◌^◌, ⊤, ℕ, suc, nat_lt, Bool, true, false, List, Option, None, Some}
+use Rattle.std.specs.Prelude.{Result, Ok, Err}
 use Rattle.client_commands.specs.declared.command.Wanted.TheVariants as wanted
 use Rattle.frames.specs.Frame.{IsFrame}
 use Rattle.tag.specs.declared.refusal.Refusal.{Refusal}

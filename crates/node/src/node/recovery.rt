@@ -10,8 +10,8 @@ ghost use Rattle.recoveries.specs.Records.{IsNamedHearing, IsNamedOutcome, IsSta
 ghost use Rattle.node_keeper.specs.Delivering.{first_id};
 ghost use Rattle.node_keeper.specs.Keeping.{kept_of};
 ghost use Rattle.node.specs.Frames.{IsLetterOf};
-ghost use Rattle.node.specs.Recovering.{CarriesOutRecord, ClosesCall, HasCallUnder, KeepsCalls, KeepsDesk, RefusesLetter};
-ghost use Rattle.node.specs.Recovering.{RefusesOwn, RefusesRecord, resumed_move};
+ghost use Rattle.node.specs.Recovering.{CarriesOutRecord, ClosesCall, HasCallUnder, KeepsCalls, KeepsDesk};
+ghost use Rattle.node.specs.Recovering.{RefusesLetter, RefusesOwn, RefusesRecord, resumed_move};
 
 use super::Node;
 use bytes::Bytes;
