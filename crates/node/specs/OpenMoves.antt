@@ -1,3 +1,4 @@
+-- The contracts that docs/trusted.md lists do not depend on this file; other contracts and proofs do.
 -- The moves that are open at a node after it has carried out its log again, and the calls of its desk.
 use Rattle.std.specs.Prelude.{◌≡◌, ◌≢◌, ◌↔◌, ℕ, true, List, [], ◌∷◌, ◌++◌, Option, Some}
 use Rattle.std.specs.List.{AllByRecursion}
@@ -42,7 +43,7 @@ AreDistinctIds (id ∷ ids) = AllByRecursion (λ other. other ≢ id) ids × Are
 -- The laws
 
 -- after a new node has carried out entries of a log again, its desk has exactly its open moves, if no two of the moves
--- that these entries say began have the same id; none have that a node logged, since it gives each id once
+-- that these entries say began have the same id; a node's own log has no such two, since the node gives each id once
 abbrev pub DesksHaveTheOpenMoves : Type 0
 DesksHaveTheOpenMoves = (file : FileContents) (number : ℕ) (new copy : Node) (entries : List Strings) →
     IsLawfulFile file → kept_of new.keeper ≡ new_node (names_of file) number → new.desk.calls.entries ≡ [] →
