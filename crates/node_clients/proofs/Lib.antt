@@ -1,3 +1,4 @@
+pub mod FittingLemmas
 pub mod TellLemmas
 pub mod ServedLemmas
 pub mod EndLemmas

@@ -1,5 +1,7 @@
 -- What the clients of a node are sent.
 use Rattle.std.specs.Prelude.{ℕ, ◌==◌, Bool, if◌then◌else◌, List, [], ◌∷◌, length, Option, None, Some}
+use Rattle.std.specs.List.{AllByRecursion}
+use Rattle.frames.specs.Frame.{IsShort}
 use Rattle.record.specs.Sending.{value_or_empty}
 use Rattle.record.specs.declared.call.Operation.{Operation}
 use Rattle.record.specs.declared.call.Operation.TheVariants as operation
@@ -18,6 +20,10 @@ use Rattle.node_effects.specs.declared.work.Work.{Work}
 -- the frame of an answer to a client
 abbrev pub answer_frame : (client : ℕ) → Answer → List (List ℕ)
 answer_frame client answer = client_address client ∷ sent_strings answer
+
+-- the answer can be sent: each of its strings fits into a frame
+abbrev pub CanBeSent : Answer → Type 0
+CanBeSent answer = AllByRecursion IsShort (sent_strings answer)
 
 -- what is added to a node's work when a client is sent an answer: the frame, and that its next command is due
 abbrev pub answer_sent : (client : ℕ) → Answer → Growth

@@ -1,9 +1,10 @@
 //! The clients of a node, and the calls that it carries out.
-ghost use Rattle.std.specs.Prelude.{◌≡◌, ◌≢◌, [], ℕ, nat_eq, is_some, IsSome, OnOk};
+ghost use Rattle.std.specs.Prelude.{◌≡◌, ◌≢◌, [], ℕ, nat_eq, is_some, IfErr, IsSome, OnOk};
 ghost use Rattle.indexmap.specs.IndexMap.{get};
 ghost use Rattle.node_clients.specs.Connections.{doing, waiting_on};
 ghost use Rattle.node_clients.specs.declared.connection.State.TheVariants.{Quit};
 ghost use Rattle.node_effects.specs.Work.{IsGrown};
+ghost use Rattle.node_effects.specs.declared.error.NodeError.TheVariants.{NoMemory};
 ghost use Rattle.node_clients.specs.Answers.{TellsClients, quit_growth};
 ghost use Rattle.node_clients.specs.Desk.{none_counted, with_drop};
 
@@ -74,6 +75,7 @@ impl Desk {
             → get nat_eq self.new.clients.by_number other ≡ get nat_eq self.old.clients.by_number other) }
         ensures calls { self.new.calls ≡ self.old.calls }
         ensures counts { self.new.counts ≡ self.old.counts }
+        ensures refused { IfErr result (λ e. e ≡ NoMemory) }
     {
         work.answer(client, Answer::Ok)?;
         work.close(client)?;

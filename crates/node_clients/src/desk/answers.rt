@@ -1,8 +1,9 @@
 //! Answers to commands.
-ghost use Rattle.std.specs.Prelude.{◌≡◌, OnOk};
+ghost use Rattle.std.specs.Prelude.{◌≡◌, IfErr, OnOk};
 ghost use Rattle.client_commands.specs.declared.answer.Answer.TheVariants as answers;
+ghost use Rattle.node_effects.specs.Errors.{IsUnwritten};
 ghost use Rattle.node_effects.specs.Work.{IsGrown};
-ghost use Rattle.node_clients.specs.Answers.{TellsClients, answer_growth};
+ghost use Rattle.node_clients.specs.Answers.{CanBeSent, TellsClients, answer_growth};
 ghost use Rattle.node_clients.specs.Desk.{IsIdleAgain, is_connected, with_told};
 
 use super::Desk;
@@ -12,7 +13,7 @@ use node_strings::ConnectionId;
 
 impl Desk {
     /// Answers the command of a connection, if the connection is still there, and makes its next command due. Fails
-    /// only if `Work::answer` or `Work::make_due` fails.
+    /// with `NoMemory`, or with `Unwritable` if the answer has a string that is too long for a frame.
     pub fn answer(
         &mut self,
         client: ConnectionId,
@@ -25,6 +26,7 @@ impl Desk {
         ensures idle { IsIdleAgain self.old.clients client self.new.clients }
         ensures calls { self.new.calls ≡ self.old.calls }
         ensures counts { self.new.counts ≡ with_told (is_connected self.old client) self.old.counts }
+        ensures refused { IfErr result (IsUnwritten (CanBeSent answer)) }
     {
         if !self.clients.answered(client) {
             return Ok(());
@@ -35,7 +37,7 @@ impl Desk {
     }
 
     /// Tells a client why its command is not carried out, if the connection is still there, and makes its next command
-    /// due. Fails only if `Work::answer` or `Work::make_due` fails.
+    /// due. Fails with `NoMemory`, or with `Unwritable` if the text of the error is too long for a frame.
     pub fn refuse(
         &mut self,
         client: ConnectionId,
@@ -48,6 +50,7 @@ impl Desk {
         ensures idle { IsIdleAgain self.old.clients client self.new.clients }
         ensures calls { self.new.calls ≡ self.old.calls }
         ensures counts { self.new.counts ≡ with_told (is_connected self.old client) self.old.counts }
+        ensures refused { IfErr result (IsUnwritten (CanBeSent (answers.Error error))) }
     {
         self.answer(client, Answer::Error(error), work)
     }

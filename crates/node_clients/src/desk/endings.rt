@@ -1,10 +1,13 @@
 //! What clients are told when their calls end.
-ghost use Rattle.std.specs.Prelude.{◌≡◌, ◌≢◌, ℕ, None, OnOk, Some};
+ghost use Rattle.std.specs.Prelude.{◌≡◌, ◌≢◌, ℕ, IfErr, None, OnOk, Some};
 ghost use Rattle.client_commands.specs.declared.answer.Answer.TheVariants as answers;
 ghost use Rattle.client_commands.specs.declared.answer.AnswerError.TheVariants.{NoQuorum};
+ghost use Rattle.node_effects.specs.Errors.{IsUnwritten};
 ghost use Rattle.node_effects.specs.Work.{IsGrown};
+ghost use Rattle.node_effects.specs.declared.error.NodeError.TheVariants.{NoMemory};
 ghost use Rattle.client_commands.specs.Deletion.{count_of, left_over};
-ghost use Rattle.node_clients.specs.Answers.{TellsClients, due_growth, ended_answer, last_answer, told_value};
+ghost use Rattle.node_clients.specs.Answers.{CanBeSent, TellsClients, due_growth, ended_answer, last_answer};
+ghost use Rattle.node_clients.specs.Answers.{told_value};
 ghost use Rattle.node_clients.specs.Calls.{call_answer, call_under, left_of, rest_of, waiting_for, with_nobody};
 ghost use Rattle.node_clients.specs.Desk.{IsEndedFor, IsIdleFor, IsPutBack, end_growth, growth_for, has_listener};
 ghost use Rattle.node_clients.specs.Desk.{is_answered_for, is_connected, with_told, with_give_up};
@@ -22,8 +25,8 @@ use tag::CallId;
 impl Desk {
     /// Removes a call that was answered. The client that waits for it, if its connection is still there, is sent the
     /// answer. If the call is a write of a `DEL` of which more is left, the client is sent nothing, and what is left is
-    /// its next command. With the bound `delta`, a `DEL` writes to each name as `Deletion::left` says. Fails only if
-    /// there is no memory, or if `Work::answer` or `Work::make_due` fails.
+    /// its next command. With the bound `delta`, a `DEL` writes to each name as `Deletion::left` says. Fails with
+    /// `NoMemory`, or with `Unwritable` if the answer has a string that is too long for a frame.
     pub fn end(
         &mut self,
         ended: Ended,
@@ -43,6 +46,8 @@ impl Desk {
         ensures counts { OnOk result (self.new.counts ≡ with_told (is_answered_for self.old
             (waiting_for self.old.calls ended.id) (rest_of delta (call_under self.old.calls ended.id)))
             self.old.counts) }
+        ensures refused { IfErr result
+            (IsUnwritten (CanBeSent (call_answer (call_under self.old.calls ended.id) ended))) }
     {
         let id = ended.id;
         match self.taken(id) {
@@ -67,6 +72,7 @@ impl Desk {
             (IsEndedFor self.old.clients call.client (rest_of delta (Some call)) self.new.clients) }
         ensures counts { OnOk result (self.new.counts
             ≡ with_told (is_answered_for self.old call.client (rest_of delta (Some call))) self.old.counts) }
+        ensures refused { IfErr result (IsUnwritten (CanBeSent (call_answer (Some call) ended))) }
     {
         match call.client {
             Some(client) => self.tell(
@@ -97,6 +103,7 @@ impl Desk {
             (IsEndedFor self.old.clients (Some client) (left_of delta deletion) self.new.clients) }
         ensures counts { OnOk result (self.new.counts
             ≡ with_told (is_answered_for self.old (Some client) (left_of delta deletion)) self.old.counts) }
+        ensures refused { IfErr result (IsUnwritten (CanBeSent (last_answer deletion answer))) }
     {
         match deletion {
             Some(deletion) => self.pass(client, deletion, delta, work),
@@ -120,6 +127,7 @@ impl Desk {
             (IsEndedFor self.old.clients (Some client) (left_over delta deletion) self.new.clients) }
         ensures counts { OnOk result (self.new.counts
             ≡ with_told (is_answered_for self.old (Some client) (left_over delta deletion)) self.old.counts) }
+        ensures refused { IfErr result (IsUnwritten (CanBeSent (answers.Number (count_of deletion)))) }
     {
         let count = deletion.count();
         match deletion.left(delta) {
@@ -141,6 +149,7 @@ impl Desk {
         ensures calls { self.new.calls ≡ self.old.calls }
         ensures back { OnOk result (IsPutBack self.old.clients client rest self.new.clients) }
         ensures counts { self.new.counts ≡ self.old.counts }
+        ensures refused { IfErr result (λ e. e ≡ NoMemory) }
     {
         let is_there = self.clients.put_back(client, rest)?;
         if is_there {
@@ -150,7 +159,7 @@ impl Desk {
     }
 
     /// Removes a call that was given up, and tells the client that waits for it that no quorum answered, if its
-    /// connection is still there. Fails only if `Work::answer` or `Work::make_due` fails.
+    /// connection is still there. Fails with `NoMemory`.
     pub fn give_up(&mut self, id: CallId, work: &mut Work) -> Result<(), NodeError>
         ensures told { OnOk result (IsGrown work.old work.new
             (growth_for self.old (waiting_for self.old.calls id) (answers.Error NoQuorum))) }
@@ -160,13 +169,14 @@ impl Desk {
         ensures idle { IsIdleFor self.old.clients (waiting_for self.old.calls id) self.new.clients }
         ensures counts { self.new.counts
             ≡ with_told (has_listener self.old (waiting_for self.old.calls id)) (with_give_up self.old.counts) }
+        ensures refused { IfErr result (λ e. e ≡ NoMemory) }
     {
         self.counts.given_up = self.counts.given_up.saturating_add(1);
         self.close(id, Answer::Error(AnswerError::NoQuorum), work)
     }
 
     /// Tells the client that waits for a call that no quorum answered, if its connection is still there. The client no
-    /// longer waits, and the call stays open. Fails only if `Work::answer` or `Work::make_due` fails.
+    /// longer waits, and the call stays open. Fails with `NoMemory`.
     pub fn release(&mut self, id: CallId, work: &mut Work) -> Result<(), NodeError>
         ensures told { OnOk result (IsGrown work.old work.new
             (growth_for self.old (waiting_for self.old.calls id) (answers.Error NoQuorum))) }
@@ -176,6 +186,7 @@ impl Desk {
         ensures idle { IsIdleFor self.old.clients (waiting_for self.old.calls id) self.new.clients }
         ensures counts { self.new.counts
             ≡ with_told (has_listener self.old (waiting_for self.old.calls id)) self.old.counts }
+        ensures refused { IfErr result (λ e. e ≡ NoMemory) }
     {
         match self.released(id) {
             Some(client) => self.refuse(client, AnswerError::NoQuorum, work),
@@ -193,6 +204,7 @@ impl Desk {
         ensures idle { IsIdleFor self.old.clients (waiting_for self.old.calls id) self.new.clients }
         ensures counts { self.new.counts
             ≡ with_told (has_listener self.old (waiting_for self.old.calls id)) self.old.counts }
+        ensures refused { IfErr result (IsUnwritten (CanBeSent answer)) }
     {
         match self.closed(id) {
             Some(client) => self.answer(client, answer, work),
