@@ -1,3 +1,4 @@
+pub mod ErrorFittingLemmas
 pub mod FittingLemmas
 pub mod TellLemmas
 pub mod ServedLemmas

@@ -9,3 +9,4 @@ pub mod ServingLemmas
 pub mod RoundLemmas
 pub mod CutLogLemmas
 pub mod LeftLogLemmas
+pub mod StoppingLemmas

@@ -7,6 +7,8 @@ use Rattle.frames.specs.Reading.{frame_at}
 use Rattle.frames.specs.declared.error.Fault.TheVariants.{UnexpectedEnd}
 use Rattle.node_log.specs.Reading.{HadLeft}
 use Rattle.node_effects.specs.declared.effects.Effects.{Effects}
+use Rattle.node_effects.specs.declared.error.NodeError.{NodeError}
+use Rattle.node_effects.specs.declared.error.NodeError.TheVariants.{NoMemory}
 use Rattle.node_effects.specs.declared.output.Output.{Output}
 use Rattle.node_store.specs.Outputs.{Gathers, WritesAll, WritesFirst, chain_after_all, effects_outputs}
 use Rattle.node_store.specs.declared.batch.Batch.{Batch}
@@ -56,6 +58,16 @@ StopsServing (stops.LogLost error) bytes = ⊤
 StopsServing (stops.OutputLost error) bytes = ⊤
 StopsServing (stops.Stopped error) bytes = ⊤
 
+-- the bytes begin with a frame
+abbrev pub BeginsWithFrame : List (List ℕ) → List ℕ → Type 0
+BeginsWithFrame frame bytes = (rest : List ℕ) × (bytes ≡ frame_bytes frame ++ rest)
+
+-- what is to be written is lost: an entry or a frame
+abbrev pub IsWriteLost : ServeError → Type 0
+IsWriteLost (stops.LogLost error) = ⊤
+IsWriteLost (stops.OutputLost error) = ⊤
+IsWriteLost error = ⊥
+
 -- what was written of these outputs: all of them, or the first ones, for a reason of which nothing more is said
 abbrev pub WritesOutputs : (chain : ℕ) → (kept keeps held holds : Option (List ℕ)) → List Output
     → Result (Unit {0}) ServeError → Type 0
@@ -81,6 +93,15 @@ module _ {M : Type 0} (handles : M → List (List ℕ) → Effects → M → Typ
   StopsBehind old had error =
       (lost : List LoopEvent) × (between : M) × FoldsTo Happens old lost between
       × HadLeft (BeginsWithFrames lost (StopsServing error)) had
+
+  -- If the loop stops because the machine cannot go on, the machine handled the frames of some events, with which the
+  -- input begins, and fails so at the next frame; or memory was refused. `fails machine frame error` says with what a
+  -- machine may fail at a frame. If the loop stops for another reason, this says nothing.
+  abbrev pub StopsFor : (M → List (List ℕ) → NodeError → Type 0) → M → Option (List ℕ) → ServeError → Type 0
+  StopsFor fails old had (stops.Stopped error) = (error ≡ NoMemory)
+      ⊎ ((events : List LoopEvent) × (between : M) × FoldsTo Happens old events between × (frame : List (List ℕ))
+      × fails between frame error × HadLeft (BeginsWithFrames events (BeginsWithFrame frame)) had)
+  StopsFor fails old had error = ⊤
 
   -- the frames that had arrived were handled one after another, and what the machine wants done waits in the batch;
   -- or the loop stops

@@ -1,12 +1,14 @@
 //! The loop of a node: frames in, entries to the log, frames out.
-ghost use Rattle.std.specs.Prelude.{◌≡◌, [], ⊤, ℕ, List, MatchOption, OnOk, IfOk};
+ghost use Rattle.std.specs.Prelude.{◌≡◌, ◌⊎◌, [], ⊤, ℕ, List, MatchOption, OnOk, IfErr, IfOk};
 ghost use Rattle.std.specs.Io.Buffered.{reader_remaining};
 ghost use Rattle.frames.specs.Writing.{Writes};
+ghost use Rattle.node_effects.specs.declared.error.NodeError.TheVariants.{NoMemory};
 ghost use Rattle.node_effects.specs.declared.output.Output.{Output};
 ghost use Rattle.node_store.specs.Outputs.{HasGathered};
 ghost use Rattle.node_store.specs.Rewriting.{HasGrown};
 ghost use Rattle.node_store.specs.Rounds.{ServesInRounds};
-ghost use Rattle.node_store.specs.Serving.{ServesUntil, ServesSome, HandlesArrived, IsFrameHandled, WritesOutputs};
+ghost use Rattle.node_store.specs.Serving.{HandlesArrived, IsFrameHandled, IsWriteLost, ServesSome, ServesUntil};
+ghost use Rattle.node_store.specs.Serving.{StopsFor, WritesOutputs};
 
 use crate::batch::Batch;
 use crate::end::LogEnd;
@@ -35,6 +37,8 @@ const MOST_AT_ONCE: u16 = 1024;
 /// The clause `rounds` says what `serves` says, and that the loop goes in rounds: each one reads frames first, and then
 /// writes all that is wanted for them.
 ///
+/// The clause `stopped` says what `Stopped` means: the machine cannot handle the next frame, or memory was refused.
+///
 /// What an operator should know is written to `err`. A write that fails there is ignored.
 pub fn serve_frames<M: Machine, I: Read + Drop, O: Write, L: Log, E: Write>(
     alloc: Global,
@@ -58,6 +62,8 @@ pub fn serve_frames<M: Machine, I: Read + Drop, O: Write, L: Log, E: Write>(
           held = O.contents output.old;
         })
         machine.new (reader_remaining I.remaining input.new) (L.kept log.new) (O.contents output.new) result }
+    ensures stopped { IfErr result
+        (StopsFor M.handles M.notes M.fails machine.old (reader_remaining I.remaining input.old)) }
     ensures synced { OnOk result (L.kept log.new ≡ L.written log.new) }
     ensures grown { IfOk result (λ now. MatchOption now ⊤ (λ now. HasGrown end.length now.length)) }
 {
@@ -102,6 +108,8 @@ fn serve_arrived<M: Machine, I: Read + Drop, O: Write, L: Log>(
     ensures serves { ServesSome M.handles M.notes batch.old.chain.state batch.new.chain.state machine.old machine.new
         (reader_remaining I.remaining input.old) (reader_remaining I.remaining input.new)
         (L.kept log.old) (L.kept log.new) (O.contents output.old) (O.contents output.new) result }
+    ensures stopped { IfErr result
+        (StopsFor M.handles M.notes M.fails machine.old (reader_remaining I.remaining input.old)) }
     ensures synced { OnOk result (L.kept log.new ≡ L.written log.new) }
 {
     let goes_on = handle_arrived(alloc, machine, input, batch)?;
@@ -120,6 +128,7 @@ fn write_batch<O: Write, L: Log>(
     ensures writes { (chain : ℕ) (outputs : List Output) → HasGathered chain batch.now outputs
         → WritesOutputs chain (L.kept log.old) (L.kept log.new) (O.contents output.old) (O.contents output.new) outputs
         result }
+    ensures lost { IfErr result IsWriteLost }
     ensures synced { OnOk result (L.kept log.new ≡ L.written log.new) }
 {
     if let Err(error) = write_out(output, &batch.early) {
@@ -141,8 +150,10 @@ fn handle_arrived<M: Machine, I: Read + Drop>(
     input: &mut BufReader<I>,
     batch: &mut Batch,
 ) -> Result<bool, ServeError>
-    ensures { HandlesArrived M.handles M.notes machine.old machine.new (reader_remaining I.remaining input.old)
+    ensures handles { HandlesArrived M.handles M.notes machine.old machine.new (reader_remaining I.remaining input.old)
         (reader_remaining I.remaining input.new) batch.old batch.new result }
+    ensures stopped { IfErr result
+        (StopsFor M.handles M.notes M.fails machine.old (reader_remaining I.remaining input.old)) }
 {
     for _ in 0..MOST_AT_ONCE {
         if !handle_next(alloc, machine, input, batch)? {
@@ -167,8 +178,10 @@ fn handle_next<M: Machine, I: Read + Drop>(
     input: &mut BufReader<I>,
     batch: &mut Batch,
 ) -> Result<bool, ServeError>
-    ensures { HandlesArrived M.handles M.notes machine.old machine.new (reader_remaining I.remaining input.old)
+    ensures handles { HandlesArrived M.handles M.notes machine.old machine.new (reader_remaining I.remaining input.old)
         (reader_remaining I.remaining input.new) batch.old batch.new result }
+    ensures stopped { IfErr result
+        (StopsFor M.handles M.notes M.fails machine.old (reader_remaining I.remaining input.old)) }
 {
     match read_frame(alloc, input) {
         Ok(Some(frame)) => match handle(machine, frame, batch) {
@@ -185,7 +198,8 @@ fn handle_next<M: Machine, I: Read + Drop>(
 
 // Handles a frame, and adds what the machine wants done to the batch.
 fn handle<M: Machine>(machine: &mut M, frame: Frame, batch: &mut Batch) -> Result<(), NodeError>
-    ensures { OnOk result (IsFrameHandled M.handles M.notes machine.old machine.new frame batch.old batch.new) }
+    ensures handled { OnOk result (IsFrameHandled M.handles M.notes machine.old machine.new frame batch.old batch.new) }
+    ensures refused { IfErr result (λ e. (e ≡ NoMemory) ⊎ M.fails machine.old frame e) }
 {
     let effects = machine.handle(frame)?;
     match batch.push(&effects) {

@@ -4,6 +4,7 @@ use Rattle.std.proofs.lemmas.Result.{err_from_is_err_and}
 use Rattle.node_store.specs.declared.stop.ServeError.TheVariants.{NoInput}
 use Rattle.node_store.proofs.RoundLemmas.{between, gone_none, gone_on, round_noted, stops_idle}
 use Rattle.node_store.proofs.ServingLemmas.{serves_none, serves_behind, serves_more, serves_as, serves_idle, going, stopped}
+use Rattle.node_store.proofs.StoppingLemmas.{stopped_so, stops_noted, stops_then}
 use Rattle.node_store.proofs.serving.serve_frames.Goals as goal
 
 pub returns-in_err-serve_arrived-clause-serves : goal.returns-in_err-serve_arrived-clause-serves
@@ -191,3 +192,15 @@ returns-clause-rounds g c =
       stops_idle g.M.Machine.handles g.M.Machine.notes c.loop.batch.chain.state c.loop.machine (known c.loop.input)
           (kept c.loop.log) (held c.loop.output) (NoInput c.from.result) (λ (bytes : List ℕ). tt),
     )
+
+pub returns-in_err-serve_arrived-clause-stopped : goal.returns-in_err-serve_arrived-clause-stopped
+returns-in_err-serve_arrived-clause-stopped g c =
+    let known = reader_remaining g.I.Read.remaining in
+    let error = c.in_err-serve_arrived.field-0.0 in
+    let before = c.loop.invariant.0 in
+    stopped_so g.M.Machine.handles g.M.Machine.notes g.M.Machine.fails c.args.machine.now (known c.args.input.now)
+    c.from_residual.result error c.from_residual.ensures.1
+    (stops_then g.M.Machine.handles g.M.Machine.notes g.M.Machine.fails c.args.machine.now c.loop.machine (known c.args.input.now)
+    (known c.loop.input) before.0 error before.1 before.2
+    (stops_noted g.M.Machine.handles g.M.Machine.notes g.M.Machine.fails c.loop.machine c.begin_round-report.new.self c.loop.length
+    (known c.loop.input) error c.begin_round-report.ensures.noted c.in_err-serve_arrived.ensures.stopped))
