@@ -1,3 +1,4 @@
+pub mod FailureLemmas
 pub mod TellLemmas
 pub mod PeerLemmas
 pub mod ReadyLemmas

@@ -13,3 +13,4 @@ pub mod Recovering
 pub mod Starts
 pub mod Anew
 pub mod OpenMoves
+pub mod Failures

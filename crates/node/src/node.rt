@@ -1,5 +1,5 @@
 //! A node, and what it does with a frame.
-ghost use Rattle.std.specs.Prelude.{◌≡◌, [], ℕ, false, List, IfErr, IfOk, OnOk, Option, Some};
+ghost use Rattle.std.specs.Prelude.{◌≡◌, ◌⊎◌, [], ℕ, false, List, IfErr, IfOk, OnOk, Option, Some};
 ghost use Rattle.cluster_file.specs.Digest.{fixed_digest};
 ghost use Rattle.deeds.specs.Kept.{new_node};
 ghost use Rattle.deeds.specs.Named.{NamedLetter as Named};
@@ -10,10 +10,12 @@ ghost use Rattle.node_clients.specs.Desk.{NoneWaits};
 ghost use Rattle.node_log.specs.Entry.{IsEntry};
 ghost use Rattle.node_effects.specs.Errors.{IsUnwritten};
 ghost use Rattle.node_effects.specs.Work.{IsGrown};
+ghost use Rattle.node_effects.specs.declared.error.NodeError.TheVariants.{NoMemory};
 ghost use Rattle.node_effects.specs.declared.output.Output.{Output};
 ghost use Rattle.node_keeper.specs.Acts.{Acts};
 ghost use Rattle.node_keeper.specs.Keeping.{kept_of, names_of};
 ghost use Rattle.node_keeper.specs.declared.keeper.Keeper.{Keeper as Kept};
+ghost use Rattle.node.specs.Failures.{FailsArrival, FailsBehind, FailsStep};
 ghost use Rattle.node.specs.Frames.{letter_of_arrival, letters_in, sender_of, sender_or};
 ghost use Rattle.node.specs.Handles.{HasActed};
 ghost use Rattle.node.specs.Peers.{IsChangedBy, KnowsNothing};
@@ -139,6 +141,7 @@ impl Node {
             self.new work.new.outputs.items) }
         ensures peers { OnOk result
             (IsChangedBy (arrival_at frame) self.old.keeper self.old.peers self.new.peers) }
+        ensures refused { IfErr result (FailsArrival (arrival_at frame) self.old) }
     {
         match read_arrival(frame) {
             Some(arrival) => self.take_arrival(arrival, work),
@@ -160,6 +163,7 @@ impl Node {
         ensures again { OnOk result (DoesFirst (Some arrival) self.old work.old.outputs.items
             self.new work.new.outputs.items) }
         ensures peers { OnOk result (IsChangedBy (Some arrival) self.old.keeper self.old.peers self.new.peers) }
+        ensures refused { IfErr result (FailsArrival (Some arrival) self.old) }
     {
         match arrival {
             Arrival::Command(client, frame) => {
@@ -194,6 +198,10 @@ impl Node {
         ensures waits { OnOk result (NoneWaits self.old.desk.clients work.old.due.items
             → NoneWaits self.new.desk.clients []) }
         ensures peers { self.new.peers ≡ self.old.peers }
+        ensures refused { IfErr result (λ e. (e ≡ NoMemory) ⊎ ((asker : ℕ) (got : List Named) (came : Option Came)
+            (first : Was) → HasActed asker got first.keeper self.old.keeper work.old
+            → ServedSince came first self.old work.old.to_clients.items work.old.notices.items
+            → FailsBehind asker got came first e)) }
     {
         for _ in 0..u64::MAX {
             if !self.go_a_step(number, work)? {
@@ -220,6 +228,7 @@ impl Node {
             → NoneWaits self.new.desk.clients work.new.due.items) }
         ensures number { OnOk result (self.new.keeper.ids.node ≡ self.old.keeper.ids.node) }
         ensures peers { self.new.peers ≡ self.old.peers }
+        ensures refused { IfErr result (FailsStep self.old work.old.own.items work.old.due.items) }
     {
         if let Some(it) = work.next_own() {
             self.deliver(number, it, None, work)?;

@@ -1,6 +1,7 @@
 //! What a node knows of the other nodes, beside what their messages say.
-ghost use Rattle.std.specs.Prelude.{◌≡◌, ◌≤◌, None, OnOk, get_or, length};
+ghost use Rattle.std.specs.Prelude.{◌≡◌, ◌≤◌, None, IfErr, OnOk, get_or, length};
 ghost use Rattle.std.specs.List.{count_by};
+ghost use Rattle.node_effects.specs.declared.error.NodeError.TheVariants.{NoMemory};
 ghost use Rattle.node.specs.Info.{hears_now};
 ghost use Rattle.node.specs.Peers.{HasNoted, KnowsNothing, heard_at, is_known, is_same_report};
 ghost use Rattle.node.specs.Peers.{next_report, with_next_told, with_tick};
@@ -103,7 +104,8 @@ impl Peers {
 
     /// A message of a node with another cluster file has come. Fails with `NoMemory`.
     pub(crate) fn note(&mut self, other: Report) -> Result<(), NodeError>
-        ensures { OnOk result (HasNoted other self.old self.new) }
+        ensures noted { OnOk result (HasNoted other self.old self.new) }
+        ensures refused { IfErr result (λ e. e ≡ NoMemory) }
     {
         self.foreign = self.foreign.saturating_add(1);
         if self.others.len() < MOST_OTHERS && !is_known(&self.others, other) {

@@ -1,5 +1,5 @@
 //! What a node does with the commands of its clients.
-ghost use Rattle.std.specs.Prelude.{◌≡◌, ◌∷◌, [], ℕ, List, false, nat_eq, IfOk, OnOk, Ok, Some};
+ghost use Rattle.std.specs.Prelude.{◌≡◌, ◌∷◌, [], ℕ, List, false, nat_eq, IfErr, IfOk, OnOk, Ok, Some};
 ghost use Rattle.indexmap.specs.IndexMap.{get, index_map_len};
 ghost use Rattle.node_clients.specs.Connections.{asked, doing};
 ghost use Rattle.node_clients.specs.declared.next.Next.{Next as Waits};
@@ -10,7 +10,9 @@ ghost use Rattle.client_commands.specs.declared.command.Command.TheVariants as a
 ghost use Rattle.node_clients.specs.Answers.{TellsClients};
 ghost use Rattle.node_clients.specs.Desk.{NoneWaits};
 ghost use Rattle.node_keeper.specs.Acts.{Acts};
+ghost use Rattle.node_effects.specs.declared.error.NodeError.TheVariants.{NoMemory};
 ghost use Rattle.node.specs.AtOnce.{IsPlainHere};
+ghost use Rattle.node.specs.Failures.{FailsAsked, FailsNext};
 ghost use Rattle.node.specs.Replies.{IsPlainReply};
 ghost use Rattle.node.specs.Shown.{IsPageHere};
 ghost use Rattle.node.specs.Serving.{IsAwaited, ServesCommand, ServesNext};
@@ -33,6 +35,7 @@ impl Node {
         ensures waits { OnOk result (NoneWaits self.old.desk.clients (client ∷ work.old.due.items)
             → NoneWaits self.new.desk.clients work.new.due.items) }
         ensures peers { self.new.peers ≡ self.old.peers }
+        ensures refused { IfErr result (FailsNext self.old client) }
     {
         if !self.desk.clients.has_next(client) {
             return Ok(());
@@ -54,6 +57,7 @@ impl Node {
         ensures acts { OnOk result ((asker : ℕ) → Acts asker [] self.old.keeper work.old self.new.keeper work.new) }
         ensures serves { OnOk result (ServesCommand client next self.old work.old self.new work.new) }
         ensures peers { self.new.peers ≡ self.old.peers }
+        ensures refused { IfErr result (FailsAsked self.old client (asked next)) }
     {
         match next.command() {
             Ok(command) => self.obey(client, command, work),
@@ -73,6 +77,7 @@ impl Node {
         ensures serves { OnOk result ((next : Waits) → asked next ≡ Ok command
             → ServesCommand client next self.old work.old self.new work.new) }
         ensures peers { self.new.peers ≡ self.old.peers }
+        ensures refused { IfErr result (FailsAsked self.old client (Ok command)) }
     {
         match command {
             Command::Read { wanted, name } => self.read(client, wanted, name, work),
@@ -93,6 +98,7 @@ impl Node {
         ensures here { IfOk result
             (IsPlainHere self.now.keeper self.now.peers (index_map_len self.now.desk.calls) self.now.desk.counts
             command) }
+        ensures refused { IfErr result (λ e. e ≡ NoMemory) }
     {
         match command {
             Command::Info(asked) => Ok(Answer::Value(self.info(asked)?)),
@@ -113,7 +119,8 @@ impl Node {
 
     // The answer to a `SCAN`.
     fn page(&self, cursor: u64, options: ScanOptions) -> Result<Answer, NodeError>
-        ensures { IfOk result (IsPageHere self.now.keeper.objects cursor options) }
+        ensures page { IfOk result (IsPageHere self.now.keeper.objects cursor options) }
+        ensures refused { IfErr result (λ e. e ≡ NoMemory) }
     {
         let page = self.keeper.objects.scan(cursor, options.count)?;
         Ok(Answer::Page {
@@ -124,7 +131,8 @@ impl Node {
 
     // Those of these names that match a pattern, if there is one.
     fn told(&self, pattern: Option<Bytes>, names: Vec<Bytes>) -> Result<Vec<Bytes>, NodeError>
-        ensures { IfOk result (λ told. told.items ≡ names_told pattern names.items) }
+        ensures told { IfOk result (λ told. told.items ≡ names_told pattern names.items) }
+        ensures refused { IfErr result (λ e. e ≡ NoMemory) }
     {
         match pattern {
             Some(pattern) => Ok(matching_names(self.alloc, &pattern, &names)?),
@@ -145,6 +153,7 @@ impl Node {
         ensures serves { OnOk result ((next : Waits) → asked next ≡ Ok (ask.Read wanted name)
             → ServesCommand client next self.old work.old self.new work.new) }
         ensures peers { self.new.peers ≡ self.old.peers }
+        ensures refused { IfErr result (FailsAsked self.old client (Ok (ask.Read wanted name))) }
     {
         let begun = self.keeper.begin_read(&name, work)?;
         let call = OpenCall {
@@ -171,6 +180,7 @@ impl Node {
         ensures serves { OnOk result ((next : Waits) → asked next ≡ Ok (ask.Set name value)
             → ServesCommand client next self.old work.old self.new work.new) }
         ensures peers { self.new.peers ≡ self.old.peers }
+        ensures refused { IfErr result (FailsAsked self.old client (Ok (ask.Set name value))) }
     {
         let begun = self.keeper.begin_write(&name, value, work)?;
         let call = OpenCall {
@@ -196,6 +206,7 @@ impl Node {
         ensures serves { OnOk result ((next : Waits) → asked next ≡ Ok (ask.Delete deletion)
             → ServesCommand client next self.old work.old self.new work.new) }
         ensures peers { self.new.peers ≡ self.old.peers }
+        ensures refused { IfErr result (FailsAsked self.old client (Ok (ask.Delete deletion))) }
     {
         let name = deletion.name()?;
         let begun = self.keeper.begin_write(&name, Bytes::new(), work)?;
@@ -222,6 +233,7 @@ pub(super) fn wait(
     requires { doing (get nat_eq desk.old.clients.by_number client) ≡ Busy }
     ensures tells { OnOk result (TellsClients work.old work.new) }
     ensures awaited { OnOk result (IsAwaited desk.old work.old client (Some call) begun desk.new work.new) }
+    ensures refused { IfErr result (λ e. e ≡ NoMemory) }
 {
     match begun {
         Begun::Open(id) => {

@@ -1,7 +1,8 @@
 //! What a node tells about itself.
-ghost use Rattle.std.specs.Prelude.{◌≡◌, ◌++◌, IfOk, OnOk, length};
+ghost use Rattle.std.specs.Prelude.{◌≡◌, ◌++◌, IfErr, IfOk, OnOk, length};
 ghost use Rattle.std.specs.List.{count_by, flat_map};
 ghost use Rattle.indexmap.specs.IndexMap.{index_map_len, values};
+ghost use Rattle.node_effects.specs.declared.error.NodeError.TheVariants.{NoMemory};
 ghost use Rattle.node_keeper.specs.Written.{written_names};
 ghost use Rattle.node.specs.Info.{about_node, clients_section, file_lines, info_lines, is_move_open};
 ghost use Rattle.node.specs.Info.{keyspace_section, memory_section, node_section, redis_sections, section_if};
@@ -24,9 +25,10 @@ use std::alloc::{AllocError, Global};
 impl Node {
     /// Returns the text of `INFO` for these sections, each with lines of a key and a value.
     pub(super) fn info(&self, asked: Sections) -> Result<Bytes, NodeError>
-        ensures { IfOk result (λ text. text ≡ info_lines asked self.now.keeper self.now.peers
+        ensures text { IfOk result (λ text. text ≡ info_lines asked self.now.keeper self.now.peers
             (index_map_len self.now.desk.clients.by_number) (index_map_len self.now.desk.calls)
             (count_by is_move_open (values self.now.desk.calls)) self.now.desk.counts) }
+        ensures refused { IfErr result (λ e. e ≡ NoMemory) }
     {
         let mut text = Vec::new(self.alloc);
         self.push_redis(asked, &mut text)?;

@@ -1,7 +1,8 @@
 //! What a node tells about the layout of a name.
-ghost use Rattle.std.specs.Prelude.{◌≡◌, ◌∷◌, ◌++◌, IfOk, OnOk};
+ghost use Rattle.std.specs.Prelude.{◌≡◌, ◌∷◌, ◌++◌, IfErr, IfOk, OnOk};
 ghost use Rattle.std.specs.Fmt.{decimal};
 ghost use Rattle.std.specs.List.{flat_map};
+ghost use Rattle.node_effects.specs.declared.error.NodeError.TheVariants.{NoMemory};
 ghost use Rattle.node_keeper.specs.Written.{last_known};
 ghost use Rattle.node.specs.Shown.{layout_line, node_word};
 
@@ -14,8 +15,9 @@ use std::alloc::{AllocError, Global};
 impl Node {
     /// Returns the line of the last position of a name of which the node has heard.
     pub(super) fn layout_line(&self, name: &Bytes) -> Result<Bytes, NodeError>
-        ensures { IfOk result (λ line. line ≡ layout_line (last_known self.now.keeper.objects name.now).position
+        ensures line { IfOk result (λ line. line ≡ layout_line (last_known self.now.keeper.objects name.now).position
             (last_known self.now.keeper.objects name.now).layout) }
+        ensures refused { IfErr result (λ e. e ≡ NoMemory) }
     {
         match self.keeper.objects.last_known(name) {
             Some(place) => Ok(layout_line(self.alloc, place.position(), place.layout())?),

@@ -6,6 +6,7 @@ use node_log::Entry;
 use node_strings::read_record;
 
 impl Machine for Node {
+    ghost use Rattle.node.specs.Failures.{Fails};
     ghost use Rattle.node.specs.Handles.{Handles};
     ghost use Rattle.std.specs.Prelude.{IfErr, OnOk};
     ghost use Rattle.node.specs.Recovering.{CarriesOutEntry, Notes, RefusesEntry, Tells};
@@ -13,6 +14,8 @@ impl Machine for Node {
     ghost carries_out = { CarriesOutEntry };
 
     ghost handles = { Handles };
+
+    ghost fails = { Fails };
 
     ghost notes = { Notes };
 

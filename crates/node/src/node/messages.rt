@@ -1,10 +1,11 @@
 //! What a node does with messages of other nodes and with its letters to itself.
-ghost use Rattle.std.specs.Prelude.{◌≡◌, IfSome, OnOk};
+ghost use Rattle.std.specs.Prelude.{◌≡◌, IfErr, IfSome, OnOk};
 ghost use Rattle.node_keeper.specs.Acts.{Acts};
 ghost use Rattle.node_messages.specs.Reading.{message_from};
 ghost use Rattle.node_effects.specs.Seen.{named_of};
 ghost use Rattle.node_keeper.specs.Keeping.{if_heeded, kept_of};
 ghost use Rattle.node_keeper.specs.Sendings.{IsFrameOf};
+ghost use Rattle.node.specs.Failures.{FailsLetter, FailsMessage, FailsRead};
 ghost use Rattle.node.specs.Frames.{is_admitted, is_from_cluster, letter_from, letter_if_read};
 ghost use Rattle.node.specs.Hearing.{Hears, HearsIfRead, HearsMessage};
 ghost use Rattle.node.specs.Peers.{IsChangedByMessage, IsChangedIfRead};
@@ -33,6 +34,7 @@ impl Node {
             (IsChangedIfRead self.old.keeper sender (message_from frame) self.old.peers self.new.peers) }
         ensures hears { OnOk result (HearsIfRead sender (message_from frame) self.old.keeper work.old.outputs.items
             self.new.keeper work.new.outputs.items) }
+        ensures refused { IfErr result (FailsRead sender (message_from frame) self.old) }
     {
         match read_message(self.alloc, &frame) {
             Ok(message) => self.admit(sender, message, frame, work),
@@ -61,6 +63,7 @@ impl Node {
             (IsChangedByMessage self.old.keeper sender message self.old.peers self.new.peers) }
         ensures hears { OnOk result (HearsMessage sender message self.old.keeper work.old.outputs.items
             self.new.keeper work.new.outputs.items) }
+        ensures refused { IfErr result (FailsMessage sender message self.old) }
     {
         if message.digest != self.keeper.digest {
             self.desk.drop_frame();
@@ -109,6 +112,7 @@ impl Node {
         ensures peers { self.new.peers ≡ self.old.peers }
         ensures hears { OnOk result (Hears sender it self.old.keeper work.old.outputs.items
             self.new.keeper work.new.outputs.items) }
+        ensures refused { IfErr result (FailsLetter sender it self.old) }
     {
         let delta = self.keeper.file.delta();
         match self.keeper.deliver(sender, it, came, work)? {

@@ -1,12 +1,16 @@
 //! How a node begins to move an object.
-ghost use Rattle.std.specs.Prelude.{◌≡◌, ◌<◌, ◌+◌, if◌then◌else◌, [], ℕ, nat_eq, OnOk, Ok};
+ghost use Rattle.std.specs.Prelude.{◌≡◌, ◌<◌, ◌+◌, if◌then◌else◌, [], ℕ, nat_eq, IfErr, IfSome, OnOk, Ok};
 ghost use Rattle.std.specs.List.{count_by};
 ghost use Rattle.indexmap.specs.IndexMap.{get};
 ghost use Rattle.node_clients.specs.Connections.{asked, doing};
 ghost use Rattle.node_clients.specs.declared.next.Next.{Next};
 ghost use Rattle.node_clients.specs.declared.connection.State.TheVariants.{Busy};
+ghost use Rattle.client_commands.specs.declared.answer.Answer.TheVariants as answers;
+ghost use Rattle.client_commands.specs.declared.answer.AnswerError.TheVariants as errors;
 ghost use Rattle.client_commands.specs.declared.command.Command.TheVariants as ask;
+ghost use Rattle.node_clients.specs.Answers.{CanBeSent};
 ghost use Rattle.node_keeper.specs.Acts.{Acts};
+ghost use Rattle.node.specs.Failures.{FailsAsked};
 ghost use Rattle.node.specs.Moves.{first_not_heard, first_stranger, heard_fault, hears, move_fault};
 ghost use Rattle.node.specs.Serving.{ServesCommand};
 
@@ -33,6 +37,7 @@ impl Node {
         ensures serves { OnOk result ((next : Next) → asked next ≡ Ok (ask.Move name layout)
             → ServesCommand client next self.old work.old self.new work.new) }
         ensures peers { self.new.peers ≡ self.old.peers }
+        ensures refused { IfErr result (FailsAsked self.old client (Ok (ask.Move name layout))) }
     {
         if let Some(error) = self.move_fault(&layout) {
             return self.desk.refuse(client, error, work);
@@ -53,13 +58,14 @@ impl Node {
     // layout is no node of the cluster, or the host tells which nodes it hears, and fewer than a quorum of the members
     // are among them.
     fn move_fault(&self, layout: &Layout) -> Option<AnswerError>
-        ensures { result ≡ move_fault self.now.keeper.ids.node self.now.keeper.file self.now.peers.heard layout.now }
+        ensures fault { result ≡ move_fault self.now.keeper.ids.node self.now.keeper.file self.now.peers.heard layout.now }
+        ensures told { IfSome result (λ error. CanBeSent (answers.Error error)) }
     {
         if !self.keeper.is_mover() {
             return Some(AnswerError::NotMover);
         }
         if let Some(node) = self.first_stranger(layout) {
-            return Some(AnswerError::NoSuchNode(node));
+            return Some(no_such_node(node));
         }
         match &self.peers.heard {
             Some(heard) => heard_fault(self.keeper.number(), heard, layout),
@@ -83,15 +89,32 @@ impl Node {
 
 // The fault of a move where the node of this number hears fewer than a quorum of the layout's members.
 fn heard_fault(number: u8, heard: &Heard, layout: &Layout) -> Option<AnswerError>
-    ensures { result ≡ heard_fault number heard.now layout.now }
+    ensures fault { result ≡ heard_fault number heard.now layout.now }
+    ensures told { IfSome result (λ error. CanBeSent (answers.Error error)) }
 {
     if count_heard(number, heard, layout) >= layout.quorum() {
         return None;
     }
     match first_not_heard(number, heard, layout) {
-        Some(node) => Some(AnswerError::TooFewHeard(node)),
+        Some(node) => Some(too_few_heard(node)),
         None => None,
     }
+}
+
+// The fault of a move to this node, which is no node of the cluster. A client can be told it.
+fn no_such_node(node: u8) -> AnswerError
+    ensures fault { result ≡ errors.NoSuchNode node }
+    ensures told { CanBeSent (answers.Error result) }
+{
+    AnswerError::NoSuchNode(node)
+}
+
+// The fault of a move to nodes of which too few are heard, and not this one. A client can be told it.
+fn too_few_heard(node: u8) -> AnswerError
+    ensures fault { result ≡ errors.TooFewHeard node }
+    ensures told { CanBeSent (answers.Error result) }
+{
+    AnswerError::TooFewHeard(node)
 }
 
 // Whether the node of this number hears a node: itself, and those that its host hears.

@@ -1,7 +1,10 @@
 //! What a node does as time passes.
-ghost use Rattle.std.specs.Prelude.{◌≡◌, [], ◌∷◌, ◌&&◌, not, ℕ, OnOk};
+ghost use Rattle.std.specs.Prelude.{◌≡◌, ◌⊎◌, [], ◌∷◌, ◌&&◌, not, ℕ, IfErr, OnOk};
 ghost use Rattle.indexmap.specs.IndexMap.{keys};
+ghost use Rattle.node_effects.specs.declared.error.NodeError.TheVariants.{NoMemory};
 ghost use Rattle.node_keeper.specs.Acts.{Acts};
+ghost use Rattle.node_keeper.specs.Resending.{CanResend};
+ghost use Rattle.node.specs.Failures.{FailsAged, FailsTicks, IsFailure};
 ghost use Rattle.node.specs.Serving.{SeesNothing, ServesLate, ServesTicks};
 ghost use Rattle.node.specs.Ticks.{IsKeptAs, IsKeptAtAge, PutsOut, SendsAgain, again_if, aged_at, sent_at_age};
 
@@ -20,6 +23,7 @@ impl Node {
         ensures again { OnOk result (SendsAgain (keys self.old.desk.calls) self.old work.old.outputs.items
             self.new work.new.outputs.items) }
         ensures peers { self.new.peers ≡ self.old.peers }
+        ensures refused { IfErr result (λ e. (e ≡ NoMemory) ⊎ FailsTicks (keys self.old.desk.calls) self.old e) }
     {
         let ids = self.desk.open_ids()?;
         for id in ids {
@@ -36,6 +40,7 @@ impl Node {
             work.old.outputs.items work.new.outputs.items) }
         ensures kept { OnOk result (IsKeptAtAge self.old.keeper id (aged_at self.old id) self.new.keeper) }
         ensures peers { self.new.peers ≡ self.old.peers }
+        ensures refused { IfErr result (FailsAged id self.old) }
     {
         let Some(call) = self.desk.aged(id, self.keeper.file.ticks())? else {
             return Ok(());
@@ -55,6 +60,7 @@ impl Node {
             work.old.outputs.items work.new.outputs.items) }
         ensures kept { OnOk result (IsKeptAs (not call.is_move) self.old.keeper call.name id self.new.keeper) }
         ensures peers { self.new.peers ≡ self.old.peers }
+        ensures refused { IfErr result (IsFailure ⊥ (CanResend call.name id self.old.keeper)) }
     {
         if call.is_move {
             self.desk.release(id, work)?;
@@ -71,6 +77,7 @@ impl Node {
         ensures again { OnOk result (PutsOut self.now.keeper
             (again_if call.now.asks_again self.now.keeper call.now.name id)
             work.old.outputs.items work.new.outputs.items) }
+        ensures refused { IfErr result (IsFailure ⊥ (CanResend call.now.name id self.now.keeper)) }
     {
         if !call.asks_again {
             return Ok(());

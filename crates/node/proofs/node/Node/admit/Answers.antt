@@ -23,7 +23,7 @@ pub returns-then-ne-clause-acts : goal.returns-then-ne-clause-acts
 returns-then-ne-clause-acts c =
     let old = c.args.self.now.keeper in
     on_ok_weaker c.note.result
-    (λ noted. idle c.args.sender (letter_from old c.args.sender c.args.message) old c.args.work.now) c.note.ensures
+    (λ noted. idle c.args.sender (letter_from old c.args.sender c.args.message) old c.args.work.now) c.note.ensures.noted
 
 pub returns-then-ne-clause-serves : goal.returns-then-ne-clause-serves
 returns-then-ne-clause-serves c =
@@ -31,7 +31,7 @@ returns-then-ne-clause-serves c =
     let new : Node = record old { desk = c.drop_frame.new.self; peers = c.note.new.self } in
     on_ok_weaker c.note.result
     (λ noted. drops_more old new c.args.work.now
-    (c.drop_frame.ensures.clients, c.drop_frame.ensures.calls, c.drop_frame.ensures.counts) refl) c.note.ensures
+    (c.drop_frame.ensures.clients, c.drop_frame.ensures.calls, c.drop_frame.ensures.counts) refl) c.note.ensures.noted
 
 pub returns-clause-acts : goal.returns-clause-acts
 returns-clause-acts c = search rules

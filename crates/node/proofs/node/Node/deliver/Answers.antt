@@ -11,9 +11,13 @@ use Rattle.node_effects.specs.declared.work.Work.{Work}
 use Rattle.node_keeper.specs.Delivering.{DeliversLetter}
 use Rattle.node_keeper.specs.declared.delivered.Delivered.{Delivered}
 use Rattle.node_keeper.specs.declared.keeper.Keeper.{Keeper}
+use Rattle.node_effects.specs.Errors.{IsUnwritten}
+use Rattle.node_clients.specs.Answers.{CanBeSent}
+use Rattle.node.specs.Failures.{CanHear, FailsLetter}
+use Rattle.node.proofs.FailureLemmas.{if_err_weaker, unwritten_fails}
 use Rattle.node.specs.Hearing.{Hears}
 use Rattle.node.specs.declared.node.Node.{Node}
-use Rattle.node_clients.specs.Calls.{call_under, rest_of, waiting_for}
+use Rattle.node_clients.specs.Calls.{call_answer, call_under, rest_of, waiting_for}
 use Rattle.node_clients.proofs.EndLemmas.{EndsAs, concluded}
 use Rattle.node.proofs.KeeperLemmas.{dropped_served, ended_served, handled_served, of_three}
 use Rattle.node.proofs.node.Node.deliver.Goals as goal
@@ -91,3 +95,17 @@ returns-in-Ended-clause-hears c =
     (λ tells. heard c.args.sender c.args.it c.args.self.now.keeper c.deliver.new.self c.args.work.now c.deliver.new.work _
     c.end.new.work.outputs.items c.in_ok-deliver.ensures.delivers
     (sym (tells.grown.outputs ∙ append-nil c.deliver.new.work.outputs.items))) c.end.ensures.tells
+
+pub returns-in-Ended-clause-refused : goal.returns-in-Ended-clause-refused
+returns-in-Ended-clause-refused c =
+    let old = c.args.self.now in
+    let sender = c.args.sender in
+    let it = c.args.it in
+    let ended = c.in-Ended.ended in
+    let new = c.deliver.new in
+    let fits = CanBeSent (call_answer (call_under old.desk.calls ended.id) ended) in
+    if_err_weaker (IsUnwritten fits) (FailsLetter sender it old) c.end.result
+    (unwritten_fails ⊥ fits (CanHear sender it old)
+    (λ can. can.1 c.args.work.now new.work new.self ended
+    (subst (λ result. DeliversLetter sender it old.keeper c.args.work.now new.self new.work result) c.in-Ended.is
+    c.in_ok-deliver.ensures.delivers))) c.end.ensures.refused

@@ -31,7 +31,7 @@ returns-in-Some-clause-serves c =
     let client = c.args.client in
     let answer = answers.Error c.in-Some.error in
     let fault : Some c.in-Some.error ≡ move_fault old.keeper.ids.node old.keeper.file old.peers.heard c.args.layout =
-    sym c.in-Some.is ∙ c.move_fault.ensures in
+    sym c.in-Some.is ∙ c.move_fault.ensures.fault in
     on_ok_weaker c.refuse.result
     (λ grown next asks. replied client next answer old new c.args.work.now c.refuse.new.work
     (answered_now old.desk c.refuse.new.self client c.requires c.refuse.ensures.idle c.refuse.ensures.calls c.refuse.ensures.counts)
@@ -48,7 +48,7 @@ returns-clause-serves c =
     let client = c.args.client in
     let layout = c.args.layout in
     let none : move_fault old.keeper.ids.node old.keeper.file old.peers.heard layout ≡ None =
-    sym c.move_fault.ensures ∙ c.in_default.is in
+    sym c.move_fault.ensures.fault ∙ c.in_default.is in
     on_ok_weaker c.wait.result
     (λ awaited next asks. call_served client next (ask.Move c.args.name layout) (moving_call c.args.name layout) old new
     c.args.work.now c.begin_move.new.work c.wait.new.work c.in_ok-begun.begun asks (λ id. refl)

@@ -11,4 +11,4 @@ returns-in-Info-clause-here c =
     let desk = c.args.self.now.desk in
     subst (λ command. IsPlainHere c.args.self.now.keeper c.args.self.now.peers (index_map_len desk.calls) desk.counts command
     (answers.Value c.in_ok-info-in-Info.field-0)) (sym c.in-Info.is)
-    (index_map_len desk.clients.by_number, count_by is_move_open (values desk.calls), ap answers.Value c.in_ok-info-in-Info.ensures)
+    (index_map_len desk.clients.by_number, count_by is_move_open (values desk.calls), ap answers.Value c.in_ok-info-in-Info.ensures.text)
