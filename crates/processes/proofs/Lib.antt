@@ -28,3 +28,4 @@ pub mod WrittenEventLemmas
 pub mod FirstWrittenLemmas
 pub mod RoundLawLemmas
 pub mod ProgramLemmas
+pub mod SessionLemmas

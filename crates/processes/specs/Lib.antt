@@ -5,3 +5,4 @@ pub mod Runs
 pub mod Laws
 pub mod Loops
 pub mod Programs
+pub mod Sessions

@@ -12,7 +12,7 @@ use Rattle.node.specs.Starts.{CanBeNamed, start_entries}
 use Rattle.node.specs.declared.node.Node.{Node}
 use Rattle.node_store.specs.Laws.{IsLeft}
 use Rattle.node_store.specs.Recovery.{HasRecovered, log_bytes}
-use Rattle.node_store.specs.Rewriting.{Becomes, IsEndOf}
+use Rattle.node_store.specs.Rewriting.{Becomes, IsEndOf, KeepsOrBecomes}
 use Rattle.node_store.specs.declared.end.LogEnd.{LogEnd}
 use Rattle.processes.specs.Events.{AreAnewIf, IsNewNode}
 use Rattle.processes.specs.Loops.{HaveEvents, IsBetweenRounds}
@@ -27,10 +27,31 @@ IsRewrittenIf None old end new then = (new ≡ old) × (then ≡ end)
 IsRewrittenIf (Some entries) old end new then =
     Becomes old new (Some (log_bytes first_chain entries)) × IsEndOf entries then
 
--- What the contracts of `Node::new`, `recover_machine`, `entries_anew`, `rewrite_log`, `Node::start` and
--- `append_entries` say of a start that returns. These bytes were found. A new node carried out the entries in them, and
--- the file was cut where these end. The log was perhaps written anew. The node was started, and the log got the entries
--- of the start, behind which it has this chain and keeps these bytes.
+-- The log of this node, which kept these bytes up to the one end, was perhaps written anew, with entries that give the
+-- node back. It then keeps those bytes up to the other end.
+abbrev pub IsPerhapsRewritten : Node → (old : Option (List ℕ)) → LogEnd → (new : Option (List ℕ)) → LogEnd → Type 0
+IsPerhapsRewritten node old end new then =
+    (anew : Option (List Strings)) × AreAnewIf node anew × IsRewrittenIf anew old end new then
+
+-- the log of this node was to be written anew, with entries that give the node back, and it is not known whether it
+-- keeps these or what it kept before
+abbrev pub IsHalfRewritten : Node → (old new : Option (List ℕ)) → Type 0
+IsHalfRewritten node old new =
+    (entries : List Strings) × AreAnew node entries
+    × KeepsOrBecomes old new (Some (log_bytes first_chain entries))
+
+-- the node was started, and its log, which ended behind the one chain, got the entries of the start and ends behind the
+-- other chain
+pub record IsBegun (old new : Node) (chain then : ℕ) (kept keeps : Option (List ℕ)) : Type 0 where
+  pub named : CanBeNamed old
+  pub started : IsStarted (kept_of old.keeper) (kept_of new.keeper)
+  pub appended : Appends kept keeps (log_bytes chain (start_entries old))
+  pub chained : then ≡ chain_behind chain (start_entries old)
+
+-- What a start of the program is that returns, by the contracts of `Node::new`, `recover_machine`, `entries_anew`,
+-- `rewrite_log`, `Node::start` and `append_entries`. These bytes were found. A new node carried out the entries in
+-- them, and the file was cut where these end. The log was perhaps written anew. The node was started, and the log got
+-- the entries of the start, behind which it has this chain and keeps these bytes.
 pub record IsStart (names : FileOfNames) (number : ℕ) (disk : List ℕ) (node : Node) (chain : ℕ)
     (keeps : Option (List ℕ)) : Type 0 where
   pub new : Node

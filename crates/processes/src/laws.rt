@@ -3,6 +3,7 @@ ghost use Rattle.processes.specs.Laws.{ClientsSeeAtomicHistories, ProcessesAreAt
 ghost use Rattle.processes.specs.Laws.{ProcessesHaveClusters, ProcessesKeepValues};
 ghost use Rattle.processes.specs.Loops.{RoundsAreEvents, StopsAreEvents};
 ghost use Rattle.processes.specs.Programs.{RewritesAreEvents, StartsAreEvents};
+ghost use Rattle.processes.specs.Sessions.{SessionsAreEvents, StoppedSessionsAreEvents, UnexchangedSessionsAreEvents};
 
 use node_store::left_logs_are_read;
 
@@ -56,4 +57,20 @@ pub fn starts_are_events()
 /// A law: so is a rewriting of its log.
 pub fn rewrites_are_events()
     ensures { RewritesAreEvents }
+{}
+
+/// A law: what a program does until its input ends, in rounds with rewritings between them, is a list of events of its
+/// process.
+pub fn sessions_are_events()
+    ensures { SessionsAreEvents }
+{}
+
+/// A law: so is what it does until its loop stops early.
+pub fn stopped_sessions_are_events()
+    ensures { StoppedSessionsAreEvents }
+{}
+
+/// A law: so is what it does until it cannot exchange its log.
+pub fn unexchanged_sessions_are_events()
+    ensures { UnexchangedSessionsAreEvents }
 {}

@@ -7,8 +7,9 @@
 
 pub use laws::{
     clients_see_atomic_histories, processes_are_atomic, processes_have_clusters,
-    processes_keep_values, rewrites_are_events, rounds_are_events, starts_are_events,
-    stops_are_events,
+    processes_keep_values, rewrites_are_events, rounds_are_events, sessions_are_events,
+    starts_are_events, stopped_sessions_are_events, stops_are_events,
+    unexchanged_sessions_are_events,
 };
 
 mod laws;

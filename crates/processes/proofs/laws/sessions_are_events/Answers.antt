@@ -1,0 +1,5 @@
+use Rattle.processes.proofs.SessionLemmas as session
+use Rattle.processes.proofs.laws.sessions_are_events.Goals as goal
+
+pub returns : goal.returns
+returns c = session.sessions_are_events

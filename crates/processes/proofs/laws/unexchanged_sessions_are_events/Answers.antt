@@ -1,0 +1,5 @@
+use Rattle.processes.proofs.SessionLemmas as session
+use Rattle.processes.proofs.laws.unexchanged_sessions_are_events.Goals as goal
+
+pub returns : goal.returns
+returns c = session.unexchanged_sessions_are_events
