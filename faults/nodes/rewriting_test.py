@@ -29,8 +29,8 @@ QUESTIONS = [command(b"GET", name) for name in VALUES]
 ANSWERS = [b"$%d\r\n%s\r\n" % (len(value), value) if value else b"$-1\r\n" for value in VALUES.values()]
 # The calls that change the folder at a start in which the log is written anew. The new log is written in two parts, and
 # the large value, which is in one of them, is written by itself, as are the bytes before it and behind it.
-CALLS = ["open .", "open log", "unlink log.new", "open log.new", *["write log.new"] * 4, "fdatasync log.new",
-         "rename log.new", "fsync .", "write log", "fdatasync log", "fsync ."]
+CALLS = ["open .", *["open log"] * 3, "fdatasync log", "fsync .", "unlink log.new", "open log.new",
+         *["write log.new"] * 4, "fdatasync log.new", "rename log.new", "fsync .", "write log", "fdatasync log"]
 WRITING = range(CALLS.index("open log.new"), CALLS.index("rename log.new"))
 EXCHANGE = range(CALLS.index("rename log.new"), CALLS.index("write log"))
 

@@ -1,1 +1,4 @@
 mod ThreeWordLemmas
+mod StartLemmas
+mod ReaderLemmas
+mod SessionLemmas

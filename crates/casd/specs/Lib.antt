@@ -1,2 +1,4 @@
 pub mod Request
 pub mod Fault
+pub mod Opening
+pub mod Program

@@ -1,9 +1,14 @@
-//! The log in a node's folder, and the second log that takes its place when it is written anew.
+//! The folder of a node and its files, on the disk.
+//!
+//! Each function of `DiskFile` and `DiskFolder` makes the call of the system that it stands for, and decides nothing.
+ghost use Rattle.casd.specs.Opening.{IsStartFault};
+
 use crate::fault::Fault;
 use crate::lock::{LockFile, lock_folder};
-use node_store::{Log, LogFile, RewritableLog};
+use frames::write_bytes;
+use node_store::{DiskFile, DiskFolder};
 use std::fs::{OpenFile, OpenOptions};
-use std::io::{ErrorKind, Write};
+use std::io::{ErrorKind, Seek, SeekFrom, Write};
 use std::os::unix::fs::OpenOptionsExt;
 use std::rt::Files;
 use std::{fs, io};
@@ -11,153 +16,142 @@ use std::{fs, io};
 // Who may read and write a file that is made: its owner alone.
 const OWNER_ALONE: u32 = 0o600;
 
-/// The file `log` in a folder, which is locked. The second log is the file `log.new` beside it.
-pub struct FolderLog<'a, R: Files> {
+/// The folder of a node, which is locked, with the names of the files `log` and `log.new` in it.
+pub struct NodeFolder<'a, R: Files> {
     files: &'a R,
-    names: Names,
     folder: R::File,
-    log: LogFile<R::File>,
-}
-
-impl<'a, R: Files> Drop for FolderLog<'a, R> {
-    fn drop(self) {
-        let Self {
-            files: _,
-            names: _,
-            folder: _,
-            log: _,
-        } = self;
-    }
-}
-
-// The names of the two logs in a folder.
-struct Names {
     log: String,
     second: String,
 }
 
-impl Drop for Names {
+impl<'a, R: Files> Drop for NodeFolder<'a, R> {
     fn drop(self) {
-        let Self { log: _, second: _ } = self;
+        let Self {
+            files: _,
+            folder: _,
+            log: _,
+            second: _,
+        } = self;
     }
 }
 
-/// The file `log.new`, which is written from its start on.
+/// A file in that folder.
 #[derive(Drop)]
-pub struct SecondLog<F> {
-    log: LogFile<F>,
+pub struct NodeFile<F> {
+    file: F,
 }
 
-impl<'a, R: Files + AllocGlobal> FolderLog<'a, R> {
-    /// Locks a folder, and opens the file `log` in it, or makes it if there is none. Fails with `InUse` if another
-    /// process has the folder locked. Then nothing is changed.
-    pub fn open(files: &'a R, folder: &str) -> Result<FolderLog<'a, R>, Fault>
+impl<'a, R: Files + AllocGlobal> NodeFolder<'a, R> {
+    /// Locks a folder. Fails with `InUse` if another process has the lock. Then nothing is changed.
+    pub fn open(files: &'a R, folder: &str) -> Result<NodeFolder<'a, R>, Fault>
     where
         R::File: LockFile,
     {
         let locked = lock_folder(files, folder)?;
-        let names = names_in(files, folder).map_err(unopened)?;
-        let file = open_log(files, names.log.as_str()).map_err(unopened)?;
-        Ok(FolderLog {
+        let (log, second) = names_in(files, folder).map_err(unopened)?;
+        Ok(NodeFolder {
             files,
-            names,
             folder: locked,
-            log: LogFile { file },
+            log,
+            second,
         })
-    }
-
-    /// The file, for reading it and for cutting off its end.
-    pub fn file(&mut self) -> &mut R::File {
-        &mut self.log.file
     }
 }
 
-// Why the log cannot be opened.
-fn unopened(error: io::Error) -> Fault {
+/// Why the log cannot be opened.
+pub fn unopened(error: io::Error) -> Fault
+    ensures { IsStartFault result }
+{
     match error.kind() {
         ErrorKind::OutOfMemory => Fault::NoMemory,
         _ => Fault::Unopened(error),
     }
 }
 
-// Opens the file of this name, or makes it.
-fn open_log<R: Files>(files: &R, name: &str) -> io::Result<R::File> {
+// The names of the files `log` and `log.new` in a folder.
+fn names_in<R: AllocGlobal>(rt: &R, folder: &str) -> io::Result<(String, String)> {
+    let alloc = rt.alloc();
+    let log = format!(in alloc; "{folder}/log")?;
+    let second = format!(in alloc; "{folder}/log.new")?;
+    Ok((log, second))
+}
+
+// How the log is opened: each byte that is written goes to its end.
+fn of_log() -> OpenOptions {
     let mut options = OpenOptions::new();
     options
         .read(true)
-        .write(true)
+        .append(true)
         .create(true)
         .mode(OWNER_ALONE);
-    options.open(files, name)
+    options
 }
 
-// Makes the file of this name, in place of one that is there.
-fn make_log<R: Files>(files: &R, name: &str) -> io::Result<R::File> {
+// How the second log is made: in place of a file that is there.
+fn of_second() -> OpenOptions {
     let mut options = OpenOptions::new();
     options
         .write(true)
         .create(true)
         .truncate(true)
         .mode(OWNER_ALONE);
-    options.open(files, name)
+    options
 }
 
-fn names_in<R: AllocGlobal>(rt: &R, folder: &str) -> io::Result<Names> {
-    let alloc = rt.alloc();
-    Ok(Names {
-        log: format!(in alloc; "{folder}/log")?,
-        second: format!(in alloc; "{folder}/log.new")?,
-    })
-}
-
-impl<'a, R: Files> Log for FolderLog<'a, R> {
+impl<F: Write + Seek + OpenFile> DiskFile for NodeFile<F> {
     fn append(&mut self, bytes: &[u8]) -> io::Result<()> {
-        self.log.append(bytes)
+        write_bytes(&mut self.file, bytes)
     }
 
-    fn sync(&mut self) -> io::Result<()> {
-        self.log.sync()
+    fn sync_data(&mut self) -> io::Result<()> {
+        self.file.flush()?;
+        self.file.sync_data()
+    }
+
+    fn length(&self) -> io::Result<u64> {
+        let found = self.file.metadata()?;
+        Ok(found.len())
+    }
+
+    fn cut(&mut self, count: u64) -> io::Result<()> {
+        self.file.set_len(count)?;
+        self.file.seek(SeekFrom::End(0))?;
+        Ok(())
     }
 }
 
-impl<F: Write + OpenFile> Log for SecondLog<F> {
-    fn append(&mut self, bytes: &[u8]) -> io::Result<()> {
-        self.log.append(bytes)
+impl<'a, R: Files> DiskFolder for NodeFolder<'a, R> {
+    type File = NodeFile<R::File>;
+
+    type Reader = R::File;
+
+    fn open_log(&mut self) -> io::Result<NodeFile<R::File>> {
+        let file = of_log().open(self.files, self.log.as_str())?;
+        Ok(NodeFile { file })
     }
 
-    fn sync(&mut self) -> io::Result<()> {
-        self.log.sync()
+    fn read_log(&self, _log: &NodeFile<R::File>) -> io::Result<R::File> {
+        fs::open(self.files, self.log.as_str())
     }
-}
 
-impl<'a, R: Files> RewritableLog for FolderLog<'a, R> {
-    type Second = SecondLog<R::File>;
-
-    fn begin_second(&mut self) -> io::Result<SecondLog<R::File>> {
-        let file = make_log(self.files, self.names.second.as_str())?;
-        Ok(SecondLog {
-            log: LogFile { file },
-        })
+    fn make_second(&mut self, _log: &NodeFile<R::File>) -> io::Result<NodeFile<R::File>> {
+        let file = of_second().open(self.files, self.second.as_str())?;
+        Ok(NodeFile { file })
     }
 
     fn remove_second(&mut self) -> io::Result<()> {
-        match fs::remove_file(self.files, self.names.second.as_str()) {
-            Ok(()) => Ok(()),
-            Err(error) => match error.kind() {
-                ErrorKind::NotFound => Ok(()),
-                _ => Err(error),
-            },
-        }
+        fs::remove_file(self.files, self.second.as_str())
     }
 
-    fn put_second(&mut self, second: SecondLog<R::File>) -> io::Result<()> {
-        let names = &self.names;
-        fs::rename(self.files, names.second.as_str(), names.log.as_str())?;
-        self.log = second.log;
-        Ok(())
+    fn rename_second(
+        &mut self,
+        _log: &NodeFile<R::File>,
+        _second: &NodeFile<R::File>,
+    ) -> io::Result<()> {
+        fs::rename(self.files, self.second.as_str(), self.log.as_str())
     }
 
-    fn sync_place(&mut self) -> io::Result<()> {
+    fn sync_folder(&mut self) -> io::Result<()> {
         self.folder.sync_all()
     }
 }

@@ -1,19 +1,31 @@
 //! The cluster file, and the log of a node at its start.
+ghost use Rattle.std.specs.Prelude.{◌≡◌, ℕ, List, Some, Ok, IfOk, IfErr, OnOk};
+ghost use Rattle.deeds.specs.Kept.{FileOfNames};
+ghost use Rattle.node.specs.Recovering.{CarriesOutEntry};
+ghost use Rattle.node_store.specs.Disk.{IsFrontOf};
+ghost use Rattle.node_store.specs.Recovery.{HasRecovered};
+ghost use Rattle.node_store.specs.Rewriting.{HasRewritten};
+ghost use Rattle.processes.specs.Events.{IsNewNode};
+ghost use Rattle.processes.specs.Programs.{IsBegun, IsStart};
+ghost use Rattle.node.specs.Anew.{AreAnew};
+ghost use Rattle.node.specs.declared.node.Node.{Node};
+ghost use Rattle.casd.specs.Opening.{HasWrittenAnew, IsRefusal, IsStartFault};
+
 use crate::fault::Fault;
-use crate::folder::FolderLog;
+use crate::folder::{NodeFolder, unopened};
 use crate::lock::LockFile;
 use cluster_file::{ClusterFile, read_cluster_file};
 use node::Node;
 use node_log::{Entry, HEAD_LENGTH, is_old_head};
 use node_store::{
-    LogEnd, RewritableLog, Rewriting, append_entries, is_worth_rewriting, recover_machine,
-    rewrite_log,
+    FolderLog, Log, LogEnd, RewritableLog, Rewriting, StoredLog, append_entries,
+    is_worth_rewriting, recover_machine, rewrite_log,
 };
+use std::alloc::Global;
 use std::fmt::Display;
-use std::fs::OpenFile;
-use std::io::{BufReader, ErrorKind, Read, Seek, SeekFrom, Write};
+use std::fs;
+use std::io::{BufReader, ErrorKind, Read, Write};
 use std::rt::Files;
-use std::{fs, io};
 
 // The size of the buffer with which the log is read, in bytes.
 const LOG_BUFFER: usize = 65_536;
@@ -33,50 +45,52 @@ pub fn read_file<R: Files + AllocGlobal>(
     }
 }
 
-/// Locks the folder and opens the log in it, has the node carry it out again, and cuts off an entry that is cut short
-/// at its end. Then it writes the log anew, if most of it is no longer needed, and begins an epoch of the node. Returns
-/// the log, which is synced, and where it ends. How many bytes it cut off is said on `err`, and why the log was not
-/// written anew.
-///
-/// If another process has the folder locked, or the log is damaged, has the form of before, or is not this node's, the
-/// file is left as it is.
-pub fn open_log<'a, R: Files + AllocGlobal, E: Write>(
+/// Locks the folder and opens the log in it. Fails with `InUse` if another process has the folder locked. Then nothing
+/// is changed.
+pub fn open_log<'a, R: Files + AllocGlobal>(
     rt: &'a R,
     folder: &str,
-    node: &mut Node,
-    err: &mut E,
-) -> Result<(FolderLog<'a, R>, LogEnd), Fault>
+) -> Result<FolderLog<NodeFolder<'a, R>>, Fault>
 where
     R::File: LockFile,
 {
-    let mut log = FolderLog::open(rt, folder)?;
-    let end = start_with(rt, &mut log, node, err)?;
-    Ok((log, end))
+    let folder = NodeFolder::open(rt, folder)?;
+    FolderLog::open(folder).map_err(unopened)
 }
 
-// Has the node carry out the opened log again, writes it anew if that is worth it, and begins an epoch, as `open_log`
-// says. Returns where the log ends. The log is borrowed, so that it is not dropped at each error here.
-fn start_with<R: Files + AllocGlobal, E: Write>(
-    rt: &R,
-    log: &mut FolderLog<'_, R>,
+/// Has the node carry out the log again, and cuts off an entry that is cut short at its end. Then it syncs the log,
+/// writes it anew, if most of it is no longer needed, and begins an epoch of the node. Returns where the log ends,
+/// which is synced. How many bytes it cut off is said on `err`, and why the log was not written anew.
+///
+/// If the log is damaged, has the form of before, or is not this node's, it is left as it is.
+pub fn start_with<L: StoredLog, E: Write>(
+    alloc: Global,
+    log: &mut L,
     node: &mut Node,
     err: &mut E,
-) -> Result<LogEnd, Fault> {
-    refuse_old_form(log.file())?;
-    let end = recover(rt, log.file(), node)?;
-    cut_behind(log.file(), end.length, err).map_err(Fault::Unopened)?;
-    let mut end = write_anew(rt, log, node, end, err)?;
-    let entries = node.start().map_err(Fault::Stopped)?;
-    let more = append_entries(rt.alloc(), log, &mut end.chain, &entries).map_err(Fault::LogLost)?;
-    log.sync_place().map_err(Fault::Unopened)?;
-    end.length = end.length.saturating_add(more);
-    Ok(end)
+) -> Result<LogEnd, Fault>
+    ensures starts { (names : FileOfNames) (number : ℕ) (disk : List ℕ) → IsNewNode names number node.old
+        → L.written log.old ≡ Some disk
+        → IfOk result (λ end. IsStart names number disk node.new end.chain.state (L.kept log.new)) }
+    ensures refused { IfErr result (λ fault. IsRefusal fault
+        → (L.written log.new ≡ L.written log.old) × (L.kept log.new ≡ L.kept log.old)) }
+    ensures synced { OnOk result (L.kept log.new ≡ L.written log.new) }
+    ensures fails { IfErr result IsStartFault }
+{
+    refuse_old_form(log)?;
+    let end = recover(alloc, log, node)?;
+    cut_behind(log, end.length, err)?;
+    let end = write_anew(alloc, log, node, end, err)?;
+    begin(alloc, log, node, end)
 }
 
-// Fails with `OldForm` if the log has an older form. The file is then read from its beginning on.
-fn refuse_old_form<F: Read + Seek>(file: &mut F) -> Result<(), Fault> {
+// Fails with `OldForm` if the log has an older form.
+fn refuse_old_form<L: StoredLog>(log: &L) -> Result<(), Fault>
+    ensures { IfErr result IsStartFault }
+{
+    let mut reader = log.read().map_err(unopened)?;
     let mut head = [0; HEAD_LENGTH];
-    match file.read_exact(&mut head) {
+    match reader.read_exact(&mut head) {
         Ok(()) => {
             if is_old_head(&head) {
                 return Err(Fault::OldForm);
@@ -88,41 +102,53 @@ fn refuse_old_form<F: Read + Seek>(file: &mut F) -> Result<(), Fault> {
             }
         }
     }
-    match file.seek(SeekFrom::Start(0)) {
-        Ok(_) => Ok(()),
-        Err(error) => Err(Fault::Unopened(error)),
-    }
+    Ok(())
 }
 
 // Has the node carry out the log again. Returns where its last entry ends.
-fn recover<R: Files + AllocGlobal>(
-    rt: &R,
-    file: &mut R::File,
-    node: &mut Node,
-) -> Result<LogEnd, Fault> {
-    match BufReader::with_capacity(rt.alloc(), LOG_BUFFER, file) {
-        Ok(mut reader) => recover_machine(rt.alloc(), &mut reader, node).map_err(Fault::BadLog),
+fn recover<L: StoredLog>(alloc: Global, log: &L, node: &mut Node) -> Result<LogEnd, Fault>
+    ensures recovered { IfOk result
+        (λ end. HasRecovered CarriesOutEntry node.old node.new (L.written log.now) (Ok end)) }
+    ensures fails { IfErr result IsStartFault }
+{
+    let reader = log.read().map_err(unopened)?;
+    match BufReader::with_capacity(alloc, LOG_BUFFER, reader) {
+        Ok(mut reader) => recover_machine(alloc, &mut reader, node).map_err(Fault::BadLog),
         Err(_) => Err(Fault::NoMemory),
     }
 }
 
-// Cuts the file behind so many bytes, where the next byte is then written. Says on `err` how many bytes it cut off.
-fn cut_behind<F: Seek + OpenFile, E: Write>(
-    file: &mut F,
-    length: u64,
-    err: &mut E,
-) -> io::Result<()> {
-    let end = file.seek(SeekFrom::End(0))?;
-    if end > length {
-        file.set_len(length)?;
-        let cut = end - length;
+// Cuts the log behind so many bytes, and syncs it. Says on `err` how many bytes it cut off.
+fn cut_behind<L: StoredLog, E: Write>(log: &mut L, length: u64, err: &mut E) -> Result<(), Fault>
+    ensures cut { OnOk result (IsFrontOf length (L.written log.old) (L.kept log.new)) }
+    ensures synced { OnOk result (L.kept log.new ≡ L.written log.new) }
+    ensures kind { IfErr result (λ fault. IsRefusal fault → ⊥) }
+    ensures fails { IfErr result IsStartFault }
+{
+    let cut = log.cut(length).map_err(Fault::Unopened)?;
+    if cut > 0 {
         let _ = writeln!(
             err,
             "casd: the log's last entry was cut short; {cut} bytes were cut off"
         );
     }
-    file.seek(SeekFrom::Start(length))?;
-    Ok(())
+    log.sync().map_err(Fault::LogLost)
+}
+
+// Begins an epoch of the node, and appends the entries of this to the log that ends there. Returns where it ends then.
+fn begin<L: Log>(alloc: Global, log: &mut L, node: &mut Node, end: LogEnd) -> Result<LogEnd, Fault>
+    requires { L.kept log.old ≡ L.written log.old }
+    ensures begun { IfOk result (λ then.
+        IsBegun node.old node.new end.chain.state then.chain.state (L.kept log.old) (L.kept log.new)) }
+    ensures synced { OnOk result (L.kept log.new ≡ L.written log.new) }
+    ensures kind { IfErr result (λ fault. IsRefusal fault → ⊥) }
+    ensures fails { IfErr result IsStartFault }
+{
+    let mut end = end;
+    let entries = node.start().map_err(Fault::Stopped)?;
+    let more = append_entries(alloc, log, &mut end.chain, &entries).map_err(Fault::LogLost)?;
+    end.length = end.length.saturating_add(more);
+    Ok(end)
 }
 
 /// Writes the log that ends there anew, if that is worth it and the node may do so now. The log is synced. Returns
@@ -131,19 +157,25 @@ fn cut_behind<F: Seek + OpenFile, E: Write>(
 ///
 /// Fails with `NotExchanged` if the new log was written, and cannot be put in the place of the old one. Nothing may be
 /// appended then.
-pub fn write_anew<R: Files + AllocGlobal, E: Write>(
-    rt: &R,
-    log: &mut FolderLog<'_, R>,
+pub fn write_anew<L: RewritableLog, E: Write>(
+    alloc: Global,
+    log: &mut L,
     node: &Node,
     end: LogEnd,
     err: &mut E,
-) -> Result<LogEnd, Fault> {
+) -> Result<LogEnd, Fault>
+    requires { L.kept log.old ≡ L.written log.old }
+    ensures rewritten { HasWrittenAnew node.now (L.kept log.old) end (L.kept log.new) result }
+    ensures synced { OnOk result (L.kept log.new ≡ L.written log.new) }
+    ensures kind { IfErr result (λ fault. IsRefusal fault → ⊥) }
+    ensures fails { IfErr result IsStartFault }
+{
     let _ = log.remove_second();
     if !is_worth_rewriting(end.length, node.needed_bytes()) {
         return Ok(end);
     }
     match node.entries_anew() {
-        Ok(Some(entries)) => exchange(rt, log, &entries, end, err),
+        Ok(Some(entries)) => exchange(alloc, log, &entries, end, err),
         Ok(None) => Ok(end),
         Err(error) => {
             give_up(err, error);
@@ -154,19 +186,27 @@ pub fn write_anew<R: Files + AllocGlobal, E: Write>(
 
 // Puts a log with these entries in the place of the log that ends there, which stays if the new one cannot be written.
 // Returns where the log ends then.
-fn exchange<R: Files + AllocGlobal, E: Write>(
-    rt: &R,
-    log: &mut FolderLog<'_, R>,
+fn exchange<L: RewritableLog, E: Write>(
+    alloc: Global,
+    log: &mut L,
     entries: &[Entry],
     end: LogEnd,
     err: &mut E,
-) -> Result<LogEnd, Fault> {
-    match rewrite_log(rt.alloc(), log, entries).map_err(Fault::NotExchanged)? {
-        Rewriting::Done(anew) => Ok(anew),
-        Rewriting::GivenUp(error) => {
+) -> Result<LogEnd, Fault>
+    requires { L.kept log.old ≡ L.written log.old }
+    ensures rewritten { (node : Node) → AreAnew node entries.now
+        → HasWrittenAnew node (L.kept log.old) end (L.kept log.new) result }
+    ensures synced { OnOk result (L.kept log.new ≡ L.written log.new) }
+    ensures kind { IfErr result (λ fault. IsRefusal fault → ⊥) }
+    ensures fails { IfErr result IsStartFault }
+{
+    match rewrite_log(alloc, log, entries) {
+        Ok(Rewriting::Done(anew)) => Ok(anew),
+        Ok(Rewriting::GivenUp(error)) => {
             give_up(err, error);
             Ok(end)
         }
+        Err(error) => Err(Fault::NotExchanged(error)),
     }
 }
 

@@ -1,11 +1,17 @@
 //! The program, generic over its input and its writers.
+ghost use Rattle.std.specs.Prelude.{◌≡◌, ℕ, List, Some, OnOk, IfOk};
+ghost use Rattle.std.specs.Io.Buffered.{reader_remaining};
+ghost use Rattle.deeds.specs.Kept.{FileOfNames};
+ghost use Rattle.processes.specs.Events.{IsNewNode};
+ghost use Rattle.casd.specs.Program.{HasRun, HasServed, HasServedOnce};
+
 use crate::arguments::{Request, read_request};
 use crate::fault::Fault;
-use crate::folder::FolderLog;
 use crate::lock::LockFile;
-use crate::opening::{open_log, read_file, write_anew};
+use crate::opening::{open_log, read_file, start_with, write_anew};
 use node::Node;
-use node_store::{LogEnd, ServeError, serve_frames};
+use node_store::{LogEnd, RewritableLog, ServeError, StoredLog, serve_frames};
+use std::alloc::Global;
 use std::io;
 use std::io::{BufReader, ErrorKind, Read, Write};
 use std::rt::Files;
@@ -72,46 +78,93 @@ where
 {
     let file = read_file(rt, file, number)?;
     let mut node = Node::new(rt.alloc(), file, number);
-    open_and_serve(rt, &mut node, folder, input, output, err)
+    let mut log = open_log(rt, folder)?;
+    start_and_serve(rt.alloc(), &mut node, &mut log, input, output, err)
 }
 
-// Opens the node's log, and serves until the input ends.
-fn open_and_serve<R: Files + AllocGlobal, I: Read + Drop, O: Write, E: Write>(
-    rt: &R,
+// Starts the node with its log, and serves until the input ends.
+fn start_and_serve<L: StoredLog, I: Read + Drop, O: Write, E: Write>(
+    alloc: Global,
     node: &mut Node,
-    folder: &str,
+    log: &mut L,
     input: I,
     output: &mut O,
     err: &mut E,
 ) -> Result<(), Fault>
-where
-    R::File: LockFile,
+    ensures { (names : FileOfNames) (number : ℕ) (disk : List ℕ) → IsNewNode names number node.old
+        → L.written log.old ≡ Some disk
+        → HasRun names number disk (I.remaining input) (O.contents output.old) node.new (L.kept log.new)
+        (O.contents output.new) result }
 {
-    let (mut log, end) = open_log(rt, folder, node, err)?;
-    match BufReader::with_capacity(rt.alloc(), INPUT_BUFFER, input) {
-        Ok(mut input) => serve(rt, node, &mut input, output, &mut log, end, err),
+    let end = start_with(alloc, log, node, err)?;
+    match BufReader::with_capacity(alloc, INPUT_BUFFER, input) {
+        Ok(mut input) => serve(alloc, node, &mut input, output, log, end, err),
         Err(_) => Err(Fault::NoMemory),
     }
 }
 
 // The node handles the frames of the input, until it ends. Whenever the log has grown much, which ends there at first,
 // it is written anew, if that is worth it and the node may do so then.
-fn serve<R: Files + AllocGlobal, I: Read + Drop, O: Write, E: Write>(
-    rt: &R,
+fn serve<L: RewritableLog, I: Read + Drop, O: Write, E: Write>(
+    alloc: Global,
     node: &mut Node,
     input: &mut BufReader<I>,
     output: &mut O,
-    log: &mut FolderLog<'_, R>,
+    log: &mut L,
     end: LogEnd,
     err: &mut E,
-) -> Result<(), Fault> {
+) -> Result<(), Fault>
+    requires { L.kept log.old ≡ L.written log.old }
+    ensures { HasServed
+        (record {
+          chain = end.chain.state;
+          machine = node.old;
+          left = reader_remaining I.remaining input.old;
+          kept = L.kept log.old;
+          held = O.contents output.old;
+        })
+        node.new (reader_remaining I.remaining input.new) (L.kept log.new) (O.contents output.new) result }
+{
     let mut end = end;
     for _ in 0..u64::MAX {
-        let served = serve_frames(rt.alloc(), node, input, output, log, end, err);
-        match served.map_err(Fault::Ended)? {
-            None => return Ok(()),
-            Some(now) => end = write_anew(rt, log, node, now, err)?,
+        match serve_once(alloc, node, input, output, log, end, err) {
+            Ok(Some(now)) => end = now,
+            Ok(None) => return Ok(()),
+            Err(fault) => return Err(fault),
         }
     }
     Err(Fault::Ended(ServeError::NoInput(io::Error::from(ErrorKind::TimedOut))))
+}
+
+// The same until the log has grown and perhaps was written anew. Returns where it ends then, or none if the input has
+// ended.
+fn serve_once<L: RewritableLog, I: Read + Drop, O: Write, E: Write>(
+    alloc: Global,
+    node: &mut Node,
+    input: &mut BufReader<I>,
+    output: &mut O,
+    log: &mut L,
+    end: LogEnd,
+    err: &mut E,
+) -> Result<Option<LogEnd>, Fault>
+    requires { L.kept log.old ≡ L.written log.old }
+    ensures serves { HasServedOnce
+        (record {
+          chain = end.chain.state;
+          machine = node.old;
+          left = reader_remaining I.remaining input.old;
+          kept = L.kept log.old;
+          held = O.contents output.old;
+        })
+        node.new (reader_remaining I.remaining input.new) (L.kept log.new) (O.contents output.new) result }
+    ensures synced { OnOk result (L.kept log.new ≡ L.written log.new) }
+{
+    match serve_frames(alloc, node, input, output, log, end, err) {
+        Ok(Some(now)) => match write_anew(alloc, log, node, now, err) {
+            Ok(then) => Ok(Some(then)),
+            Err(fault) => Err(fault),
+        },
+        Ok(None) => Ok(None),
+        Err(error) => Err(Fault::Ended(error)),
+    }
 }

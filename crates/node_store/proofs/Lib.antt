@@ -1,4 +1,5 @@
 pub mod GrowthLemmas
+pub mod FolderLemmas
 pub mod LogBytesLemmas
 pub mod RecoveryLemmas
 pub mod RewritingLemmas

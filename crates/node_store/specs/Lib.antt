@@ -1,4 +1,5 @@
 pub mod Logs
+pub mod Disk
 pub mod Recovery
 pub mod Outputs
 pub mod Serving

@@ -32,7 +32,7 @@ abbrev pub HasRewritten : {E : Type 0} → (old new : Option (List ℕ)) → Lis
     → Type 0
 HasRewritten old new entries (Ok (ends.Done end)) =
     Becomes old new (Some (log_bytes first_chain entries)) × IsEndOf entries end
-HasRewritten old new entries (Ok (ends.GivenUp error)) = Keeps old new
+HasRewritten old new entries (Ok (ends.GivenUp error)) = new ≡ old
 HasRewritten old new entries (Err error) = KeepsOrBecomes old new (Some (log_bytes first_chain entries))
 
 -- a log of so many bytes has become one of so many bytes: at least twice as many, and at least 16 MiB more

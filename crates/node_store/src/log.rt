@@ -1,12 +1,5 @@
 //! A log that keeps what was synced.
-ghost use Rattle.std.specs.Prelude.{OnOk};
-ghost use Rattle.std.specs.Io.KnownBytes.{Appends};
-ghost use Rattle.frames.specs.Writing.{Writes};
-
-use frames::write_bytes;
-use std::fs::OpenFile;
 use std::io;
-use std::io::Write;
 
 /// A log: bytes can be appended to it, and bytes that are synced are still there after the computer stops.
 pub trait Log {
@@ -30,30 +23,7 @@ pub trait Log {
     /// Makes the log keep all bytes that were appended.
     fn sync(&mut self) -> io::Result<()>
         ensures written { Keeps (written self.old) (written self.new) }
-        ensures kept { Grows (kept self.old) (kept self.new) }
+        ensures kept { Grows (kept self.old) (written self.old) → Grows (kept self.old) (kept self.new) }
         ensures within { Grows (kept self.old) (written self.old) → Grows (kept self.new) (written self.new) }
         ensures all { OnOk result (kept self.new ≡ written self.new) };
-}
-
-/// A file that is a log, written at its end.
-#[derive(Drop)]
-pub struct LogFile<F> {
-    /// The file. The next byte is written at its end.
-    pub file: F,
-}
-
-impl<F: Write + OpenFile> Log for LogFile<F> {
-    // What is known of a file is what it holds, and a file that is synced is taken to keep that.
-    ghost written = { λ log. F.contents log.file };
-
-    ghost kept = { λ log. F.contents log.file };
-
-    fn append(&mut self, bytes: &[u8]) -> io::Result<()> {
-        write_bytes(&mut self.file, bytes)
-    }
-
-    fn sync(&mut self) -> io::Result<()> {
-        self.file.flush()?;
-        self.file.sync_data()
-    }
 }

@@ -49,7 +49,7 @@ pub fn has_grown(before: u64, now: u64) -> bool
 }
 
 /// Writes a log anew, so that it has these entries and no others. It writes them to a second log, whose chain begins
-/// anew, and syncs that, puts the second log in the place of the log, and syncs the place.
+/// anew, and syncs that, and puts the second log in the place of the log.
 ///
 /// If the second log cannot be written, the log stays as it was, and the result is `GivenUp`. If a later step fails,
 /// the log may keep what it had, or the new entries, and nothing may be appended to it.
@@ -65,7 +65,6 @@ pub fn rewrite_log<L: RewritableLog>(
     match write_second(alloc, log, entries) {
         Ok((second, end)) => {
             log.put_second(second)?;
-            log.sync_place()?;
             Ok(Rewriting::Done(end))
         }
         Err(error) => Ok(Rewriting::GivenUp(error)),

@@ -21,17 +21,12 @@ pub trait RewritableLog: Log {
         ensures written { Self.written self.new ≡ Self.written self.old }
         ensures kept { Self.kept self.new ≡ Self.kept self.old };
 
-    /// Puts the second log in the place of this one. Until the place is synced, the machine may stop and then have
-    /// either of the two, also if this fails.
+    /// Puts the second log in the place of this one, for good. Where this fails, the machine may stop and then have
+    /// either of the two.
     fn put_second(&mut self, second: Self::Second) -> io::Result<()>
         requires { Self.Second.kept second ≡ Self.Second.written second }
         ensures written { OnOk result (Becomes (Self.written self.old) (Self.written self.new)
             (Self.Second.written second)) }
-        ensures kept { KeepsOrBecomes (Self.kept self.old) (Self.kept self.new) (Self.Second.kept second) };
-
-    /// Has the log that was put here last kept in this place.
-    fn sync_place(&mut self) -> io::Result<()>
-        ensures written { Self.written self.new ≡ Self.written self.old }
-        ensures kept { KeepsOrBecomes (Self.kept self.old) (Self.kept self.new) (Self.written self.old) }
+        ensures kept { KeepsOrBecomes (Self.kept self.old) (Self.kept self.new) (Self.Second.kept second) }
         ensures all { OnOk result (Self.kept self.new ≡ Self.written self.new) };
 }

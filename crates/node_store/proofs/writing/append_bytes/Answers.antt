@@ -16,6 +16,7 @@ returns-in_err-append_parts-clause-kept g c =
 
 pub returns-clause-kept : goal.returns-clause-kept
 returns-clause-kept g c =
+    let front = c.append_parts.ensures.within (grows_same _ _ c.requires) in
     synced_writes c.sync.result _ _ _ _ _ c.args.bytes.now c.requires c.in_ok-append_parts.ensures.written
-    (grows_twice _ _ _ c.append_parts.ensures.kept c.sync.ensures.kept) c.sync.ensures.written
-    (c.sync.ensures.within (c.append_parts.ensures.within (grows_same _ _ c.requires))) c.sync.ensures.all
+    (grows_twice _ _ _ c.append_parts.ensures.kept (c.sync.ensures.kept front)) c.sync.ensures.written
+    (c.sync.ensures.within front) c.sync.ensures.all

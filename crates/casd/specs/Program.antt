@@ -1,0 +1,46 @@
+-- The contracts that docs/trusted.md lists do not depend on this file; other contracts and proofs do.
+-- What the program does with its node.
+use Rattle.std.specs.Prelude.{◌≡◌, ℕ, List, Option, Some, None, Result, Ok, Err, ⊤}
+use Rattle.deeds.specs.Kept.{FileOfNames}
+use Rattle.node.specs.declared.node.Node.{Node}
+use Rattle.node_store.specs.Rounds.{BetweenRounds}
+use Rattle.processes.specs.Programs.{IsStart}
+use Rattle.node_store.specs.declared.end.LogEnd.{LogEnd}
+use Rattle.processes.specs.Sessions.{GoesOn, ServesToEnd, ServesToExchange, ServesToStop}
+use Rattle.casd.specs.declared.fault.Fault.{Fault}
+use Rattle.casd.specs.declared.fault.Fault.TheVariants as faults
+
+-- the program served until its input ended, its loop stopped early, or it could not exchange its log
+abbrev pub HasServed : {T : Type 0} → BetweenRounds Node → Node → (left keeps holds : Option (List ℕ))
+    → Result T Fault → Type 0
+HasServed first new left keeps holds (Ok done) = ServesToEnd first new left keeps holds
+HasServed first new left keeps holds (Err (faults.Ended error)) = ServesToStop first new left keeps holds error
+HasServed first new left keeps holds (Err (faults.NotExchanged error)) = ServesToExchange first left keeps holds
+HasServed first new left keeps holds (Err _) = ⊥
+
+-- the program served until its log had grown, and perhaps wrote it anew, up to the end that is the result; or it served
+-- until one of the other ends
+abbrev pub HasServedOnce : BetweenRounds Node → Node → (left keeps holds : Option (List ℕ))
+    → Result (Option LogEnd) Fault → Type 0
+HasServedOnce first new left keeps holds (Ok (Some then)) = GoesOn 1 first
+    (record { chain = then.chain.state; machine = new; left = left; kept = keeps; held = holds })
+HasServedOnce first new left keeps holds (Ok None) = ServesToEnd first new left keeps holds
+HasServedOnce first new left keeps holds (Err fault) = HasServed {T = Unit {0}} first new left keeps holds (Err fault)
+
+-- the program started with these bytes of a log, with this input and output, and then served
+abbrev pub HasStartedAndServed : {T : Type 0} → FileOfNames → (number : ℕ) → (disk : List ℕ)
+    → (input held : Option (List ℕ)) → Node → (keeps holds : Option (List ℕ)) → Result T Fault → Type 0
+HasStartedAndServed names number disk input held new keeps holds result =
+    (started : Node) × (chain : ℕ) × (kept left : Option (List ℕ)) × IsStart names number disk started chain kept
+    × HasServed (record { chain = chain; machine = started; left = input; kept = kept; held = held })
+    new left keeps holds result
+
+-- the program started and served until its input ended or its loop stopped early; what it did if it ends otherwise, the
+-- contracts of the functions say that it calls
+abbrev pub HasRun : {T : Type 0} → FileOfNames → (number : ℕ) → (disk : List ℕ) → (input held : Option (List ℕ))
+    → Node → (keeps holds : Option (List ℕ)) → Result T Fault → Type 0
+HasRun names number disk input held new keeps holds (Ok done) =
+    HasStartedAndServed names number disk input held new keeps holds (Ok done)
+HasRun {T = T} names number disk input held new keeps holds (Err (faults.Ended error)) =
+    HasStartedAndServed {T = T} names number disk input held new keeps holds (Err (faults.Ended error))
+HasRun names number disk input held new keeps holds (Err _) = ⊤
