@@ -1,6 +1,7 @@
 -- The contracts that docs/trusted.md lists do not depend on this file; other contracts and proofs do.
 -- Why a node cannot go on with a frame.
-use Rattle.std.specs.Prelude.{◌≡◌, ◌⊎◌, ⊤, ℕ, Bool, true, false, List, [], ◌∷◌, ◌++◌, Option, None, Some, Result, Ok, Err}
+use Rattle.std.specs.Prelude.{◌≡◌, ◌⊎◌, ⊤, ℕ, Bool, true, false, List, [], ◌∷◌, ◌++◌}
+use Rattle.std.specs.Prelude.{Option, None, Some, Result, Ok, Err}
 use Rattle.indexmap.specs.IndexMap.{index_map_len, keys}
 use Rattle.deeds.specs.Named.{NamedLetter as Named}
 use Rattle.client_commands.specs.Deletion.{name_now}
@@ -116,7 +117,8 @@ FailsIf false sender it node error = error ≡ errors.NoMemory
 
 -- why a node cannot go on with a message
 abbrev pub FailsMessage : (sender : ℕ) → NodeMessage → Node → NodeError → Type 0
-FailsMessage sender message node error = FailsIf (is_admitted node.keeper sender message) sender message.named node error
+FailsMessage sender message node error =
+    FailsIf (is_admitted node.keeper sender message) sender message.named node error
 
 -- why a node cannot go on with what was read of a node
 abbrev pub FailsRead : (sender : ℕ) → Result NodeMessage Fault → Node → NodeError → Type 0
@@ -135,7 +137,7 @@ abbrev pub FailsAged : (id : ℕ) → Node → NodeError → Type 0
 FailsAged id node error = IsFailure ⊥ (CanAge node.keeper id (aged_at node id)) error
 
 -- why a node cannot go on with a tick for these calls: the first of them got older, and it cannot go on with the next
--- one; or memory was refused before
+-- one
 pub record FailsTicks (ids : List ℕ) (old : Node) (error : NodeError) : Type 0 where
   pub first : List ℕ
   pub id : ℕ
@@ -166,8 +168,9 @@ FailsStep node (it ∷ own) due error = FailsLetter node.keeper.ids.node it node
 FailsStep node [] (client ∷ due) error = FailsNext node client error
 FailsStep node [] [] error = ⊥
 
--- why a node cannot go on with a frame when it has done what came: it did deeds and services up to some state, and can
--- do no further step from there
+-- Why a node cannot go on with a frame when it has done what came: it did deeds and services up to some state, and it
+-- cannot do the next step from there. The ids in that state are those of `first`, or later ones; this does not say how
+-- many were given meanwhile.
 pub record FailsBehind (asker : ℕ) (got : List Named) (arrival : Option Arrival) (first : Node)
     (error : NodeError) : Type 0 where
   pub middle : Node
@@ -182,9 +185,9 @@ FailsWith node frame error = FailsArrival (arrival_at frame) node error
     ⊎ FailsBehind (sender_or node.keeper.ids.node (arrival_at frame)) (letters_in node.keeper frame) (arrival_at frame)
     node error
 
--- With what a node may fail at a frame. Memory may always be refused. There are no more ids, or something does not fit,
--- only for a reason that the node meets with what has come, or later with a letter to itself or a client's next command.
--- A refusal by an object is told to the client, and never makes the node fail.
+-- With what a node may fail at a frame. Memory may always be refused. The other errors have a reason, which the node
+-- meets with what has come, or later, with a letter to itself or a client's next command. A refusal by an object is told
+-- to the client, and never makes the node fail.
 abbrev pub Fails : Node → Strings → NodeError → Type 0
 Fails node frame errors.NoMemory = ⊤
 Fails node frame errors.NoMoreIds = FailsWith node frame errors.NoMoreIds

@@ -23,9 +23,13 @@ use Rattle.node_clients.specs.Answers.{CanBeSent}
 line_fits : (code text : List ℕ) → length code ≤ 40 → length text ≤ 200 → IsShort (error_line code text)
 line_fits code text short long =
     let limit : LONGEST_STRING ≡ 16842752 = refl in
-    omega (arith, length-append (codes "-" ++ code ++ codes " " ++ text) line_end,
-    length-append (codes "-" ++ code ++ codes " ") text, length-append (codes "-" ++ code) (codes " "),
-    length-append (codes "-") code)
+    omega (
+      arith,
+      length-append (codes "-" ++ code ++ codes " " ++ text) line_end,
+      length-append (codes "-" ++ code ++ codes " ") text,
+      length-append (codes "-" ++ code) (codes " "),
+      length-append (codes "-") code,
+    )
 
 short_name : (name : CommandName) → length (command_text name) ≤ 10
 short_name of.Get = omega arith
@@ -69,8 +73,11 @@ short_fault faults.PatternTooLong = omega arith
 short_fault faults.NoSets = omega arith
 short_fault (faults.WrongCount name) =
     let short : length (command_text name) ≤ 10 = short_name name in
-    omega (arith, length-append (codes "wrong number of arguments for '" ++ command_text name) (codes "' command"),
-    length-append (codes "wrong number of arguments for '") (command_text name))
+    omega (
+      arith,
+      length-append (codes "wrong number of arguments for '" ++ command_text name) (codes "' command"),
+      length-append (codes "wrong number of arguments for '") (command_text name),
+    )
 
 short_code : (fault : CommandFault) → length (fault_code fault) ≤ 40
 short_code faults.UnknownCommand = omega arith
@@ -139,15 +146,25 @@ not_mover_fits = (line_fits (codes "ERR") (error_text errors.NotMover) (omega ar
 -- it can be told that there is no such node
 pub stranger_fits : (node : ℕ) → node < 2 ^ 8 → CanBeSent (answers.Error (errors.NoSuchNode node))
 stranger_fits node within =
-    let digits : length (decimal node) ≤ 3 = length-decimal-le 3 node (omega arith) (omega arith) (omega arith) in
-    (line_fits (codes "ERR") (error_text (errors.NoSuchNode node)) (omega arith)
-    (omega (arith, length-append (codes "node " ++ decimal node) (codes " is not in the cluster file"),
-    length-append (codes "node ") (decimal node))), tt)
+    let digits : length (decimal node) ≤ 3 = length-decimal-le 3 node (omega arith) (omega arith) (omega arith) in (
+      line_fits (codes "ERR") (error_text (errors.NoSuchNode node)) (omega arith)
+          (omega (
+            arith,
+            length-append (codes "node " ++ decimal node) (codes " is not in the cluster file"),
+            length-append (codes "node ") (decimal node),
+          )),
+      tt,
+    )
 
 -- it can be told that a node is not heard
 pub unheard_fits : (node : ℕ) → node < 2 ^ 8 → CanBeSent (answers.Error (errors.TooFewHeard node))
 unheard_fits node within =
-    let digits : length (decimal node) ≤ 3 = length-decimal-le 3 node (omega arith) (omega arith) (omega arith) in
-    (line_fits (codes "ERR") (error_text (errors.TooFewHeard node)) (omega arith)
-    (omega (arith, length-append (codes "fewer than a quorum of the new nodes answer: node " ++ decimal node) (codes " is not heard"),
-    length-append (codes "fewer than a quorum of the new nodes answer: node ") (decimal node))), tt)
+    let digits : length (decimal node) ≤ 3 = length-decimal-le 3 node (omega arith) (omega arith) (omega arith) in (
+      line_fits (codes "ERR") (error_text (errors.TooFewHeard node)) (omega arith)
+          (omega (
+            arith,
+            length-append (codes "fewer than a quorum of the new nodes answer: node " ++ decimal node) (codes " is not heard"),
+            length-append (codes "fewer than a quorum of the new nodes answer: node ") (decimal node),
+          )),
+      tt,
+    )

@@ -10,7 +10,7 @@ use Rattle.node_log.specs.Reading.{HadLeft}
 use Rattle.node_effects.specs.declared.effects.Effects.{Effects}
 use Rattle.node_effects.specs.declared.error.NodeError.{NodeError}
 use Rattle.node_effects.specs.declared.error.NodeError.TheVariants.{NoMemory}
-use Rattle.node_store.specs.Serving.{BeginsWithFrame, BeginsWithFrames, Happens, IsWriteLost, LoopEvent, Notes, StopsFor, read_by}
+use Rattle.node_store.specs.Serving.{BeginsWithFrame, BeginsWithFrames, Happens, IsWriteLost, LoopEvent, Notes, StopsAtFrame, read_by}
 use Rattle.node_store.specs.declared.stop.ServeError.{ServeError}
 use Rattle.node_store.specs.declared.stop.ServeError.TheVariants as stops
 use Rattle.node_store.proofs.FrameReadingLemmas.{frames_behind}
@@ -27,15 +27,15 @@ module _ {M : Type 0} (handles : M → List (List ℕ) → Effects → M → Typ
     (fails : M → List (List ℕ) → NodeError → Type 0) where
   -- the loop stops as a part of it stopped
   pub stopped_so : {T : Type 0} (old : M) (had : Known) (result : Result T ServeError) (error : ServeError) →
-      IsErrAnd result (λ y. y ≡ error) → StopsFor handles notes fails old had error →
-      IfErr result (StopsFor handles notes fails old had)
+      IsErrAnd result (λ y. y ≡ error) → StopsAtFrame handles notes fails old had error →
+      IfErr result (StopsAtFrame handles notes fails old had)
   stopped_so old had result error is why =
-      let P = StopsFor handles notes fails old had in
+      let P = StopsAtFrame handles notes fails old had in
       let q = err_from_is_err_and result is in
       subst (λ r. IfErr r P) (sym q.1) (subst P (sym q.2) why)
 
   -- what cannot be written stops the loop for another reason
-  pub lost_stops : (old : M) (had : Known) (error : ServeError) → IsWriteLost error → StopsFor handles notes fails old had error
+  pub lost_stops : (old : M) (had : Known) (error : ServeError) → IsWriteLost error → StopsAtFrame handles notes fails old had error
   lost_stops old had (stops.NoFrame fault) is = absurd is
   lost_stops old had (stops.NoInput error) is = absurd is
   lost_stops old had (stops.LogLost error) is = tt
@@ -45,14 +45,14 @@ module _ {M : Type 0} (handles : M → List (List ℕ) → Effects → M → Typ
   -- the machine fails at the next frame
   pub stops_here : (old : M) (had left : Known) (frame : List (List ℕ)) (error : NodeError) →
       Consumes had left (frame_bytes frame) → (error ≡ NoMemory) ⊎ fails old frame error →
-      StopsFor handles notes fails old had (stops.Stopped error)
+      StopsAtFrame handles notes fails old had (stops.Stopped error)
   stops_here old had left frame error took (inl is) = inl is
   stops_here old had left frame error took (inr is) = inr ([], old, refl, frame, is, stood_first frame had left took)
 
   -- the machine fails behind the frames of some events
   pub stops_then : (a b : M) (had mid : Known) (events : List LoopEvent) (error : ServeError) →
       FoldsTo (Happens handles notes) a events b → Consumes had mid (flat_map read_by events) →
-      StopsFor handles notes fails b mid error → StopsFor handles notes fails a had error
+      StopsAtFrame handles notes fails b mid error → StopsAtFrame handles notes fails a had error
   stops_then a b had mid events (stops.NoFrame fault) folds took why = tt
   stops_then a b had mid events (stops.NoInput error) folds took why = tt
   stops_then a b had mid events (stops.LogLost error) folds took why = tt
@@ -69,6 +69,6 @@ module _ {M : Type 0} (handles : M → List (List ℕ) → Effects → M → Typ
 
   -- the same behind the length that a round begins with
   pub stops_noted : (a b : M) (bytes : ℕ) (had : Known) (error : ServeError) → notes a bytes b →
-      StopsFor handles notes fails b had error → StopsFor handles notes fails a had error
+      StopsAtFrame handles notes fails b had error → StopsAtFrame handles notes fails a had error
   stops_noted a b bytes had error noted why =
       stops_then a b had had (Notes bytes ∷ []) error (b, noted, refl) (consumes_none had) why

@@ -97,11 +97,11 @@ module _ {M : Type 0} (handles : M → List (List ℕ) → Effects → M → Typ
   -- If the loop stops because the machine cannot go on, the machine handled the frames of some events, with which the
   -- input begins, and fails so at the next frame; or memory was refused. `fails machine frame error` says with what a
   -- machine may fail at a frame. If the loop stops for another reason, this says nothing.
-  abbrev pub StopsFor : (M → List (List ℕ) → NodeError → Type 0) → M → Option (List ℕ) → ServeError → Type 0
-  StopsFor fails old had (stops.Stopped error) = (error ≡ NoMemory)
+  abbrev pub StopsAtFrame : (M → List (List ℕ) → NodeError → Type 0) → M → Option (List ℕ) → ServeError → Type 0
+  StopsAtFrame fails old had (stops.Stopped error) = (error ≡ NoMemory)
       ⊎ ((events : List LoopEvent) × (between : M) × FoldsTo Happens old events between × (frame : List (List ℕ))
       × fails between frame error × HadLeft (BeginsWithFrames events (BeginsWithFrame frame)) had)
-  StopsFor fails old had error = ⊤
+  StopsAtFrame fails old had error = ⊤
 
   -- the frames that had arrived were handled one after another, and what the machine wants done waits in the batch;
   -- or the loop stops

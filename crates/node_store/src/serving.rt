@@ -8,7 +8,7 @@ ghost use Rattle.node_store.specs.Outputs.{HasGathered};
 ghost use Rattle.node_store.specs.Rewriting.{HasGrown};
 ghost use Rattle.node_store.specs.Rounds.{ServesInRounds};
 ghost use Rattle.node_store.specs.Serving.{HandlesArrived, IsFrameHandled, IsWriteLost, ServesSome, ServesUntil};
-ghost use Rattle.node_store.specs.Serving.{StopsFor, WritesOutputs};
+ghost use Rattle.node_store.specs.Serving.{StopsAtFrame, WritesOutputs};
 
 use crate::batch::Batch;
 use crate::end::LogEnd;
@@ -63,7 +63,7 @@ pub fn serve_frames<M: Machine, I: Read + Drop, O: Write, L: Log, E: Write>(
         })
         machine.new (reader_remaining I.remaining input.new) (L.kept log.new) (O.contents output.new) result }
     ensures stopped { IfErr result
-        (StopsFor M.handles M.notes M.fails machine.old (reader_remaining I.remaining input.old)) }
+        (StopsAtFrame M.handles M.notes M.fails machine.old (reader_remaining I.remaining input.old)) }
     ensures synced { OnOk result (L.kept log.new ≡ L.written log.new) }
     ensures grown { IfOk result (λ now. MatchOption now ⊤ (λ now. HasGrown end.length now.length)) }
 {
@@ -109,7 +109,7 @@ fn serve_arrived<M: Machine, I: Read + Drop, O: Write, L: Log>(
         (reader_remaining I.remaining input.old) (reader_remaining I.remaining input.new)
         (L.kept log.old) (L.kept log.new) (O.contents output.old) (O.contents output.new) result }
     ensures stopped { IfErr result
-        (StopsFor M.handles M.notes M.fails machine.old (reader_remaining I.remaining input.old)) }
+        (StopsAtFrame M.handles M.notes M.fails machine.old (reader_remaining I.remaining input.old)) }
     ensures synced { OnOk result (L.kept log.new ≡ L.written log.new) }
 {
     let goes_on = handle_arrived(alloc, machine, input, batch)?;
@@ -153,7 +153,7 @@ fn handle_arrived<M: Machine, I: Read + Drop>(
     ensures handles { HandlesArrived M.handles M.notes machine.old machine.new (reader_remaining I.remaining input.old)
         (reader_remaining I.remaining input.new) batch.old batch.new result }
     ensures stopped { IfErr result
-        (StopsFor M.handles M.notes M.fails machine.old (reader_remaining I.remaining input.old)) }
+        (StopsAtFrame M.handles M.notes M.fails machine.old (reader_remaining I.remaining input.old)) }
 {
     for _ in 0..MOST_AT_ONCE {
         if !handle_next(alloc, machine, input, batch)? {
@@ -181,7 +181,7 @@ fn handle_next<M: Machine, I: Read + Drop>(
     ensures handles { HandlesArrived M.handles M.notes machine.old machine.new (reader_remaining I.remaining input.old)
         (reader_remaining I.remaining input.new) batch.old batch.new result }
     ensures stopped { IfErr result
-        (StopsFor M.handles M.notes M.fails machine.old (reader_remaining I.remaining input.old)) }
+        (StopsAtFrame M.handles M.notes M.fails machine.old (reader_remaining I.remaining input.old)) }
 {
     match read_frame(alloc, input) {
         Ok(Some(frame)) => match handle(machine, frame, batch) {

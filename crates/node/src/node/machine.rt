@@ -46,8 +46,8 @@ impl Machine for Node {
     /// Handles a frame that has come, whose first string is its address. The node handles its letters to itself before
     /// this returns.
     ///
-    /// Fails with `NoMemory`, or with `NoMoreIds` if there is no id for a call. Any other error is a fault of this
-    /// program.
+    /// Fails with `NoMemory`, with `NoMoreIds` if there is no id for a call, or with `Unwritable` if something that is
+    /// to be written does not fit. It never fails with `Refused`.
     fn handle(&mut self, frame: Frame) -> Result<Effects, NodeError> {
         let number = self.keeper.number();
         let mut work = Work::new(self.alloc);

@@ -58,7 +58,8 @@ impl Node {
     // layout is no node of the cluster, or the host tells which nodes it hears, and fewer than a quorum of the members
     // are among them.
     fn move_fault(&self, layout: &Layout) -> Option<AnswerError>
-        ensures fault { result ≡ move_fault self.now.keeper.ids.node self.now.keeper.file self.now.peers.heard layout.now }
+        ensures fault { result
+            ≡ move_fault self.now.keeper.ids.node self.now.keeper.file self.now.peers.heard layout.now }
         ensures told { IfSome result (λ error. CanBeSent (answers.Error error)) }
     {
         if !self.keeper.is_mover() {

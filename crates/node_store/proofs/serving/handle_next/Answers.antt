@@ -13,7 +13,8 @@ returns-in-Ok-clause-handles g c =
     let left = reader_remaining g.I.Read.remaining c.read_frame.new.reader in
     arrived_one g.M.Machine.handles g.M.Machine.notes c.args.machine.now c.handle.new.machine c.in-Ok-Some.frame had left
     c.args.batch.now c.handle.new.batch
-    (found_frame had left c.in-Ok-Some.field-0 c.in-Ok-Some.frame c.in-Ok-Some.field-0-is c.in-Ok-Some.ensures.found) c.in-Ok.ensures.handled
+    (found_frame had left c.in-Ok-Some.field-0 c.in-Ok-Some.frame c.in-Ok-Some.field-0-is c.in-Ok-Some.ensures.found)
+    c.in-Ok.ensures.handled
 
 pub returns-in-Ok-None-clause-handles : goal.returns-in-Ok-None-clause-handles
 returns-in-Ok-None-clause-handles g c =
