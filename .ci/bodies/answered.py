@@ -3,10 +3,13 @@
 A proof has answers by hand for some goals of its function, and the prover searches for proofs of the others. Where an answer
 refuses an edit, these searches change nothing, so the next trial leaves them out. If the answers then are all right, the edit
 is tried again with all searches: a wrong line here costs time and changes no verdict.
+
+Behind the name of an edit stand the goals whose answers became wrong, which says which clause the edit breaks: the goal of
+the clause `told` at a return is `returns-clause-told`, and `returns` where there is only one clause.
 """
 import os
 
-HEAD = "# Written by .ci/wrong-bodies: for each crate the wrong bodies that an answer by hand refuses, without any search.\n"
+HEAD = "# Written by .ci/wrong-bodies: for each crate the wrong bodies that an answer by hand refuses, and for which goals.\n"
 HEAD_OF_GOALS = "# Written by .ci/wrong-bodies: the goals that a wrong body leaves open, where there are several.\n"
 
 
@@ -16,21 +19,30 @@ class ByAnswer:
         if os.path.isfile(path):
             with open(path, encoding="utf-8") as file:
                 rows = [line.split() for line in file if line.strip() and not line.startswith("#")]
-            self.names = {crate: set(names) for crate, *names in rows}
+            self.names = {crate: dict(self.parted(name) for name in names) for crate, *names in rows}
+
+    @staticmethod
+    def parted(word):
+        """The name of an edit, and the goals behind it."""
+        name, _, goals = word.partition(":")
+        return name, tuple(goals.split(",")) if goals else ()
 
     def of(self, crate):
-        return self.names.get(crate.name, set())
+        return self.names.get(crate.name, {})
 
     def enter(self, crate, results):
-        """Notes of each edit that was tried whether an answer refused it."""
+        """Notes of each edit that was tried whether an answer refused it, and for which goals."""
         tried = {it.edit.name for it in results}
-        self.names[crate.name] = (self.of(crate) - tried) | {it.edit.name for it in results if it.by_answer}
+        kept = {name: goals for name, goals in self.of(crate).items() if name not in tried}
+        self.names[crate.name] = kept | {it.edit.name: it.answers for it in results if it.by_answer}
 
     def write(self, crates):
         """Writes the lines of the crates that have wrong bodies, in the order of their names."""
         with open(self.path, "w", encoding="utf-8") as file:
             file.write(HEAD)
-            file.writelines(f"{' '.join([it, *sorted(self.names[it])])}\n" for it in sorted(crates) if self.names.get(it))
+            for crate in sorted(it for it in crates if self.names.get(it)):
+                words = [":".join([name, ",".join(goals)] if goals else [name]) for name, goals in sorted(self.names[crate].items())]
+                file.write(f"{' '.join([crate, *words])}\n")
 
 
 class OpenGoals:

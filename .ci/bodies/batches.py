@@ -9,7 +9,7 @@ from copies import without_bodies, without_search
 from edits import edited_texts, read
 from joint import Joint
 from kit import rtlib, run_prover, start_above, words_above
-from verdicts import NAMES, Report, Verdict
+from verdicts import NAMES, Report, Verdict, answered_goals
 
 
 @dataclass
@@ -19,6 +19,7 @@ class Result:
     why: str
     is_weak: bool = False  # refused only because a proof names what the edit took away
     by_answer: bool = False  # refused since an answer by hand is wrong now
+    answers: tuple = ()  # the goals of these answers
     goals: tuple = ()  # the goals for which no search found a proof
 
     def is_refused(self):
@@ -107,7 +108,7 @@ class Trial:
         rows, is_weak = report.reasons(edit)
         told = self.wrong_answers(report, edit)
         goals = () if told else tuple(self.goals.get(edit.name, report.open_goals(edit)))
-        return Result(edit, Verdict.REFUSED, (told or rows or [""])[0], is_weak, bool(told), goals)
+        return Result(edit, Verdict.REFUSED, (told or rows or [""])[0], is_weak, bool(told), answered_goals(told), goals)
 
     def wrong_answers(self, report, edit):
         return [row for row in report.errors_in_proofs(edit) if not NAMES.search(row)]

@@ -22,6 +22,12 @@ class Line(enum.Enum):
 NAMES = re.compile(r"has no field|is not in scope|has no `|was not admitted|can be named from here|was not checked")
 
 
+def answered_goals(rows):
+    """The goals whose answers these rows say to be wrong, in their order."""
+    found = [re.search(r": error: `([^`]+)`: ", row) for row in rows]
+    return tuple(dict.fromkeys(at[1] for at in found if at))
+
+
 def line_kind(said):
     if said.startswith(("proved", "no holes", "depends on a hole")):
         return Line.PROVED
