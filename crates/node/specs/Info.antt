@@ -173,15 +173,15 @@ abbrev pub keyspace_section : (names : ℕ) → List ℕ
 keyspace_section names =
     concat (codes "# Keyspace\r\ndb0:keys=" ∷ decimal names ∷ codes ",expires=0,avg_ttl=0\r\n\r\n" ∷ [])
 
--- how many bytes of fragments a node keeps
+-- how many bytes of fragments a node keeps, or 2^64 - 1 if there are more
 abbrev pub stored_bytes : Keeper → ℕ
 stored_bytes keeper = min (bytes_in_banks keeper.objects) (2 ^ 64 - 1)
 
--- how many banks a node keeps
+-- how many banks a node keeps, or 2^64 - 1 if there are more
 abbrev pub kept_banks : Keeper → ℕ
 kept_banks keeper = min (open_banks keeper.objects) (2 ^ 64 - 1)
 
--- how many tags these banks know
+-- how many tags these banks know, or 2^64 - 1 if there are more
 abbrev pub kept_tags : Keeper → ℕ
 kept_tags keeper = min (known_tags keeper.objects) (2 ^ 64 - 1)
 

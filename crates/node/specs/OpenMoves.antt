@@ -25,7 +25,7 @@ pub record HasOpenMoves (node : Node) : Type 0 where
       call_under node.desk.calls id ≡ Some (resumed_move name)
   pub only : (id : ℕ) (call : OpenCall) → call_under node.desk.calls id ≡ Some call → call ≡ resumed_move call.name
 
--- the id of the move that a record says began, if it says so
+-- if a record says that a move began, the id of this move, and otherwise none
 abbrev pub moved_by : Option Record → List ℕ
 moved_by (Some (record_of.Move id name layout)) = id ∷ []
 moved_by it = []
@@ -43,13 +43,13 @@ AreDistinctIds (id ∷ ids) = AllByRecursion (λ other. other ≢ id) ids × Are
 -- The laws
 
 -- after a new node has carried out entries of a log again, its desk has exactly its open moves, if no two of the moves
--- that these entries say began have the same id; a node's own log has no such two, since the node gives each id once
+-- that these entries say began have the same id; in a node's own log none have, as each start begins an epoch of ids
 abbrev pub DesksHaveTheOpenMoves : Type 0
 DesksHaveTheOpenMoves = (file : FileContents) (number : ℕ) (new copy : Node) (entries : List Strings) →
     IsLawfulFile file → kept_of new.keeper ≡ new_node (names_of file) number → new.desk.calls.entries ≡ [] →
     AreDistinctIds (moved_ids entries) → CarriesOutAll new entries copy → HasOpenMoves copy
 
--- it still has when the node has started
+-- it still has exactly these when the node has started
 abbrev pub StartedDesksHaveTheOpenMoves : Type 0
 StartedDesksHaveTheOpenMoves = (old new : Node) → IsStarted (kept_of old.keeper) (kept_of new.keeper) →
     new.desk ≡ old.desk → HasOpenMoves old → HasOpenMoves new

@@ -59,7 +59,7 @@ pub record HasCallUnder (old : Node) (id : ℕ) (call : Option OpenCall) (new : 
   pub here : call_under new.desk.calls id ≡ call
   pub others : (other : ℕ) → other ≢ id → call_under new.desk.calls other ≡ call_under old.desk.calls other
 
--- the call of this id is open at the desk no more, if an id is given, and no other has changed
+-- if an id is given, its call is open at the desk no more; no other call has changed
 abbrev pub ClosesCall : (old : Node) → (id : Option ℕ) → (new : Node) → Type 0
 ClosesCall old None new = KeepsCalls old new
 ClosesCall old (Some id) new = HasCallUnder old id None new
@@ -75,8 +75,8 @@ resumed_move name = record {
   deletion = None;
 }
 
--- a letter was taken again, if a frame was read as a message: the call that it ended, if it ended one, is open at the
--- desk no more
+-- a frame was read as a message, whose letter was taken again: the call that this ended, if it ended one, is open at
+-- the desk no more, and no other call has changed
 abbrev pub ClosesTaken : Result NodeMessage Fault → (old new : Node) → Type 0
 ClosesTaken (Ok message) old new =
     (taken : IsNamedReplyOutcome (kept_of old.keeper) message.named.name message.named.letter (kept_of new.keeper))

@@ -1,4 +1,4 @@
-//! That a node has from a log that was written anew what it has from the old one.
+//! What a node has from its log, also from one that was written anew, and what it tells of the other nodes.
 ghost use Rattle.node.specs.Anew.{AnewGivesCopies, HandledFramesKeepOwn, HandledFramesKeepOwnCalls};
 ghost use Rattle.node.specs.Anew.{OwnCallsAreDistinct, RecoveredEntriesKeepOwn, StartedNodesKeepOwn};
 ghost use Rattle.node.specs.Anew.{StartingNodesHaveOwn};
@@ -56,7 +56,7 @@ pub fn ready_nodes_hear_quorums()
 {}
 
 /// A law: after a new node has carried out its log again, its desk has exactly the moves that are open at its objects,
-/// and no other call.
+/// and no other call, if no two moves of the log have the same id.
 pub fn desks_have_the_open_moves()
     ensures { DesksHaveTheOpenMoves }
 {}

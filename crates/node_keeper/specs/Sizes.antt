@@ -11,12 +11,12 @@ abbrev pub count_of_banks : Option Bank → ℕ
 count_of_banks None = 0
 count_of_banks (Some bank) = 1
 
--- how many tags a bank knows, if it is open
+-- how many tags a bank knows, if it is open, and otherwise 0
 abbrev pub count_of_tags : Option Bank → ℕ
 count_of_tags None = 0
 count_of_tags (Some bank) = map.len bank.rows
 
--- the same for the bank of a place
+-- how many banks a place has: one or none
 abbrev pub place_banks : Place → ℕ
 place_banks place = count_of_banks place.bank
 

@@ -47,7 +47,7 @@ pub fn stops_are_events()
     ensures { StopsAreEvents }
 {}
 
-/// A law: what the contracts say of a start of the program is a list of events of its process.
+/// A law: what the contracts say of the functions that start the program is a list of events of its process.
 pub fn starts_are_events()
     ensures { StartsAreEvents }
 {

@@ -17,8 +17,8 @@ IsBegunAs name (Notice.Moves other id layout) entry =
     (other ≡ name) × (entry.call ≡ id) × (entry.kind ≡ operation.Move)
 IsBegunAs name (Notice.Tells other ended) entry = ⊥
 
--- The history has the call that was answered, with this answer, which a client was told at this time. `begins` says
--- when the call of each entry began: this one began before, and it was answered before each call that began later.
+-- A client was told this answer at this time, and the history has its call, with this answer. `begins` says when the
+-- call of each entry began: this call began before this time, and was answered before each call that began after it.
 pub record IsToldAt (history : List Entry) (begins : (index : ℕ) → ℕ) (time : ℕ) (ended : Ended) : Type 0 where
   pub index : ℕ
   pub entry : Entry

@@ -13,7 +13,7 @@ use Rattle.open_calls.specs.OpenCalls.{NodeCall, NodeCallsDiffer}
 use Rattle.network.specs.Premises.{IsOneFile, WasSent}
 use Rattle.local_object.specs.Events.{pieces_here}
 
--- the history has an entry of the call, which has no answer yet, and if the call is a write its value
+-- the history has an entry of the call, without an answer, and with its value if the call is a write
 pub record HasEntry (history : List Entry) (call : NodeCall) : Type 0 where
   pub place : ℕ
   pub entry : Entry
