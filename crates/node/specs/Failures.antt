@@ -186,8 +186,8 @@ FailsWith node frame error = FailsArrival (arrival_at frame) node error
     node error
 
 -- With what a node may fail at a frame. Memory may always be refused. The other errors have a reason, which the node
--- meets with what has come, or later, with a letter to itself or a client's next command. An object's refusal is told to
--- the client, and never makes the node fail.
+-- meets with what has come, or later, with a letter to itself or a client's next command. An object's refusal is told
+-- to the client, and never makes the node fail.
 abbrev pub Fails : Node → Strings → NodeError → Type 0
 Fails node frame errors.NoMemory = ⊤
 Fails node frame errors.NoMoreIds = FailsWith node frame errors.NoMoreIds
