@@ -29,3 +29,4 @@ pub mod FirstWrittenLemmas
 pub mod RoundLawLemmas
 pub mod ProgramLemmas
 pub mod SessionLemmas
+pub mod SessionLawLemmas

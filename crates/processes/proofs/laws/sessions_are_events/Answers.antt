@@ -1,4 +1,4 @@
-use Rattle.processes.proofs.SessionLemmas as session
+use Rattle.processes.proofs.SessionLawLemmas as session
 use Rattle.processes.proofs.laws.sessions_are_events.Goals as goal
 
 pub returns : goal.returns
