@@ -15,11 +15,15 @@ mod commands;
 #[cfg(test)]
 mod deletions;
 #[cfg(test)]
+mod disk;
+#[cfg(test)]
 mod files;
 #[cfg(test)]
 mod info;
 #[cfg(test)]
 mod log;
+#[cfg(test)]
+mod memory;
 #[cfg(test)]
 mod messages;
 #[cfg(test)]
