@@ -1,8 +1,10 @@
 -- What a desk has of the open moves, after a node has carried out its log again.
 use Rattle.std.proofs.Common.{◌≡◌, ℕ, Bool, true, false, ◌||◌, eqb, eqb-true, eq-eqb, List, [], ◌∷◌, ◌++◌, Option, None, Some}
 use Rattle.std.proofs.Common.{is_some, Result, Ok, Err, refl, sym, subst, ap, ◌∙◌}
+use Rattle.std.proofs.Math.Bool.{or-false, or-true}
 use Rattle.std.proofs.lemmas.Bool.{false≢true}
-use Rattle.std.specs.List.{AllByRecursion}
+use Rattle.std.proofs.lemmas.Map.Keys.{IsDistinct-head, IsDistinct-tail}
+use Rattle.std.specs.List.{AllByRecursion, IsDistinct}
 use Rattle.std.specs.Prelude.{nat_eq}
 use Rattle.indexmap.specs.IndexMap.{get}
 use Rattle.layout.specs.Layout.{Layout}
@@ -32,7 +34,7 @@ use Rattle.node_keeper.specs.Logging.{letter_records}
 use Rattle.node_keeper.specs.Objects.{objects_of}
 use Rattle.node.specs.declared.node.Node.{Node}
 use Rattle.node.specs.Anew.{CarriesOutAll}
-use Rattle.node.specs.OpenMoves.{AreDistinctIds, DesksHaveTheOpenMoves, StartedDesksHaveTheOpenMoves, moved_by, moved_ids}
+use Rattle.node.specs.OpenMoves.{DesksHaveTheOpenMoves, StartedDesksHaveTheOpenMoves, moved_by, moved_ids}
 use Rattle.node.specs.Recovering.{CarriesOutRecord, ClosesCall, ClosesTaken, KeepsCalls, resumed_move}
 use Rattle.node.proofs.AnewLemmas.{new_nodes, recovered_entries}
 use Rattle.node.proofs.OpenObjectLemmas.{HasOnlyMoves, KeepsOpen, OpensMove, is_open, move_opens, open_moves, same_keeps, serve_keeps}
@@ -47,14 +49,6 @@ calls_at node id = call_under node.desk.calls id
 abbrev DeskIsResumed : Node → Type 0
 DeskIsResumed node = IsResumed (kept_of node.keeper) (calls_at node)
 
-or_false : (b : Bool) → (b || false) ≡ b
-or_false true = refl
-or_false false = refl
-
-or_true : (b : Bool) → (b || true) ≡ true
-or_true true = refl
-or_true false = refl
-
 -- a move begins under an id that no call has
 move_resumed : (a b : KeptNode) (old new : (id : ℕ) → Option OpenCall) (name : List ℕ) (id : ℕ) (layout first : Layout) →
     layout_here (a.objects name) 0 ≡ Some first → IsNamedOutcome a name (LocalEvent.BeginMove id layout ∷ []) b → old id ≡ None →
@@ -63,8 +57,8 @@ move_resumed a b old new name id layout first heard done free here others is =
     let opens : OpensMove (a.objects name) id done.local =
     subst (OpensMove (a.objects name) id) (sym done.done.local) (move_opens (a.objects name) first heard id layout (is.moves name)) in
     put_resumed a b old new name id true done.local done.put opens.0
-    (λ i off. opens.1 i ∙ ap (λ b. is_open (a.objects name) i || b) (differs id i (λ same. off (sym same))) ∙ or_false _)
-    (opens.1 id ∙ ap (λ b. is_open (a.objects name) id || b) (eq-eqb id id refl) ∙ or_true _)
+    (λ i off. opens.1 i ∙ ap (λ b. is_open (a.objects name) i || b) (differs id i (λ same. off (sym same))) ∙ or-false _)
+    (opens.1 id ∙ ap (λ b. is_open (a.objects name) id || b) (eq-eqb id id refl) ∙ or-true _)
     (λ other e. absurd (let wrong : None ≡ Some (resumed_move other) = sym free ∙ is.matches.opens other id e in cc))
     here others is
 
@@ -92,10 +86,10 @@ kept_free old new stays [] free = tt
 kept_free old new stays (id ∷ ids) free = (stays id free.0, kept_free old new stays ids free.1)
 
 put_free : (old new : Node) (id : ℕ) → ((i : ℕ) → (i ≡ id → ⊥) → calls_at new i ≡ calls_at old i) → (ids : List ℕ) →
-    AllByRecursion (λ other. other ≡ id → ⊥) ids → AreFree old ids → AreFree new ids
+    AllByRecursion (λ other. nat_eq id other ≡ false) ids → AreFree old ids → AreFree new ids
 put_free old new id others [] apart free = tt
 put_free old new id others (i ∷ ids) apart free =
-    (others i apart.0 ∙ free.0, put_free old new id others ids apart.1 free.1)
+    (others i (λ same. false≢true (sym apart.0 ∙ eq-eqb id i (sym same))) ∙ free.0, put_free old new id others ids apart.1 free.1)
 
 same_free : (old new : Node) → KeepsCalls old new → (ids : List ℕ) → AreFree old ids → AreFree new ids
 same_free old new same = kept_free old new (λ id e. ap (λ calls. get nat_eq calls id) same ∙ e)
@@ -110,7 +104,7 @@ close_free old new (Some id) closes = kept_free old new (λ i e. go i e (eqb i i
 
 -- what is so after a record is carried out again, of which these ids are left
 abbrev GoesOnWith : Node → List ℕ → Type 0
-GoesOnWith node ids = DeskIsResumed node × (AreDistinctIds ids × AreFree node ids)
+GoesOnWith node ids = DeskIsResumed node × (IsDistinct nat_eq ids × AreFree node ids)
 
 module _ (old new : Node) (ids : List ℕ) (own : HasOwnObjects (kept_of old.keeper)) (is : DeskIsResumed old) where
   -- no call changes at the desk, and none is opened or ended
@@ -147,7 +141,7 @@ module _ (old new : Node) (ids : List ℕ) (own : HasOwnObjects (kept_of old.kee
       )
   taken_on (Err fault) closes = absurd closes
 
-  one_on : (it : Record) → CarriesOutRecord old it new → AreDistinctIds (moved_by (Some it) ++ ids) →
+  one_on : (it : Record) → CarriesOutRecord old it new → IsDistinct nat_eq (moved_by (Some it) ++ ids) →
       AreFree old (moved_by (Some it) ++ ids) → GoesOnWith new ids
   one_on (record_of.Cluster digest node) done distinct free =
       (same_on done.recovers done.calls, (distinct, same_free old new done.calls ids free))
@@ -166,7 +160,7 @@ module _ (old new : Node) (ids : List ℕ) (own : HasOwnObjects (kept_of old.kee
         kept_resumed begun.0 (kept_of new.keeper) (calls_at new) (calls_at new) (same_all begun.0 (kept_of new.keeper) begun.2) (λ i. refl)
             (move_resumed (kept_of old.keeper) begun.0 (calls_at old) (calls_at new) name id layout _ (own name).first begun.1 free.0
             done.calls.here done.calls.others is),
-        (distinct.1, put_free old new id done.calls.others ids distinct.0 free.1),
+        (IsDistinct-tail nat_eq id ids distinct, put_free old new id done.calls.others ids (IsDistinct-head nat_eq id ids distinct) free.1),
       )
   one_on (record_of.Hear position name layout) done distinct free =
       let local = objects_of old.keeper.objects name in (
@@ -187,7 +181,7 @@ all_on old new (entry ∷ entries) carried own on =
     let read : record_at entry ≡ Some first.it = ap record_at first.whole ∙ first.read in
     all_on carried.0 new entries carried.2 (recovered_entries old carried.0 entry first own)
     (one_on old carried.0 ids own on.0 first.it first.done
-    (subst (λ (o : Option Record). AreDistinctIds (moved_by o ++ ids)) read on.1.0)
+    (subst (λ (o : Option Record). IsDistinct nat_eq (moved_by o ++ ids)) read on.1.0)
     (subst (λ (o : Option Record). AreFree old (moved_by o ++ ids)) read on.1.1))
 
 all_free : (node : Node) → ((id : ℕ) → calls_at node id ≡ None) → (ids : List ℕ) → AreFree node ids

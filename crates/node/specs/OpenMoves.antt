@@ -1,7 +1,7 @@
 -- The contracts that docs/trusted.md lists do not depend on this file; other contracts and proofs do.
 -- The moves that are open at a node after it has carried out its log again, and the calls of its desk.
-use Rattle.std.specs.Prelude.{◌≡◌, ◌≢◌, ◌↔◌, ℕ, true, List, [], ◌∷◌, ◌++◌, Option, Some}
-use Rattle.std.specs.List.{AllByRecursion}
+use Rattle.std.specs.Prelude.{◌≡◌, ◌↔◌, ℕ, nat_eq, true, List, [], ◌∷◌, ◌++◌, Option, Some}
+use Rattle.std.specs.List.{IsDistinct}
 use Rattle.cluster_file.specs.File.{FileContents, IsLawfulFile}
 use Rattle.deeds.specs.Kept.{new_node}
 use Rattle.local_object.specs.Doing.{has_move_open}
@@ -35,11 +35,6 @@ abbrev pub moved_ids : List Strings → List ℕ
 moved_ids [] = []
 moved_ids (entry ∷ entries) = moved_by (record_at entry) ++ moved_ids entries
 
--- no two of the ids are the same
-abbrev pub AreDistinctIds : List ℕ → Type 0
-AreDistinctIds [] = Unit {0}
-AreDistinctIds (id ∷ ids) = AllByRecursion (λ other. other ≢ id) ids × AreDistinctIds ids
-
 -- The laws
 
 -- after a new node has carried out entries of a log again, its desk has exactly its open moves, if no two of the moves
@@ -47,7 +42,7 @@ AreDistinctIds (id ∷ ids) = AllByRecursion (λ other. other ≢ id) ids × Are
 abbrev pub DesksHaveTheOpenMoves : Type 0
 DesksHaveTheOpenMoves = (file : FileContents) (number : ℕ) (new copy : Node) (entries : List Strings) →
     IsLawfulFile file → kept_of new.keeper ≡ new_node (names_of file) number → new.desk.calls.entries ≡ [] →
-    AreDistinctIds (moved_ids entries) → CarriesOutAll new entries copy → HasOpenMoves copy
+    IsDistinct nat_eq (moved_ids entries) → CarriesOutAll new entries copy → HasOpenMoves copy
 
 -- it still has exactly these when the node has started
 abbrev pub StartedDesksHaveTheOpenMoves : Type 0
