@@ -13,9 +13,8 @@ use Rattle.deeds.specs.Deeds.{Deed, Notice, after_deed, after_deeds, noticed}
 use Rattle.deeds.specs.Ids.{HaveNextIds, IsGiven, IsLater, IsNextId, begun_id, deed_id}
 use Rattle.deeds.proofs.IdLemmas.{later_then, next_later}
 use Rattle.deeds.proofs.UsedIdLemmas.{next_unused, used_now}
-use Rattle.processes.specs.Events.{is_begun}
-use Rattle.processes.specs.Laws.{call_begun}
-use Rattle.processes.proofs.PlaceLemmas.{slice_split}
+use Rattle.refinement.proofs.PlaceLemmas.{get_split}
+use Rattle.processes.specs.Events.{call_begun, is_begun}
 
 -- a call began with this id, by this place of the notices
 abbrev pub BeginsAt : List Notice → (place id : ℕ) → Type 0
@@ -108,7 +107,7 @@ module _ (fragment : Code) (objects : List ℕ → LocalObject) (deed : Deed) (b
   Either place id = BeginsAt first place id ⊎ ((k : ℕ) × (place ≡ length first + k) × BeginsAt rest k id)
 
   split : (place id : ℕ) → BeginsAt (first ++ rest) place id → Either place id
-  split place id begins = go (slice_split first rest place begins.0 begins.1)
+  split place id begins = go (get_split first rest place begins.0 begins.1)
     where
       go : (slice_get first place ≡ Some begins.0) ⊎ ((k : ℕ) × (place ≡ length first + k) × (slice_get rest k ≡ Some begins.0)) →
           Either place id

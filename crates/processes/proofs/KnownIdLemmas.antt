@@ -18,12 +18,12 @@ use Rattle.node_keeper.specs.Keeping.{kept_of}
 use Rattle.node.specs.declared.node.Node.{Node}
 use Rattle.node_strings.specs.Strings.{Strings}
 use Rattle.refinement.specs.Clusters.{NodeCluster}
+use Rattle.refinement.proofs.PlaceLemmas.{get_first, get_split}
 use Rattle.processes.specs.Events.{MayStart}
 use Rattle.processes.specs.Processes.{Process, Processes}
 use Rattle.processes.proofs.FateLemmas.{loses}
 use Rattle.processes.proofs.GivenIdLemmas.{BeginsAt, HaveGivenIds}
 use Rattle.processes.proofs.LogLemmas.{all_records, all_records_append}
-use Rattle.processes.proofs.PlaceLemmas.{slice_first, slice_split}
 use Rattle.processes.proofs.ReadLogLemmas.{AreFirst, new_carried, number_kept}
 use Rattle.processes.proofs.StandingLemmas.{Stands, left_in}
 
@@ -121,7 +121,7 @@ pub told_known : (then : ℕ → Option Node) (later : ℕ → CallIds) (number 
     (place id : ℕ) → BeginsAt told place id → IsKnown then later id
 told_known then later number mine after seen told unseen before kept first given also own ids runs place id begins =
     let at : BeginsAt seen place id =
-    (begins.0, subst (λ ns. slice_get ns place ≡ Some begins.0) (sym first) (slice_first told unseen place begins.0 begins.1), begins.2) in
+    (begins.0, subst (λ ns. slice_get ns place ≡ Some begins.0) (sym first) (get_first told unseen place begins.0 begins.1), begins.2) in
     let one = given.given place id at in
     let two = also.given place id begins in
     let same = same_given one.1.now two.1.now id one.1.next two.1.next one.1.reached.within two.1.reached.within in
@@ -140,7 +140,7 @@ told_known then later number mine after seen told unseen before kept first given
 -- what is known of the first notices and of the others is known of all
 pub both_known : (P : ℕ → Type 0) (xs ys : List Notice) → ((place id : ℕ) → BeginsAt xs place id → P id) →
     ((place id : ℕ) → BeginsAt ys place id → P id) → (place id : ℕ) → BeginsAt (xs ++ ys) place id → P id
-both_known P xs ys first second place id begins = go (slice_split xs ys place begins.0 begins.1)
+both_known P xs ys first second place id begins = go (get_split xs ys place begins.0 begins.1)
   where
     go : (slice_get xs place ≡ Some begins.0) ⊎ ((k : ℕ) × (place ≡ length xs + k) × (slice_get ys k ≡ Some begins.0)) → P id
     go (inl at) = first place id (begins.0, at, begins.2)

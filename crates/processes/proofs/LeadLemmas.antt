@@ -8,11 +8,11 @@ use Rattle.open_calls.proofs.ListLemmas.{all_append, all_weaker}
 use Rattle.node_strings.specs.declared.arrival.Arrival.{Arrival}
 use Rattle.node_strings.specs.declared.arrival.Arrival.TheVariants as came
 use Rattle.node_store.specs.Serving.{LoopEvent, Handles, Notes}
+use Rattle.refinement.proofs.PlaceLemmas.{get_first}
 use Rattle.processes.specs.Events.{MayHappenTo, ProcessEvent, WasWritten, number_of, processes_after}
 use Rattle.processes.specs.Loops.{AreOf, WasWrittenIn, frames_in, written_in}
 use Rattle.processes.specs.Processes.{Process, Processes, with_process}
 use Rattle.processes.specs.Runs.{MayAllHappenTo, processes_run}
-use Rattle.processes.proofs.PlaceLemmas.{slice_first}
 
 pub own_process : (at : ℕ → Process) (number : ℕ) (process : Process) → with_process at number process number ≡ process
 own_process at number process = ap (λ b. cond b process (at number)) (eq-eqb number number refl)
@@ -27,7 +27,7 @@ written_later processes event number (Some (came.Command client frame)) was = tt
 written_later processes event number (Some (came.Left client)) was = tt
 written_later processes event number (Some (came.Tick heard)) was = tt
 written_later processes event number (Some (came.Message sender strings)) was =
-    (was.0, slice_first processes.sent _ was.0 _ was.1)
+    (was.0, get_first processes.sent _ was.0 _ was.1)
 
 pub all_written_later : (processes : Processes) (event : ProcessEvent) (number : ℕ) (events : List LoopEvent) →
     AllByRecursion (WasWrittenIn processes number) events →

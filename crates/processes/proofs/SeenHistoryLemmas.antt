@@ -10,23 +10,21 @@ use Rattle.node_store.specs.Laws.{LeftLogIsRead}
 use Rattle.refinement.specs.Clusters.{NodeCluster}
 use Rattle.refinement.specs.SeenHistories.{IsBegunAs, IsHistoryOfSeen, IsToldAt}
 use Rattle.refinement.proofs.ClusterLemmas.{seen_atomic}
-use Rattle.processes.specs.Events.{is_begun}
-use Rattle.processes.specs.Laws.{ClientsSeeAtomicHistories, IsClusterOf, call_begun}
+use Rattle.processes.specs.Events.{call_begun, is_begun}
+use Rattle.processes.specs.Laws.{ClientsSeeAtomicHistories, IsClusterOf}
 use Rattle.processes.specs.Processes.{Processes}
 use Rattle.processes.proofs.ProcessLawLemmas.{are_atomic}
+use Rattle.processes.proofs.SeenLemmas.{id_begun}
 
--- a notice with which a call began says so
-says_begun : (name : List ℕ) (notice : Notice) (entry : Entry) → IsBegunAs name notice entry → is_begun notice ≡ true
-says_begun name (Notice.Reads other id) entry begun = refl
-says_begun name (Notice.Writes other id value) entry begun = refl
-says_begun name (Notice.Moves other id layout) entry begun = refl
-says_begun name (Notice.Tells other ended) entry begun = absurd begun
-
+-- a notice with which a call began says so, and has its id
 begins_with : (name : List ℕ) (notice : Notice) (entry : Entry) → IsBegunAs name notice entry → call_begun notice ≡ Some entry.call
 begins_with name (Notice.Reads other id) entry begun = ap Some (sym begun.1)
 begins_with name (Notice.Writes other id value) entry begun = ap Some (sym begun.1)
 begins_with name (Notice.Moves other id layout) entry begun = ap Some (sym begun.1)
 begins_with name (Notice.Tells other ended) entry begun = absurd begun
+
+says_begun : (name : List ℕ) (notice : Notice) (entry : Entry) → IsBegunAs name notice entry → is_begun notice ≡ true
+says_begun name notice entry begun = id_begun notice entry.call (begins_with name notice entry begun)
 
 module _ (processes : Processes) (cluster : NodeCluster) (is : IsClusterOf processes cluster) (name : List ℕ) (history : List Entry)
     (of : IsHistoryOfSeen name cluster.notices history) where

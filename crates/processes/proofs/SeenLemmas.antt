@@ -1,19 +1,28 @@
 -- What clients of the processes see, and what clients of the cluster beside them see.
 use Rattle.std.proofs.Common.{◌≡◌, ◌⊎◌, inl, inr, ◌<◌, ◌≤◌, ◌+◌, ◌-◌, ℕ, zero, suc, Bool, true, false, cond, if◌then◌else◌}
-use Rattle.std.proofs.Common.{List, [], ◌∷◌, ◌++◌, length, take, Some, slice_get, refl, sym, subst, ap, ◌∙◌, arith}
+use Rattle.std.proofs.Common.{List, [], ◌∷◌, ◌++◌, length, take, Some, is_some, slice_get, refl, sym, subst, ap, ◌∙◌, arith}
 use Rattle.std.specs.Prelude.{nat_lt}
 use Rattle.std.specs.List.{filter}
 use Rattle.std.proofs.lemmas.Bool.{lt-ltb, le-ltb}
+use Rattle.std.proofs.lemmas.Option.{slice_get_within}
 use Rattle.deeds.specs.Deeds.{Notice}
 use Rattle.refinement.specs.Clusters.{NodeCluster}
-use Rattle.processes.specs.Events.{ProcessEvent, is_begun, is_told, number_of, processes_after, seen_in}
-use Rattle.processes.specs.Laws.{IsClusterOf, call_begun}
+use Rattle.refinement.proofs.PlaceLemmas.{get_first, get_split}
+use Rattle.processes.specs.Events.{ProcessEvent, call_begun, is_begun, is_told, number_of, processes_after, seen_in}
+use Rattle.processes.specs.Laws.{IsClusterOf}
 use Rattle.processes.specs.Processes.{Processes}
 use Rattle.processes.proofs.GivenIdLemmas.{BeginApart}
 use Rattle.processes.proofs.KnownIdLemmas.{AreNew}
 use Rattle.processes.proofs.LogLemmas.{some_is}
-use Rattle.processes.proofs.PlaceLemmas.{slice_first, slice_second, slice_split, slice_within}
 use Rattle.processes.proofs.StandingLemmas.{IsAmong}
+
+-- what stands behind the first of two lists
+slice_second : {A : Type 0} (xs ys : List A) (k : ℕ) → slice_get (xs ++ ys) (length xs + k) ≡ slice_get ys k
+slice_second [] ys k = ap (slice_get ys) (omega arith)
+slice_second (x ∷ xs) ys k = ap (slice_get (x ∷ (xs ++ ys))) (longer (length xs)) ∙ slice_second xs ys k
+  where
+    longer : (n : ℕ) → suc n + k ≡ suc (n + k)
+    longer n = omega arith
 
 -- Notices that pass a test
 
@@ -57,10 +66,7 @@ not_both (Notice.Tells name ended) begun told = absurd (cc)
 
 -- a notice with the id of a call that began says that it began
 pub id_begun : (notice : Notice) (id : ℕ) → call_begun notice ≡ Some id → is_begun notice ≡ true
-id_begun (Notice.Reads name given) id is = refl
-id_begun (Notice.Writes name given value) id is = refl
-id_begun (Notice.Moves name given layout) id is = refl
-id_begun (Notice.Tells name ended) id is = absurd (cc)
+id_begun notice id is = ap is_some is
 
 -- of calls that begin, no client is told an answer
 pub begun_only : (xs : List Notice) (i : ℕ) (notice : Notice) → slice_get (filter is_begun xs) i ≡ Some notice →
@@ -77,10 +83,10 @@ pub quiet_seen : (processes : Processes) (cluster : NodeCluster) (event : Proces
 quiet_seen processes cluster event told fresh is = record {
   place = is.place;
   begun = λ index notice at begins.
-      slice_first processes.seen now (is.place index) notice (is.begun index notice at begins);
+      get_first processes.seen now (is.place index) notice (is.begun index notice at begins);
   last = λ index at id call other there begins seen also. latest index at id call other there begins also
-      (slice_split processes.seen now at other seen);
-  told = λ at notice here tells. go at notice tells (slice_split processes.seen now at notice here);
+      (get_split processes.seen now at other seen);
+  told = λ at notice here tells. go at notice tells (get_split processes.seen now at notice here);
 }
   where
     now : List Notice
@@ -108,7 +114,7 @@ quiet_seen processes cluster event told fresh is = record {
           among.0,
           among.1,
           λ other call there begins early. absurd (
-              let within = slice_within processes.seen (is.place other) call (is.begun other call there begins) in
+              let within = slice_get_within processes.seen (is.place other) call (is.begun other call there begins) in
               omega arith
               ),
         )
@@ -147,8 +153,8 @@ module _ (processes : Processes) (cluster next : NodeCluster) (event : ProcessEv
       ⊎ ((k : ℕ) × (index ≡ length cluster.notices + k) × (slice_get told k ≡ Some notice)) →
       slice_get (processes.seen ++ calls) (new_place index) ≡ Some notice
   begins_there index notice begins (inl before) =
-      ap (slice_get (processes.seen ++ calls)) (old_place index (slice_within cluster.notices index notice before))
-      ∙ slice_first processes.seen calls (is.place index) notice (is.begun index notice before begins)
+      ap (slice_get (processes.seen ++ calls)) (old_place index (slice_get_within cluster.notices index notice before))
+      ∙ get_first processes.seen calls (is.place index) notice (is.begun index notice before begins)
   begins_there index notice begins (inr new) =
       ap (λ n. slice_get (processes.seen ++ calls) (new_place n)) new.1
       ∙ ap (slice_get (processes.seen ++ calls)) (later_place new.0)
@@ -161,12 +167,12 @@ module _ (processes : Processes) (cluster next : NodeCluster) (event : ProcessEv
       (slice_get processes.seen at ≡ Some other)
       ⊎ ((k : ℕ) × (at ≡ length processes.seen + k) × (slice_get calls k ≡ Some other)) → at ≤ new_place index
   last_there index at id call other begins also (inl a) (inl b) =
-      subst (λ n. at ≤ n) (sym (old_place index (slice_within cluster.notices index call a)))
+      subst (λ n. at ≤ n) (sym (old_place index (slice_get_within cluster.notices index call a)))
       (is.last index at id call other a begins b also)
   last_there index at id call other begins also (inl a) (inr b) =
       absurd (fresh index b.0 id (call, a, begins) (other, b.2, also))
   last_there index at id call other begins also (inr a) (inl b) =
-      let within = slice_within processes.seen at other b in
+      let within = slice_get_within processes.seen at other b in
       subst (λ n. at ≤ n) (sym (ap new_place a.1 ∙ later_place a.0)) (omega arith)
   last_there index at id call other begins also (inr a) (inr b) =
       let there = passed_place is_begun told unseen a.0 call a.2 (id_begun call id begins) in
@@ -188,7 +194,7 @@ module _ (processes : Processes) (cluster next : NodeCluster) (event : ProcessEv
       at < new_place other → index < other
   behind at index within order other call begins (inl before) early =
       order other call before begins
-      (subst (λ n. at < n) (old_place other (slice_within cluster.notices other call before)) early)
+      (subst (λ n. at < n) (old_place other (slice_get_within cluster.notices other call before)) early)
   behind at index within order other call begins (inr new) early = let far = new.1 in omega arith
 
   told_there : (at : ℕ) (notice : Notice) → is_told notice ≡ true →
@@ -197,9 +203,9 @@ module _ (processes : Processes) (cluster next : NodeCluster) (event : ProcessEv
   told_there at notice tells (inl before) =
       let found = is.told at notice before tells in (
         found.0,
-        subst (λ ns. slice_get ns found.0 ≡ Some notice) (sym grown) (slice_first cluster.notices told found.0 notice found.1),
-        λ other call there begins early. behind at found.0 (slice_within cluster.notices found.0 notice found.1) found.2 other call
-            begins (slice_split cluster.notices told other call (subst (λ ns. slice_get ns other ≡ Some call) grown there)) early,
+        subst (λ ns. slice_get ns found.0 ≡ Some notice) (sym grown) (get_first cluster.notices told found.0 notice found.1),
+        λ other call there begins early. behind at found.0 (slice_get_within cluster.notices found.0 notice found.1) found.2 other call
+            begins (get_split cluster.notices told other call (subst (λ ns. slice_get ns other ≡ Some call) grown there)) early,
       )
   told_there at notice tells (inr new) = absurd (begun_only (told ++ unseen) new.0 notice new.2 tells)
 
@@ -208,10 +214,10 @@ module _ (processes : Processes) (cluster next : NodeCluster) (event : ProcessEv
     place = new_place;
     begun = λ index notice at begins. subst (λ ns. slice_get (processes.seen ++ ns) (new_place index) ≡ Some notice) (sym shows)
         (begins_there index notice begins
-        (slice_split cluster.notices told index notice (subst (λ ns. slice_get ns index ≡ Some notice) grown at)));
+        (get_split cluster.notices told index notice (subst (λ ns. slice_get ns index ≡ Some notice) grown at)));
     last = λ index at id call other there begins seen also. last_there index at id call other begins also
-        (slice_split cluster.notices told index call (subst (λ ns. slice_get ns index ≡ Some call) grown there))
-        (slice_split processes.seen calls at other (subst (λ ns. slice_get (processes.seen ++ ns) at ≡ Some other) shows seen));
+        (get_split cluster.notices told index call (subst (λ ns. slice_get ns index ≡ Some call) grown there))
+        (get_split processes.seen calls at other (subst (λ ns. slice_get (processes.seen ++ ns) at ≡ Some other) shows seen));
     told = λ at notice here tells. told_there at notice tells
-        (slice_split processes.seen calls at notice (subst (λ ns. slice_get (processes.seen ++ ns) at ≡ Some notice) shows here));
+        (get_split processes.seen calls at notice (subst (λ ns. slice_get (processes.seen ++ ns) at ≡ Some notice) shows here));
   }

@@ -14,9 +14,9 @@ use Rattle.recoveries.specs.RewritingNodes.{HasOwnObjects}
 use Rattle.node_keeper.specs.Keeping.{kept_of}
 use Rattle.node.specs.declared.node.Node.{Node}
 use Rattle.node_store.specs.Recovery.{IsWholeEntry}
+use Rattle.refinement.proofs.PlaceLemmas.{get_first}
 use Rattle.processes.specs.Processes.{Process, WaitingAnswers, WaitingFrame}
 use Rattle.processes.proofs.FateLemmas.{remaining}
-use Rattle.processes.proofs.PlaceLemmas.{slice_first}
 use Rattle.processes.proofs.LogLemmas.{all_records}
 use Rattle.processes.specs.Letters.{IsCarried}
 use Rattle.processes.proofs.WantLemmas.{carried_among}
@@ -79,7 +79,7 @@ pub record HandlesBeside (names : FileOfNames) (number : ℕ) (fate : Option ℕ
 -- Lists of notices
 
 pub among_first : (xs ys : List Notice) (notice : Notice) → IsAmong xs notice → IsAmong (xs ++ ys) notice
-among_first xs ys notice is = (is.0, slice_first xs ys is.0 notice is.1)
+among_first xs ys notice is = (is.0, get_first xs ys is.0 notice is.1)
 
 pub among_second : (xs ys : List Notice) (notice : Notice) → IsAmong ys notice → IsAmong (xs ++ ys) notice
 among_second [] ys notice is = is

@@ -1,23 +1,20 @@
 -- The frames and answers of a round are written by events of the process.
-use Rattle.std.proofs.Common.{◌≡◌, ◌≤◌, ◌+◌, ◌⊎◌, inl, inr, ℕ, suc, List, [], ◌∷◌, ◌++◌, length, Option, Some, slice_get}
-use Rattle.std.proofs.Common.{refl, sym, subst, ap, ◌∙◌, append_assoc, append-nil, length-append, arith}
+use Rattle.std.proofs.Common.{◌≡◌, ◌≤◌, ◌+◌, ◌⊎◌, inl, inr, ℕ, suc, List, [], ◌∷◌, ◌++◌, length, Some, slice_get}
+use Rattle.std.proofs.Common.{refl, sym, ap, ◌∙◌, arith}
 use Rattle.std.proofs.lemmas.Grind.{flat_map-append}
 use Rattle.std.specs.Prelude.{⊤}
 use Rattle.std.specs.List.{flat_map}
 use Rattle.frames.specs.Frame.{frame_bytes}
-use Rattle.deeds.specs.Kept.{FileOfNames}
 use Rattle.node_strings.specs.Strings.{Strings}
 use Rattle.node_effects.specs.Work.{entries_in, send_all}
 use Rattle.node_effects.specs.declared.effects.Effects.{Effects}
 use Rattle.node_effects.specs.declared.output.Output.{Output}
 use Rattle.node_effects.specs.declared.output.Output.TheVariants as output
-use Rattle.node_store.specs.Outputs.{all_logged, all_sent, effects_outputs, logged_of, sent_of}
-use Rattle.node_store.specs.Serving.{LoopEvent, Handles, Notes, all_outputs}
-use Rattle.processes.specs.Events.{ProcessEvent, processes_after}
-use Rattle.processes.specs.Processes.{Process, Processes, WaitingAnswers, WaitingFrame, frames_behind}
-use Rattle.processes.proofs.HandledRoundLemmas.{answers_behind, effects_logged, logged_entries, waiting_answers, waiting_frames}
-use Rattle.processes.proofs.LeadLemmas.{LeadsTo, leads_nowhere, leads_on, leads_once, own_process}
-use Rattle.processes.proofs.PlaceLemmas.{slice_first}
+use Rattle.node_store.specs.Outputs.{all_sent, effects_outputs, sent_of}
+use Rattle.node_store.specs.Serving.{LoopEvent, Handles, Notes}
+use Rattle.refinement.proofs.PlaceLemmas.{get_first}
+use Rattle.processes.specs.Processes.{WaitingFrame, frames_behind}
+use Rattle.processes.proofs.HandledRoundLemmas.{waiting_frames}
 
 -- Frames that wait
 
@@ -42,7 +39,7 @@ HaveAllFrames frames entries (Handles frame effects ∷ events) =
 
 pub waits_first : (xs ys : List WaitingFrame) (most : ℕ) (frame : Strings) → Waits xs most frame → Waits (xs ++ ys) most frame
 waits_first xs ys most frame waits =
-    (waits.0, waits.1, slice_first xs ys waits.0 waits.1 waits.2, waits.3, waits.4)
+    (waits.0, waits.1, get_first xs ys waits.0 waits.1 waits.2, waits.3, waits.4)
 
 pub waits_second : (xs ys : List WaitingFrame) (most : ℕ) (frame : Strings) → Waits ys most frame → Waits (xs ++ ys) most frame
 waits_second [] ys most frame waits = waits

@@ -1,6 +1,6 @@
 -- What may happen to the processes of a cluster, and what comes of it.
 use Rattle.std.specs.Prelude.{◌≡◌, ◌≤◌, ⊤, ℕ, Bool, true, false, List, [], ◌∷◌, ◌++◌, length, drop}
-use Rattle.std.specs.Prelude.{Option, None, Some, slice_get}
+use Rattle.std.specs.Prelude.{Option, None, Some, is_some, slice_get}
 use Rattle.std.specs.List.{AllByRecursion, filter}
 use Rattle.cluster_file.specs.File.{FileContents, IsLawfulFile}
 use Rattle.deeds.specs.Deeds.{Notice}
@@ -60,12 +60,16 @@ number_of (ProcessEvent.Stops number) = number
 
 -- What comes of it
 
+-- the id of the call that began, if the notice says that one began
+abbrev pub call_begun : Notice → Option ℕ
+call_begun (Notice.Reads name id) = Some id
+call_begun (Notice.Writes name id value) = Some id
+call_begun (Notice.Moves name id layout) = Some id
+call_begun (Notice.Tells name ended) = None
+
 -- whether a notice says that a call began, and not that a client is told an answer
 abbrev pub is_begun : Notice → Bool
-is_begun (Notice.Reads name id) = true
-is_begun (Notice.Writes name id value) = true
-is_begun (Notice.Moves name id layout) = true
-is_begun (Notice.Tells name ended) = false
+is_begun notice = is_some (call_begun notice)
 
 -- whether a notice says that a client is told an answer
 abbrev pub is_told : Notice → Bool

@@ -1,6 +1,5 @@
 -- The laws: a cluster of node programs is, at each moment, a cluster of nodes as `refinement` defines it.
-use Rattle.std.specs.Prelude.{◌≡◌, ◌⊎◌, ◌<◌, ◌≤◌, ℕ, true, List, [], ◌∷◌, Option, None, Some}
-use Rattle.std.specs.Prelude.{slice_get}
+use Rattle.std.specs.Prelude.{◌≡◌, ◌⊎◌, ◌<◌, ◌≤◌, ℕ, true, List, [], ◌∷◌, Some, slice_get}
 use Rattle.encoder.specs.Fragment.{fragment}
 use Rattle.record.specs.declared.call.Entry.{Entry}
 use Rattle.atomicity.specs.Atomic.{IsAtomic}
@@ -14,16 +13,9 @@ use Rattle.refinement.specs.Premises.{IsKeptByItsLog, IsNodeEvent, IsReachedClus
 use Rattle.refinement.specs.SystemValues.{KeepsValuesIn}
 use Rattle.refinement.specs.Systems.{System}
 use Rattle.processes.specs.Letters.{CarryLetters}
-use Rattle.processes.specs.Events.{ProcessEvent, is_begun, is_told, processes_after}
+use Rattle.processes.specs.Events.{ProcessEvent, call_begun, is_begun, is_told, processes_after}
 use Rattle.processes.specs.Processes.{Processes, new_processes}
 use Rattle.processes.specs.Runs.{AreReached, MayAllHappenTo}
-
--- the id of the call that began, if the notice says that one began
-abbrev pub call_begun : Notice → Option ℕ
-call_begun (Notice.Reads name id) = Some id
-call_begun (Notice.Writes name id value) = Some id
-call_begun (Notice.Moves name id layout) = Some id
-call_begun (Notice.Tells name ended) = None
 
 -- What the clients of the cluster saw is what those of the processes saw: each call of the cluster began at a client of
 -- the processes, at this place among the things that they saw, and no later call there began with its id. What they

@@ -18,7 +18,7 @@ use Rattle.deeds.specs.Named.{IsOneOf, NamedLetter, with_names}
 use Rattle.deeds.specs.Deeds.{Notice}
 use Rattle.deeds.proofs.NameLemmas.{one_of_both}
 use Rattle.refinement.proofs.HistoryLemmas.{IsHistoryAt}
-use Rattle.refinement.proofs.ToldLemmas.{get_first}
+use Rattle.refinement.proofs.PlaceLemmas.{get_first}
 use Rattle.deeds.proofs.UsedIdLemmas.{IsUsed}
 
 -- all nodes for the object of the name, who sent these letters about it, of whose clients these saw the notices, and

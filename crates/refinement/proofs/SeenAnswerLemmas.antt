@@ -2,7 +2,7 @@
 use Rattle.std.proofs.Common.{◌≡◌, ◌<◌, ◌≤◌, ◌⊎◌, inl, inr, ℕ, Bool, true, false, cond, eqb, eqb-true}
 use Rattle.std.proofs.Common.{List, [], ◌∷◌, ◌++◌, length, map, Option, None, Some, is_some, option_map, slice_get}
 use Rattle.std.proofs.Common.{refl, sym, subst, ap, ◌∙◌, arith}
-use Rattle.std.proofs.lemmas.Option.{same_Some, slice_get-map}
+use Rattle.std.proofs.lemmas.Option.{same_Some, slice_get-map, slice_get_within}
 use Rattle.record.specs.declared.call.CallKind.{CallKind}
 use Rattle.record.specs.declared.call.CallKind.TheVariants.{Read, Write, Move}
 use Rattle.record.specs.declared.call.Entry.{Entry}
@@ -18,9 +18,8 @@ use Rattle.refinement.specs.SeenHistories.{IsBegunAs, IsHistoryOfSeen, IsToldAt}
 use Rattle.refinement.specs.WellFormed.{HasEntry}
 use Rattle.refinement.proofs.AnswerLemmas.{answer_there}
 use Rattle.refinement.proofs.LeadLemmas.{ended_in}
-use Rattle.refinement.proofs.PlaceLemmas.{get_mapped, get_pushed, get_same, get_within}
+use Rattle.refinement.proofs.PlaceLemmas.{get_first, get_mapped, get_pushed, get_same}
 use Rattle.refinement.proofs.SeenHistoryLemmas.{IsSeenAt}
-use Rattle.refinement.proofs.ToldLemmas.{get_first}
 
 -- the value of a write does not change with its answer
 written_same : (kind : CallKind) (settled : Option (List ℕ)) (now : ℕ) → operation_of kind ≡ operation.Write →
@@ -122,7 +121,7 @@ module _ (name : List ℕ) (notices : List Notice) (history : List Entry) (call 
 
   begins_within : (index : ℕ) (entry : Entry) → slice_get history index ≡ Some entry → old.begins index < length notices
   begins_within index entry at =
-      let there = old.begun index entry at in get_within notices (old.begins index) there.0 there.1
+      let there = old.begun index entry at in slice_get_within notices (old.begins index) there.0 there.1
 
   told_now : IsToldAt (map answer history) old.begins (length notices) (told_of call)
   told_now =

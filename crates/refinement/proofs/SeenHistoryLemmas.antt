@@ -1,9 +1,10 @@
 -- The history is one of what clients saw, while calls begin and time goes on.
-use Rattle.std.proofs.Common.{◌≡◌, ◌<◌, ◌≤◌, ◌⊎◌, inl, inr, ℕ, true, false, if◌then◌else◌}
+use Rattle.std.proofs.Common.{◌≡◌, ◌<◌, ◌≤◌, ◌+◌, ◌⊎◌, inl, inr, ℕ, true, false, if◌then◌else◌}
 use Rattle.std.proofs.Common.{List, [], ◌∷◌, ◌++◌, length, Option, None, Some, is_some, slice_get}
 use Rattle.std.proofs.Common.{refl, sym, subst, ap, ◌∙◌, arith}
 use Rattle.std.specs.Prelude.{nat_lt}
 use Rattle.std.proofs.lemmas.Bool.{lt-ltb, le-ltb}
+use Rattle.std.proofs.lemmas.Option.{slice_get_within}
 use Rattle.std.specs.List.{AllByRecursion}
 use Rattle.record.specs.declared.call.Entry.{Entry}
 use Rattle.atomicity.specs.Atomic.{IsAnsweredBefore}
@@ -14,8 +15,7 @@ use Rattle.deeds.proofs.NameLemmas.{names_decided}
 use Rattle.refinement.specs.Histories.{is_about}
 use Rattle.refinement.specs.SeenHistories.{IsBegunAs, IsHistoryOfSeen, IsToldAt}
 use Rattle.refinement.proofs.CallEntryLemmas.{at_end}
-use Rattle.refinement.proofs.PlaceLemmas.{get_either, get_pushed, get_within}
-use Rattle.refinement.proofs.ToldLemmas.{get_first}
+use Rattle.refinement.proofs.PlaceLemmas.{get_first, get_pushed, get_split}
 
 -- the history is one of what clients saw, and no answer in it is later than now
 pub record IsSeenAt (name : List ℕ) (notices : List Notice) (history : List Entry) (now : ℕ) : Type 0 where
@@ -56,9 +56,9 @@ seen_beside name notices more history now none own is = record {
     begun = λ index entry at. let there = of.begun index entry at in
         (there.0, get_first notices more (of.begins index) there.0 there.1, there.2);
     last = λ index time entry other notice at there begun. before index time entry other notice at begun
-        (get_either notices more time notice there);
+        (get_split notices more time notice there);
     distinct = of.distinct;
-    told = λ time ended at. go time ended (get_either notices more time (Notice.Tells name ended) at);
+    told = λ time ended at. go time ended (get_split notices more time (Notice.Tells name ended) at);
   };
   past = is.past;
 }
@@ -67,18 +67,20 @@ seen_beside name notices more history now none own is = record {
     of = is.seen
 
     before : (index time : ℕ) (entry other : Entry) (notice : Notice) → slice_get history index ≡ Some entry →
-        IsBegunAs name notice other → (slice_get notices time ≡ Some notice) ⊎ ((j : ℕ) × (slice_get more j ≡ Some notice)) →
+        IsBegunAs name notice other →
+        (slice_get notices time ≡ Some notice) ⊎ ((k : ℕ) × (time ≡ length notices + k) × (slice_get more k ≡ Some notice)) →
         other.call ≡ entry.call → time ≤ of.begins index
     before index time entry other notice at begun (inl here) same = of.last index time entry other notice at here begun same
     before index time entry other notice at begun (inr there) same = absurd (let wrong : false ≡ true =
-        sym (all_at (λ notice. is_about name notice ≡ false) more there.0 notice none there.1)
+        sym (all_at (λ notice. is_about name notice ≡ false) more there.0 notice none there.2)
         ∙ begun_about name notice other begun in cc)
 
     go : (time : ℕ) (ended : Ended) → (slice_get notices time ≡ Some (Notice.Tells name ended))
-        ⊎ ((j : ℕ) × (slice_get more j ≡ Some (Notice.Tells name ended))) → IsToldAt history of.begins time ended
+        ⊎ ((k : ℕ) × (time ≡ length notices + k) × (slice_get more k ≡ Some (Notice.Tells name ended))) →
+        IsToldAt history of.begins time ended
     go time ended (inl here) = of.told time ended here
     go time ended (inr there) = absurd (let wrong : false ≡ true =
-        sym (all_at (λ notice. is_about name notice ≡ false) more there.0 (Notice.Tells name ended) none there.1)
+        sym (all_at (λ notice. is_about name notice ≡ false) more there.0 (Notice.Tells name ended) none there.2)
         ∙ own ended in cc)
 
 -- A call begins
@@ -95,7 +97,7 @@ module _ (name : List ℕ) (notices : List Notice) (notice : Notice) (history : 
 
   begins_before : (index : ℕ) (one : Entry) → slice_get history index ≡ Some one → begins index ≡ old.begins index
   begins_before index one at =
-      ap (λ b. if b then old.begins index else length notices) (lt-ltb index (length history) (get_within history index one at))
+      ap (λ b. if b then old.begins index else length notices) (lt-ltb index (length history) (slice_get_within history index one at))
 
   begins_now : (index : ℕ) → index ≡ length history → begins index ≡ length notices
   begins_now index last =
@@ -138,7 +140,7 @@ module _ (name : List ℕ) (notices : List Notice) (notice : Notice) (history : 
       absurd (all_at (λ (e : Entry). e.call ≡ entry.call → ⊥) history index one free a
       (sym same ∙ begun_once name seen other entry by (subst (λ n. IsBegunAs name n entry) b.1 begun)))
   last_there index time one other seen by same (inr a) (inl b) =
-      let less = get_within notices time seen b in
+      let less = slice_get_within notices time seen b in
       let now = begins_now index a.0 in omega arith
   last_there index time one other seen by same (inr a) (inr b) =
       let there = b.0 in

@@ -1,6 +1,6 @@
 -- Answers that clients were told stay in the history.
-use Rattle.std.proofs.Common.{◌≡◌, ℕ, zero, suc, Bool, true, false, cond, eqb, eqb-true, List, [], ◌∷◌, ◌++◌, map}
-use Rattle.std.proofs.Common.{Option, Some, IsSome, is_some, option_map, slice_get, refl, sym, ap, ◌∙◌}
+use Rattle.std.proofs.Common.{◌≡◌, ℕ, Bool, true, false, cond, eqb, eqb-true, List, [], ◌∷◌, ◌++◌, map}
+use Rattle.std.proofs.Common.{Option, Some, IsSome, is_some, option_map, refl, sym, ap, ◌∙◌}
 use Rattle.std.proofs.lemmas.Option.{slice_get-map}
 use Rattle.std.specs.List.{AllByRecursion}
 use Rattle.record.specs.declared.call.CallKind.{CallKind}
@@ -13,13 +13,9 @@ use Rattle.local_object.specs.declared.progress.Ended.{Ended}
 use Rattle.local_object.specs.Ended.{told_of}
 use Rattle.refinement.specs.WellFormed.{HasEntry}
 use Rattle.refinement.proofs.AnswerLemmas.{answer_there}
+use Rattle.refinement.proofs.PlaceLemmas.{get_first}
 use Rattle.open_calls.proofs.ListLemmas.{all_append, all_at, all_weaker}
 use Rattle.refinement.specs.Histories.{IsAnswered, told_entry}
-
-pub get_first : {A : Type 0} (xs ys : List A) (i : ℕ) (x : A) → slice_get xs i ≡ Some x → slice_get (xs ++ ys) i ≡ Some x
-get_first [] ys i x e = absurd (cc)
-get_first (y ∷ xs) ys zero x e = e
-get_first (y ∷ xs) ys (suc i) x e = get_first xs ys i x e
 
 -- the history has the answer, and so does each entry of the call's id
 pub record IsToldIn (history : List Entry) (ended : Ended) : Type 0 where
