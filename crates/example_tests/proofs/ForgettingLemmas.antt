@@ -58,10 +58,10 @@ forgetting_append (event ∷ first) second world a b =
 
 -- The run
 
-abbrev back : World
+abbrev pub back : World
 back = happens whole (world_after whole write_to_two start) (restarted_empty 1 (world_after whole write_to_two start))
 
-reads : MayHappenInTurn whole empty_read back
+pub reads : MayHappenInTurn whole empty_read back
 reads =
     read_runs 1 opening_tag (Some (empty_piece 1)) (Some (empty_piece 2)) [] back other_id ((26, refl), refl, ((27, refl), refl, tt)) (
       (_, refl, inl (ready _ refl refl, refl)),

@@ -12,7 +12,9 @@ pub mod RefinedReadLemmas
 pub mod RefinedWriteAndReadLemmas
 pub mod RefinedWriteLemmas
 pub mod RunLemmas
+pub mod StoppedSyncLemmas
 pub mod TakenTwiceLemmas
 pub mod TwoFileLemmas
+pub mod TwoProcessLemmas
 pub mod WriteAndReadLemmas
 pub mod WriteLemmas

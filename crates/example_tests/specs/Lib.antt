@@ -5,4 +5,6 @@ pub mod NodeExamples
 pub mod RecordExamples
 pub mod RefinedExamples
 pub mod Scripts
+pub mod StoppedSync
 pub mod TwoFiles
+pub mod TwoProcesses

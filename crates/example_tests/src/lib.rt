@@ -2,6 +2,7 @@
 //! events, and runs of nodes that act by what each of them keeps itself.
 #![tactic(auto)]
 
+pub use logs::a_stop_within_a_sync;
 pub use nodes::{
     a_crash_before_the_reply, a_move_while_a_write_is_under_way, a_reply_taken_twice,
     a_write_and_a_read_at_nodes,
@@ -11,8 +12,12 @@ pub use records::{
     a_write_a_move_and_a_read, a_write_and_a_read, the_bound_is_met_exactly,
 };
 pub use refined::{a_read_of_a_new_object, a_write_and_a_restart};
-pub use wrong_rule::{forgetting_loses_a_write, inventing_loses_a_write, two_files_lose_a_write};
+pub use wrong_rule::{
+    forgetting_loses_a_write, inventing_loses_a_write, two_files_lose_a_write,
+    two_processes_lose_a_write,
+};
 
+mod logs;
 mod nodes;
 mod records;
 mod refined;

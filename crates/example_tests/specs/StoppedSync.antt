@@ -1,0 +1,90 @@
+-- The contracts that docs/trusted.md lists do not depend on this file; other contracts and proofs do.
+-- A worked example of a node that stops while its log is synced: what is read of the log, and the run of the nodes.
+use Rattle.std.specs.Prelude.{◌≡◌, ◌==◌, ◌&&◌, if◌then◌else◌, ℕ, Bool, true, false, List, [], ◌∷◌, ◌++◌, None, Some}
+use Rattle.std.specs.Prelude.{map, take, replicate}
+use Rattle.std.specs.List.{AllByRecursion}
+use Rattle.bank.specs.declared.request.Request.{Request}
+use Rattle.bank.specs.declared.request.Request.TheVariants as request
+use Rattle.mail.specs.declared.message.Body.{Body}
+use Rattle.mail.specs.declared.message.Body.TheVariants as body
+use Rattle.mail.specs.declared.message.Message.{Message}
+use Rattle.record.specs.declared.call.Entry.{Entry}
+use Rattle.record.specs.declared.call.Operation.TheVariants as operation
+use Rattle.node_strings.specs.Record.{record_strings}
+use Rattle.node_strings.specs.declared.record.Record.TheVariants as record_of
+use Rattle.node_strings.specs.Strings.{Strings}
+use Rattle.node_messages.specs.Strings.{strings_of}
+use Rattle.node_log.specs.Entry.{chain_behind, first_chain, log_entry_bytes}
+use Rattle.node_log.specs.Reading.{IsEnd}
+use Rattle.node_store.specs.Recovery.{BeginsWith, IsWholeEntry, log_bytes}
+use Rattle.network.specs.Events.{Event, world_after}
+use Rattle.example_tests.specs.RecordExamples.{whole}
+use Rattle.example_tests.specs.Scripts.{letter, restarted, start, three_nodes, to_keep}
+use Rattle.example_tests.specs.NodeExamples.{read}
+use Rattle.example_tests.specs.Forgetting.{write_to_two}
+
+-- The log of node 0
+
+-- the strings of the log entry which records that a node served this request about the object of this name; the digest
+-- of the cluster file is that of no real file
+abbrev pub served_entry : (name : List ℕ) → Message → Strings
+served_entry name message = record_strings (record_of.Serve (strings_of (record {
+  digest = replicate 16 0;
+  named = record { name = name; letter = record { layout = three_nodes; next = None; message = message } };
+})))
+
+-- whether the message is a request of a write by which a bank changes
+abbrev pub changes_bank : Body → Bool
+changes_bank (body.Request (request.PreWrite tag piece)) = true
+changes_bank (body.Request (request.Finalize tag)) = true
+changes_bank said = false
+
+-- the requests of writes by which the bank of this member changes in these events, in order
+abbrev pub changes_of : (member : ℕ) → List Event → List Message
+changes_of member [] = []
+changes_of member (Event.Serve message ∷ events) =
+    if message.member == member && changes_bank message.body
+    then message ∷ changes_of member events else changes_of member events
+changes_of member (event ∷ events) = changes_of member events
+
+-- the entries that node 0 synced before the write was answered: it kept its piece, and it finalized the tag
+abbrev pub synced_entries : List Strings
+synced_entries = map (served_entry (97 ∷ [])) (changes_of 0 write_to_two)
+
+-- an entry about another object, of whose write node 0 was to keep a piece
+abbrev pub unsynced_entry : Strings
+unsynced_entry = served_entry (98 ∷ [])
+    (record { call = 9; phase = 3; position = 0; member = 0; body = body.Request (to_keep 0) })
+
+-- the entries of the log as the node stops, of which the last one is being synced
+abbrev pub stopped_log : List Strings
+stopped_log = synced_entries ++ unsynced_entry ∷ []
+
+-- what is on the disk then: of the last entry only the head, which has 16 bytes, and two more bytes, and then 9 zeros
+abbrev pub stopped_disk : List ℕ
+stopped_disk =
+    (log_bytes first_chain synced_entries
+    ++ take 18 (log_entry_bytes (chain_behind first_chain synced_entries) unsynced_entry))
+    ++ replicate 9 0
+
+-- behind the synced entries the log ends
+abbrev pub SyncedAreRead : Type 0
+SyncedAreRead = AllByRecursion IsWholeEntry synced_entries × BeginsWith first_chain synced_entries IsEnd stopped_disk
+
+-- and no other entries are read
+abbrev pub OnlySyncedAreRead : Type 0
+OnlySyncedAreRead = (read : List Strings) → AllByRecursion IsWholeEntry read
+    → BeginsWith first_chain read IsEnd stopped_disk → read ≡ synced_entries
+
+-- The run
+
+-- node 0 writes to the nodes 0 and 1, and the write is answered; node 0 stops and starts again with what it kept of
+-- this object; and node 2 reads from the nodes 0 and 2
+abbrev pub stop_after_write : List Event
+stop_after_write = write_to_two ++ (restarted 0 (world_after whole write_to_two start) ∷ read 0)
+
+-- the entries of both calls: the write has the events 1 to 26, and the read has 28 to 49
+abbrev pub stop_after_write_entries : List Entry
+stop_after_write_entries =
+    record { call = 7; kind = operation.Write; called = 1; answered = Some 26; value = Some letter }
+    ∷ record { call = 3; kind = operation.Read; called = 28; answered = Some 49; value = Some letter } ∷ []

@@ -1,0 +1,27 @@
+//! The log of a node that stops, proved as a theorem.
+ghost use Rattle.std.specs.Prelude.{◌≡◌};
+ghost use Rattle.network.specs.Events.{world_after};
+ghost use Rattle.network.specs.Premises.{MayHappenInTurn};
+ghost use Rattle.node_store.specs.Laws.{IsLeft};
+ghost use Rattle.example_tests.specs.RecordExamples.{whole};
+ghost use Rattle.example_tests.specs.Scripts.{start};
+ghost use Rattle.example_tests.specs.StoppedSync.{OnlySyncedAreRead, SyncedAreRead};
+ghost use Rattle.example_tests.specs.StoppedSync.{stop_after_write, stop_after_write_entries, stopped_disk, stopped_log};
+
+use node_log::entries_are_read_back;
+use node_store::logs_are_read_once;
+
+/// Example: node 0 stops while its log is synced. The first two entries record the two requests of an answered write by
+/// which its bank changed, and are synced. Of the third, about another object, the head and two bytes are on the disk,
+/// and zeros behind them. Exactly the first two entries are read. In the run, node 0 keeps what it kept of the object of
+/// the write, and a read from it and from a node that the write did not reach returns the value.
+pub fn a_stop_within_a_sync()
+    ensures left { IsLeft stopped_log 2 stopped_disk }
+    ensures found { SyncedAreRead }
+    ensures only { OnlySyncedAreRead }
+    ensures may { MayHappenInTurn whole stop_after_write start }
+    ensures gives { (world_after whole stop_after_write start).history ≡ stop_after_write_entries }
+{
+    entries_are_read_back();
+    logs_are_read_once();
+}
