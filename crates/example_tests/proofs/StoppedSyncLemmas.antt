@@ -1,6 +1,7 @@
 -- A log whose last entry is cut, and a read from a node that stopped and started again.
 use Rattle.std.proofs.Common.{◌≡◌, ◌<◌, ◌≤◌, ◌+◌, ℕ, List, [], ◌∷◌, ◌++◌, length, take, drop, replicate, None, Some}
 use Rattle.std.proofs.Common.{inl, refl, sym, ap, ◌∙◌, append_assoc, arith, length-append}
+use Rattle.std.proofs.lemmas.Fmt.{length-decimal-le_succ}
 use Rattle.std.proofs.lemmas.List.{length-drop, take-append-drop}
 use Rattle.std.specs.List.{AllByRecursion, flat_map}
 use Rattle.std.specs.Fmt.{decimal}
@@ -87,14 +88,23 @@ module _ (synced : List Strings) (last : Strings) where
 
 synced_frames : AllByRecursion IsWholeEntry synced_entries
 synced_frames = (
-  record { few = omega arith; short = (omega arith, (omega arith, (omega arith, (omega arith, tt)))) },
-  (record { few = omega arith; short = (omega arith, (omega arith, (omega arith, tt))) }, tt),
+  record {
+    few = omega arith;
+    short = (omega arith, (omega arith, (omega (arith, length-decimal-le_succ 0 (omega arith)), tt)));
+  },
+  (
+    record { few = omega arith; short = (omega arith, tt) },
+    (
+      record { few = omega arith; short = (omega arith, (omega arith, (omega arith, (omega arith, tt)))) },
+      (record { few = omega arith; short = (omega arith, (omega arith, (omega arith, tt))) }, tt),
+    ),
+  ),
 )
 
 unsynced_frame : IsFrame unsynced_entry
 unsynced_frame = record { few = omega arith; short = (omega arith, (omega arith, (omega arith, (omega arith, tt)))) }
 
-pub is_left : IsLeft stopped_log 2 stopped_disk
+pub is_left : IsLeft stopped_log 4 stopped_disk
 is_left = record {
   front = log_bytes first_chain synced_entries
       ++ take 18 (log_entry_bytes (chain_behind first_chain synced_entries) unsynced_entry);

@@ -25,11 +25,14 @@ use Rattle.example_tests.specs.Forgetting.{write_to_two}
 
 -- The log of node 0
 
--- the strings of the log entry which records that a node served this request about the object of this name; the digest
--- of the cluster file is that of no real file
+-- what the entries have as the digest of the cluster file: 16 zeros, whatever the digest of the file of the run is
+abbrev pub some_digest : List ℕ
+some_digest = replicate 16 0
+
+-- the strings of the log entry which records that a node served this request about the object of this name
 abbrev pub served_entry : (name : List ℕ) → Message → Strings
 served_entry name message = record_strings (record_of.Serve (strings_of (record {
-  digest = replicate 16 0;
+  digest = some_digest;
   named = record { name = name; letter = record { layout = three_nodes; next = None; message = message } };
 })))
 
@@ -47,9 +50,12 @@ changes_of member (Event.Serve message ∷ events) =
     then message ∷ changes_of member events else changes_of member events
 changes_of member (event ∷ events) = changes_of member events
 
--- the entries that node 0 synced before the write was answered: it kept its piece, and it finalized the tag
+-- the entries that node 0 synced before the write was answered: the first names the cluster and the node, the second
+-- records its start, and the other two that it kept its piece and finalized the tag
 abbrev pub synced_entries : List Strings
-synced_entries = map (served_entry (97 ∷ [])) (changes_of 0 write_to_two)
+synced_entries =
+    record_strings (record_of.Cluster some_digest 0) ∷ record_strings record_of.Start
+    ∷ map (served_entry (97 ∷ [])) (changes_of 0 write_to_two)
 
 -- an entry about another object, of whose write node 0 was to keep a piece
 abbrev pub unsynced_entry : Strings
