@@ -5,17 +5,17 @@ ghost use Rattle.network.specs.Premises.{MayHappenInTurn};
 ghost use Rattle.node_store.specs.Laws.{IsLeft};
 ghost use Rattle.example_tests.specs.RecordExamples.{whole};
 ghost use Rattle.example_tests.specs.Scripts.{start};
-ghost use Rattle.example_tests.specs.StoppedSync.{OnlySyncedAreRead, SyncedAreRead};
-ghost use Rattle.example_tests.specs.StoppedSync.{stop_after_write, stop_after_write_entries, stopped_disk, stopped_log};
+ghost use Rattle.example_tests.specs.StoppedSync.{OnlySyncedAreRead, SyncedAreRead, stopped_disk, stopped_log};
+ghost use Rattle.example_tests.specs.StoppedSync.{stop_after_write, stop_after_write_entries};
 
 use node_log::entries_are_read_back;
 use node_store::logs_are_read_once;
 
 /// Example: node 0 stops while its log is synced. The first four entries are synced: those of its start, and of the two
 /// requests of an answered write by which its bank changed. Of the fifth, about another object, the head and two bytes
-/// are on the disk, and zeros behind them. Exactly the first four entries are read. In the run, node 0 starts again with
-/// what it kept of the object of the write, and a read from it and from a node that the write did not reach returns the
-/// value.
+/// are on the disk, and zeros behind them. Exactly the first four entries are read. In the run, node 0 starts again
+/// with what it kept of the object of the write, and a read from it and from a node that the write did not reach
+/// returns the value.
 pub fn a_stop_within_a_sync()
     ensures left { IsLeft stopped_log 4 stopped_disk }
     ensures found { SyncedAreRead }
