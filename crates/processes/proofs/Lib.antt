@@ -1,6 +1,5 @@
 pub mod FateLemmas
 pub mod LogLemmas
-pub mod PlaceLemmas
 pub mod WantLemmas
 pub mod StandingLemmas
 pub mod HandledFrameLemmas
