@@ -35,8 +35,8 @@ HasStartedAndServed names number disk input held new keeps holds result =
     × HasServed (record { chain = chain; machine = started; left = input; kept = kept; held = held })
     new left keeps holds result
 
--- the program started and served until its input ended or its loop stopped early; what it did if it ends otherwise, the
--- contracts of the functions say that it calls
+-- the program started and served until its input ended or its loop stopped early; if it ends for another cause, this
+-- says nothing
 abbrev pub HasRun : {T : Type 0} → FileOfNames → (number : ℕ) → (disk : List ℕ) → (input held : Option (List ℕ))
     → Node → (keeps holds : Option (List ℕ)) → Result T Fault → Type 0
 HasRun names number disk input held new keeps holds (Ok done) =

@@ -44,7 +44,7 @@ pub enum Fault {
     /// The folder cannot be locked.
     #[error("cannot lock FOLDER: {0}")]
     Unlocked(io::Error),
-    /// The log cannot be opened or cut.
+    /// The log cannot be opened, read or cut.
     #[error("cannot open the log: {0}")]
     Unopened(io::Error),
     /// The log has the form that `casd` wrote before. It was not changed.
@@ -56,7 +56,7 @@ pub enum Fault {
     /// The node cannot start.
     #[error("{0}")]
     Stopped(NodeError),
-    /// The entries of the node's start cannot be written to the log.
+    /// At its start, the node's log cannot be synced, or the entries of the start cannot be written to it.
     #[error("cannot write the log: {0}")]
     LogLost(io::Error),
     /// The log was written anew, and the new one cannot be put in the place of the old one.

@@ -1,6 +1,6 @@
 //! The folder of a node and its files, on the disk.
 //!
-//! Each function of `DiskFile` and `DiskFolder` makes the call of the system that it stands for, and decides nothing.
+//! Each function of `DiskFile` and `DiskFolder` makes the calls of the system for which it stands, and decides nothing.
 ghost use Rattle.casd.specs.Opening.{IsStartFault};
 
 use crate::fault::Fault;

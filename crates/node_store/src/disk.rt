@@ -16,7 +16,8 @@ pub trait DiskFile {
     // The bytes that a reader of the file gets while the machine runs, where they are known.
     ghost written: { Self → Option (List ℕ) } = { λ _. None };
 
-    // The bytes that the file has after the machine stops, where they are known.
+    // The bytes that the file has after the machine stops, where they are known, but for zeros that may stand behind
+    // them.
     ghost kept: { Self → Option (List ℕ) } = { λ _. None };
 
     /// Writes bytes at the end. Where it fails, a front of them was written.
@@ -78,7 +79,7 @@ pub trait DiskFolder {
         ensures other { other self.new ≡ other self.old }
         ensures empty { IfOk result (λ second. IsBeside (Self.File.written log.now) (Self.File.written second) []) };
 
-    /// Removes the file `log.new`, if there is one.
+    /// Removes the file `log.new`. Fails with `NotFound` if there is none.
     fn remove_second(&mut self) -> io::Result<()>
         ensures { other self.new ≡ other self.old };
 

@@ -11,7 +11,8 @@ pub trait Log {
     // The bytes that were appended, where they are known.
     ghost written: { Self → Option (List ℕ) } = { λ _. None };
 
-    // The bytes that are there after the machine stops, where they are known.
+    // The bytes that are there after the machine stops, where they are known, but for zeros that may stand behind
+    // them.
     ghost kept: { Self → Option (List ℕ) } = { λ _. None };
 
     /// Appends bytes. Some of them may be kept at once. Where it fails, a front of them was appended.

@@ -16,7 +16,7 @@ pub trait RewritableLog: Log {
         ensures kept { Self.kept self.new ≡ Self.kept self.old }
         ensures empty { IfOk result (λ second. IsBeside (Self.written self.old) (Self.Second.written second) []) };
 
-    /// Removes the second log, if there is one.
+    /// Removes the second log. May fail with `NotFound` if there is none.
     fn remove_second(&mut self) -> io::Result<()>
         ensures written { Self.written self.new ≡ Self.written self.old }
         ensures kept { Self.kept self.new ≡ Self.kept self.old };

@@ -1,5 +1,5 @@
 -- The contracts that docs/trusted.md lists do not depend on this file; other contracts and proofs do.
--- What a node program does from its start to its end: rounds of its loop, and rewritings of its log between them.
+-- What a node program does after its start, until it ends: rounds of its loop, and rewritings of its log between them.
 use Rattle.std.specs.Prelude.{◌≡◌, ◌++◌, ℕ, zero, suc, List, Option, None, Some, Ok, Err}
 use Rattle.std.specs.List.{AllByRecursion, flat_map}
 use Rattle.std.specs.Io.KnownBytes.{Appends}
