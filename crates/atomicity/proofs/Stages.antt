@@ -5,3 +5,4 @@ pub mod PhaseFactLemmas
 pub mod ReadingFactLemmas
 pub mod RisingTagLemmas
 pub mod StageFactLemmas
+pub mod StoredTagLemmas

@@ -1,6 +1,6 @@
 -- What is so of a call at each of its phases, and at its end.
 use Rattle.std.proofs.Common.{◌≡◌, ℕ, zero, suc, ◌<◌, ◌≤◌, List, [], ◌∷◌, Option, Some}
-use Rattle.std.proofs.Common.{None, refl, sym, subst, ◌∙◌, arith, le_refl, le_trans, le_of_lt, slice_get}
+use Rattle.std.proofs.Common.{None, refl, sym, subst, ◌∙◌, inl, inr, arith, le_refl, le_trans, le_of_lt, slice_get}
 use Rattle.std.proofs.lemmas.Option.{same_Some}
 use Rattle.std.specs.List.{AllByRecursion}
 use Rattle.layout.specs.Layout.{IsLawful}
@@ -13,7 +13,7 @@ use Rattle.record.specs.declared.stage.Stage.TheVariants.{ReadBegin}
 use Rattle.record.specs.PhaseOrder.{begun_at, due, passed, stage_past, stage_after, IsCourse, BeginAtBase, EndsBefore}
 use Rattle.record.specs.Legal.{first_stage, source_of, stage_of, BeginsAt, IsLegal}
 use Rattle.atomicity.proofs.Stages.PhaseFactLemmas.{facts_after}
-use Rattle.atomicity.proofs.Stages.StageFactLemmas.{done_of, Facts, facts_later, IsLeft}
+use Rattle.atomicity.proofs.Stages.StageFactLemmas.{done_of, Facts, facts_later, IsBased, IsLeft}
 use Rattle.soundness.proofs.BaseLemmas.{below_base, came_at}
 use Rattle.record.proofs.BegunStageLemmas.{begun_has}
 use Rattle.soundness.proofs.PhaseStartLemmas.{StartsFrom}
@@ -39,7 +39,20 @@ Rests object base = (step : ℕ) → LeftBefore object (base step) step
 pub begun_facts : (object : Object) (kind : CallKind) (from number called now : ℕ) (stage : Stage) (position start : ℕ) →
     now ≤ start → (stage ≡ ReadBegin → LeftBefore object position start) → Facts object kind from number called now stage →
     Facts object kind from number called start (begun_at stage position)
-begun_facts object kind from number called now stage position start before left facts = grind (arith, begun_has, facts_later, le_refl)
+begun_facts object kind from number called now stage position start before left facts =
+    begun_has (Facts object kind from number called start) stage position (λ first. (
+      λ j below. inr (left first j below),
+      le_refl position,
+      based position (left first),
+      subst (λ s. Facts object kind from number called start s) first later,
+    )) later
+  where
+    later : Facts object kind from number called start stage
+    later = facts_later object kind from number called now start stage before facts
+
+    based : (p : ℕ) → LeftBefore object p start → IsBased object p start
+    based zero left = inl refl
+    based (suc before) left = inr (before, refl, inr (left before (le_refl (suc before))))
 
 -- a phase that begins a first reading begins it where the positions before were left
 begun_left : (object : Object) (base : ℕ → ℕ) → Rests object base → (stage : Stage) (phase : Phase) →

@@ -2,7 +2,6 @@
 use Rattle.std.proofs.Common.{◌≡◌, ℕ, zero, suc, ◌<◌, ◌≤◌, ◌⊎◌, Bool, true, false}
 use Rattle.std.proofs.Common.{cond, List, [], ◌∷◌, take, Some, None, refl, sym, subst₂}
 use Rattle.std.proofs.Common.{ap, ◌∙◌, inl, inr, arith, le_of_lt, slice_get, take-take}
-use Rattle.std.proofs.lemmas.Bool.{cases_lt}
 use Rattle.tag.specs.declared.tag.Tag.{Tag}
 use Rattle.record.specs.declared.call.CallKind.{CallKind}
 use Rattle.record.specs.Records.{Call, Object, bank_at}
@@ -14,9 +13,10 @@ use Rattle.bank.specs.Knowledge.{final_since, pointer_at}
 use Rattle.record.specs.declared.stage.Stage.{Stage}
 use Rattle.record.specs.PhaseOrder.{due}
 use Rattle.record.specs.Legal.{is_move, moves_in, source_of, IsLegal}
-use Rattle.soundness.proofs.Quorums.QuorumMeetingLemmas.{Stored, Pointed, SeenFinal, stored_later, pointed_later}
+use Rattle.soundness.proofs.Quorums.QuorumMeetingLemmas.{Pointed, SeenFinal}
 use Rattle.atomicity.proofs.Stages.CallFactLemmas.{call_at_phase}
 use Rattle.atomicity.proofs.Stages.StageFactLemmas.{Facts, Carried, Put, IsMoveFrom}
+use Rattle.atomicity.proofs.Stages.StoredTagLemmas.{Stored, stored_later}
 use Rattle.record.proofs.TagOrderLemmas.{IsAtMost}
 
 -- a move whose queries are complete, and whose tag is at a quorum of the later position by the step
@@ -134,8 +134,4 @@ finished_move object kind from number called now stage k e facts = grind arith
 -- the first move after a call's last position carries at least the call's tag
 pub carried_here : (object : Object) (now called position : ℕ) (tag moved : Tag) → Put object now position tag →
     Carried object called position moved → IsAtMost tag moved
-carried_here object now called position tag moved put carried = go (cases_lt carried.asked put.at)
-  where
-    go : (carried.asked < put.at) ⊎ (put.at ≤ carried.asked) → IsAtMost tag moved
-    go (inl early) = absurd (put.unpointed (pointed_later object position carried.asked put.at (le_of_lt early) carried.pointed))
-    go (inr late) = carried.answers tag (stored_later object position tag put.at carried.asked late put.stored)
+carried_here object now called position tag moved put carried = carried.answers tag (put.pointed carried.asked carried.pointed)

@@ -16,9 +16,10 @@ use Rattle.record.specs.declared.stage.Stage.{Stage}
 use Rattle.record.specs.declared.stage.Stage.TheVariants.{ReadBegin, ReadNext, ReadSpread, QueryFrom, FetchAt, PreWriteAt}
 use Rattle.record.specs.declared.stage.Stage.TheVariants.{FinalizeAt, AgainNext, AgainSpread, MoveSpread, MoveQuery}
 use Rattle.record.specs.declared.stage.Stage.TheVariants.{MoveFetch, MovePreWrite, MoveFinalize, MoveFinal, Ended, Moved}
-use Rattle.soundness.proofs.Quorums.QuorumMeetingLemmas.{Stored, Pointed, stored_later, pointed_later}
+use Rattle.soundness.proofs.Quorums.QuorumMeetingLemmas.{Pointed, pointed_later}
 use Rattle.atomicity.proofs.Stages.ReadingFactLemmas.{done_at, next_facts, spread_facts, query_facts}
-use Rattle.atomicity.proofs.Stages.StageFactLemmas.{Done, Reached, HasTag, Facts, reached_later, reached_more}
+use Rattle.atomicity.proofs.Stages.StageFactLemmas.{Done, Reached, HasTag, Facts, put_unpointed, reached_later, reached_more}
+use Rattle.atomicity.proofs.Stages.StoredTagLemmas.{Stored, stored_later}
 
 fetch_facts : (object : Object) (kind : CallKind) (from number called now shown_at
     last : ℕ) (tag : Tag) (start end : ℕ) (replies : List Taken) → Done object (Fetch tag) shown_at start end replies →
@@ -42,12 +43,8 @@ again_facts object kind from number called now last p tag start end replies Unse
     (λ t. let same = eqb-true p last t in (
       subst (λ q. Reached object q end) same reached,
       facts.1,
-      record {
-        at = start;
-        until = done.later;
-        stored = stored_later object last tag now start onward facts.2;
-        unpointed = λ pointed. done.none refl e (subst (λ q. Pointed object q start) (sym same) pointed);
-      },
+      put_unpointed object start end last tag done.later (stored_later object last tag now start onward facts.2)
+          (λ pointed. done.none refl e (subst (λ q. Pointed object q start) (sym same) pointed)),
     ))
     (λ t. (reached, facts.1))
 again_facts object kind from number called now last p tag start end replies Pending e done onward facts =

@@ -14,8 +14,9 @@ use Rattle.bank.specs.declared.kind.Kind.TheVariants.{Next, Spread, Query}
 use Rattle.record.specs.PhaseOrder.{greatest_status, greatest_tag, after_next, after_spread, after_query, tagged}
 use Rattle.record.specs.Legal.{is_move}
 use Rattle.record.specs.declared.stage.Stage.TheVariants.{ReadNext, ReadSpread, QueryFrom}
-use Rattle.soundness.proofs.Quorums.QuorumMeetingLemmas.{Stored, stored_later, pointed_later, final_later}
+use Rattle.soundness.proofs.Quorums.QuorumMeetingLemmas.{pointed_later, final_later}
 use Rattle.atomicity.proofs.Stages.StageFactLemmas.{Done, Reached, Found, Facts, reached_later, reached_more, based_later}
+use Rattle.atomicity.proofs.Stages.StoredTagLemmas.{Stored, stored_later}
 use Rattle.record.proofs.TagOrderLemmas.{IsAtMost, at_most_trans, later_tag-left, later_tag-right}
 
 pub done_at : (object : Object) (k kind : Kind) (p position start end : ℕ) (replies : List Taken) →

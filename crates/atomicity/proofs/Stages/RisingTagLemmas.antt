@@ -6,10 +6,11 @@ use Rattle.tag.specs.declared.tag.Tag.{Tag}
 use Rattle.record.specs.Records.{Call, Object}
 use Rattle.record.specs.PhaseOrder.{after}
 use Rattle.record.specs.Legal.{source_of, stage_of, IsLegal}
-use Rattle.soundness.proofs.Quorums.QuorumMeetingLemmas.{Stored, Pointed, SeenFinal, stored_later, pointed_later}
+use Rattle.soundness.proofs.Quorums.QuorumMeetingLemmas.{Pointed, SeenFinal, pointed_later}
 use Rattle.atomicity.proofs.Stages.CallFactLemmas.{call_at_end}
 use Rattle.atomicity.proofs.Stages.CarriedTagLemmas.{MovedFrom, final_rests, Prior, prior_move, finished_move, carried_here}
 use Rattle.atomicity.proofs.Stages.StageFactLemmas.{Found, Carried, Put, Reached, IsBased, IsLeft, IsMoveFrom}
+use Rattle.atomicity.proofs.Stages.StoredTagLemmas.{Stored, stored_later}
 use Rattle.record.proofs.TagOrderLemmas.{IsAtMost, at_most_trans}
 
 -- what the move before carried, and when
@@ -122,7 +123,7 @@ later_found object legal now last tag reached put called there greatest found af
     go (inl short) side based = absurd (found.unpointed (pointed_later object there now called after (was_pointed (reached there short))))
     go (inr long) (inr asked) based =
         found.answers last asked (omega arith) tag
-        (stored_later object last tag put.at found.asked (let a = put.until in let b = found.since in omega arith) put.stored)
+        (stored_later object last tag now found.asked (let b = found.since in omega arith) put.stored)
     go (inr long) (inl above) (inl start) = absurd (omega arith)
     go (inr long) (inl above) (inr (before, e, why)) =
         let moved = was_moved before why in

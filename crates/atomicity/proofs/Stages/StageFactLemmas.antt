@@ -1,5 +1,5 @@
 -- What is so of a call at each of its stages, and stays so.
-use Rattle.std.proofs.Common.{◌≡◌, ℕ, suc, ◌<◌, ◌≤◌, ◌⊎◌, false, List, Some, subst, inl, inr, arith, le_trans}
+use Rattle.std.proofs.Common.{◌≡◌, ℕ, suc, ◌<◌, ◌≤◌, ◌⊎◌, false, List, Some, subst, inl, inr, arith, le_trans, le_of_lt}
 use Rattle.std.proofs.lemmas.Bool.{cases_lt}
 use Rattle.std.specs.List.{AllByRecursion}
 use Rattle.tag.specs.declared.tag.Tag.{Tag}
@@ -10,7 +10,7 @@ use Rattle.bank.specs.declared.kind.Kind.{Kind}
 use Rattle.mail.specs.declared.phase.Taken.{Taken}
 use Rattle.mail.specs.Phase.{Phase}
 use Rattle.record.specs.declared.call.CallKind.{CallKind}
-use Rattle.record.specs.Records.{Object}
+use Rattle.record.specs.Records.{Object, layout_at}
 use Rattle.bank.specs.declared.status.Status.TheVariants.{Unset, Final}
 use Rattle.bank.specs.declared.kind.Kind.TheVariants.{Next, Spread, Query, Finalize, Fetch}
 use Rattle.record.specs.declared.call.CallKind.TheVariants.{Read, Write, Move}
@@ -21,10 +21,11 @@ use Rattle.record.specs.Legal.{is_move, IsMovedOut}
 use Rattle.record.specs.declared.stage.Stage.TheVariants.{ReadBegin, ReadNext, ReadSpread, QueryFrom, FetchAt, PreWriteAt}
 use Rattle.record.specs.declared.stage.Stage.TheVariants.{FinalizeAt, AgainNext, AgainSpread, MoveSpread, MoveQuery}
 use Rattle.record.specs.declared.stage.Stage.TheVariants.{MoveFetch, MovePreWrite, MoveFinalize, MoveFinal, Ended, Moved}
-use Rattle.soundness.proofs.Quorums.QuorumMeetingLemmas.{Stored, Pointed, SeenFinal, stored_later, pointed_later}
+use Rattle.soundness.proofs.Quorums.QuorumMeetingLemmas.{Pointed, SeenFinal, pointed_later, lawful_at}
 use Rattle.soundness.proofs.Quorums.QuorumMeetingLemmas.{final_later, stored_by_fin, stored_by_fetch, pointed_by_spread}
-use Rattle.soundness.proofs.Quorums.QuorumMeetingLemmas.{query_finds, none_pointed, final_found, start_before_end}
+use Rattle.soundness.proofs.Quorums.QuorumMeetingLemmas.{none_pointed, final_found, start_before_end}
 use Rattle.soundness.proofs.StatusOrderLemmas.{rank}
+use Rattle.atomicity.proofs.Stages.StoredTagLemmas.{Stored, stored_later, stored_at_quorum, query_finds}
 use Rattle.record.proofs.TagOrderLemmas.{IsAtMost}
 
 -- what a complete phase of this kind shows
@@ -41,13 +42,16 @@ pub done_of : (object : Object) (phase : Phase) (end : ℕ) → AllByRecursion I
     phase.end ≡ Some end → Done object phase.kind phase.position phase.start end phase.replies
 done_of object phase end lawful truth e = record {
   later = start_before_end object phase end lawful truth e;
-  finds = λ k. query_finds object phase end k lawful truth e;
+  finds = λ k. query_finds object phase end k truth e;
   none = λ k. none_pointed object phase end k lawful truth e;
   final = λ k. final_found object phase end k truth e;
   spreads = λ status k some. pointed_by_spread object phase end status k some truth e;
-  stores = λ tag k. stored_by_fin object phase end tag k truth e;
-  fetches = λ tag k. stored_by_fetch object phase end tag k truth e;
+  stores = λ tag k. stored_at_quorum object phase.position tag end here (stored_by_fin object phase end tag k truth e);
+  fetches = λ tag k. stored_at_quorum object phase.position tag end here (stored_by_fetch object phase end tag k truth e);
 }
+  where
+    here : IsLawful (layout_at object phase.position)
+    here = lawful_at object phase.position lawful truth.placed
 
 -- the move out of a position was answered by a step
 pub record IsLeft (object : Object) (position now : ℕ) : Type 0 where
@@ -88,12 +92,25 @@ pub record Carried (object : Object) (called position : ℕ) (tag : Tag) : Type 
   pub pointed : Pointed object position asked
   pub answers : (other : Tag) → Stored object position other asked → IsAtMost other tag
 
--- at some step up to `now` the tag was finalized at a quorum of the position `last`, and no quorum there had a pointer
+-- by step `now` the tag was stored at the position `last`, and so it was by each step by which a quorum there had a pointer
 pub record Put (object : Object) (now last : ℕ) (tag : Tag) : Type 0 where
-  pub at : ℕ
-  pub until : at ≤ now
-  pub stored : Stored object last tag at
-  pub unpointed : Pointed object last at → ⊥
+  pub stored : Stored object last tag now
+  pub pointed : (step : ℕ) → Pointed object last step → Stored object last tag step
+
+-- a tag is put if it was stored at a step by which no quorum had a pointer
+pub put_unpointed : (object : Object) (at now last : ℕ) (tag : Tag) → at ≤ now → Stored object last tag at →
+    (Pointed object last at → ⊥) → Put object now last tag
+put_unpointed object at now last tag until stored none = record {
+  stored = stored_later object last tag at now until stored;
+  pointed = λ step pointed. go step pointed (cases_lt step at);
+}
+  where
+    go : (step : ℕ) → Pointed object last step → (step < at) ⊎ (at ≤ step) → Stored object last tag step
+    go step pointed (inl early) = absurd (none (pointed_later object last step at (le_of_lt early) pointed))
+    go step pointed (inr late) = stored_later object last tag at step late stored
+
+pub put_later : (object : Object) (s u last : ℕ) (tag : Tag) → s ≤ u → Put object s last tag → Put object u last tag
+put_later object s u last tag h put = record { stored = stored_later object last tag s u h put.stored; pointed = put.pointed }
 
 -- the call is a move from this position
 abbrev pub IsMoveFrom : CallKind → ℕ → ℕ → Type 0
@@ -194,11 +211,6 @@ facts_later object kind from number called s u (Moved position tag) h facts =
 facts_later object kind from number called s u (Ended last tag) h facts = (
   reached_later object last s u h facts.0,
   facts.1,
-  record {
-    at = facts.2.at;
-    until = le_trans facts.2.until h;
-    stored = facts.2.stored;
-    unpointed = facts.2.unpointed;
-  },
+  put_later object s u last tag h facts.2,
 )
 facts_later object kind from number called s u _ h facts = (facts.0, facts.1, pointed_later object _ s u h facts.2)
