@@ -1,0 +1,2 @@
+pub mod GreatestTagLemmas
+pub mod ClosedBankLemmas

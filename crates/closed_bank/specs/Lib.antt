@@ -1,0 +1,3 @@
+pub mod ClosedBank
+pub mod Serve
+pub mod Restore
