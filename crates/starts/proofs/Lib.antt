@@ -1,0 +1,11 @@
+pub mod FinalPointerLemmas
+pub mod LeadingLemmas
+pub mod ServedReplyLemmas
+pub mod GatheredReplyLemmas
+pub mod AdvancedCallLemmas
+pub mod FinalPositionLemmas
+pub mod ReadingLemmas
+pub mod MirroredWorldLemmas
+pub mod ReachedWorldLemmas
+pub mod BegunReadingLemmas
+pub mod ShownFinalLemmas
