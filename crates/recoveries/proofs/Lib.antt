@@ -18,3 +18,6 @@ pub mod OwnRecoveredLemmas
 pub mod LawfulLetterLemmas
 pub mod OwnHandledLemmas
 pub mod OwnCallLemmas
+pub mod LoggedIdLemmas
+pub mod LoggedMoveLemmas
+pub mod RewrittenIdLemmas

@@ -6,3 +6,4 @@ pub mod RewrittenRecords
 pub mod RewritingNodes
 pub mod RewrittenLaws
 pub mod OwnCalls
+pub mod LoggedIds

@@ -6,7 +6,8 @@
 
 pub use logged::{moves_are_logged, served_is_logged, starts_are_logged, taken_is_logged};
 pub use own_calls::{
-    handling_keeps_own_calls, new_nodes_have_own_calls, restarting_keeps_own_calls,
+    handling_keeps_own_calls, logged_ids_differ, new_nodes_have_own_calls,
+    restarting_keeps_own_calls,
 };
 pub use rewritten::{
     handling_keeps_own, new_nodes_have_own, recovering_keeps_own, rewritten_logs_record,
