@@ -12,8 +12,10 @@ use Rattle.deeds.proofs.HandledLemmas.{nothing_handled}
 use Rattle.deeds.proofs.IdLemmas.{later_same}
 use Rattle.open_calls.proofs.ListLemmas.{all_append, all_weaker}
 use Rattle.recoveries.specs.Copies.{IsLogged}
+use Rattle.recoveries.specs.LoggedIds.{HaveLoggedIds}
 use Rattle.recoveries.specs.Records.{LogRecord}
 use Rattle.recoveries.specs.Stops.{IsHandledSafely, Output as Left, logged_first, sent_in}
+use Rattle.recoveries.proofs.LoggedIdLemmas.{logged_then, same_epoch}
 use Rattle.recoveries.proofs.LoggedLemmas.{same_unlogged}
 use Rattle.recoveries.proofs.StopLemmas.{more_safe, one_safe, two_safe, unlogged_safe}
 use Rattle.node_effects.specs.Seen.{all_seen, seen_of}
@@ -73,6 +75,7 @@ pub record ActsInOrder (asker : ℕ) (got : List Named) (old : Keeper) (before :
   pub sent : AllByRecursion (IsSendable old.ids.node old.digest) sends
   pub own : growth.own ≡ to_itself old.ids.node sends
   pub addressed : AllByRecursion (IsDirected old.ids.node asker) sends
+  pub ids : HaveLoggedIds old.ids records new.ids
   pub handled : HasRanges old.ids → IsHandledSafely fragment (kept_of old) got (logged_first records (letters_of sends))
       (kept_of new) (all_seen growth.notices)
   pub node : new.ids.node ≡ old.ids.node
@@ -91,6 +94,7 @@ acts_in_order asker got old new before after a =
       own = a.own ∙ ap (λ xs. to_itself old.ids.node xs) (sym (sends_ordered a.records a.sends));
       addressed = subst (λ xs. AllByRecursion (IsDirected old.ids.node asker) xs) (sym (sends_ordered a.records a.sends))
           a.addressed;
+      ids = subst (λ rs. HaveLoggedIds old.ids rs new.ids) (sym (records_ordered a.records a.sends)) a.ids;
       handled = λ within. safe_as (kept_of old) got (logged_first a.records (letters_of a.sends))
           (left_by (in_order a.records a.sends)) (kept_of new) seen seen (a.handled within) (left_ordered a.records a.sends) refl;
       node = a.node;
@@ -110,6 +114,7 @@ acts_rest asker got keeper before after growth grown outputs own notices = recor
   sent = tt;
   own = own;
   addressed = tt;
+  ids = same_epoch keeper.ids keeper.ids refl;
   handled = λ within.
       let node = kept_of keeper in
       safe_as node got [] [] node [] (all_seen growth.notices)
@@ -152,6 +157,8 @@ acts_then asker other got more a b c u v w first second addressed among =
           (all_append (IsDirected n asker) (sends_in first.wants) (sends_in second.wants) first.addressed
           (all_weaker (IsDirected n other) (IsDirected n asker) addressed (sends_in second.wants)
           (subst (λ m. AllByRecursion (IsDirected m other) (sends_in second.wants)) first.node second.addressed)));
+      ids = subst (λ rs. HaveLoggedIds a.ids rs c.ids) (sym (records_append first.wants second.wants))
+          (logged_then a.ids b.ids c.ids (records_in first.wants) (records_in second.wants) first.ids second.ids);
       handled = λ within.
           let fst = first.handled within in
           let left = left_by first.wants in

@@ -13,7 +13,9 @@ use Rattle.deeds.specs.Named.{with_names}
 use Rattle.deeds.proofs.HandledLemmas.{resent_handled}
 use Rattle.deeds.proofs.IdLemmas.{later_same}
 use Rattle.deeds.proofs.MethodLemmas.{begun_handled}
+use Rattle.recoveries.specs.LoggedIds.{HaveLoggedIds}
 use Rattle.recoveries.specs.Records.{LogRecord}
+use Rattle.recoveries.proofs.LoggedIdLemmas.{TellOfId, same_epoch}
 use Rattle.recoveries.specs.Stops.{logged_first}
 use Rattle.node_keeper.specs.Doing.{IsOutcomeAt}
 use Rattle.node_keeper.specs.Objects.{objects_of}
@@ -45,13 +47,13 @@ next_acts : (asker : ℕ) (old new : Keeper) (before noted after : Work) (name :
     IsOutcomeAt old.objects name (event ∷ []) new.objects letters → begun_id event ≡ Some id →
     IsEventAllowed old.ids.node old.file.fixed.mover event →
     seen_of notice ∷ [] ≡ noticed name (objects_of old.objects name) event → AreFew records →
-    EventIsLogged old name event records → AllByRecursion (IsReadBack old.digest) records →
+    EventIsLogged old name event records → TellOfId id records → AllByRecursion (IsReadBack old.digest) records →
     IsGrown before noted (opened_growth old.digest records notice) →
     IsGrown noted after (sent_growth new.ids.node new.digest (asked new.ids.node name letters)) →
     AllByRecursion (IsSendable new.ids.node new.digest) (asked new.ids.node name letters) →
     Acts asker [] old before new after
 next_acts asker old new before noted after name event id letters records notice file digest next given done begins allowed seen
-    few logged read notes sent fits =
+    few logged tells read notes sent fits =
     let n = old.ids.node in
     let node : new.ids.node ≡ n = ap (λ (i : CallIds). i.node) given ∙ next_is_node old.ids in
     let epoch : new.ids.epoch ≡ old.ids.epoch = ap (λ (i : CallIds). i.epoch) given ∙ next_epoch old.ids in
@@ -71,6 +73,7 @@ next_acts asker old new before noted after name event id letters records notice 
       own = ap (λ m. to_itself m (asked m name letters)) node;
       addressed = asked_addressed n asker name letters
           (done_asks (objects_of old.objects name) done.local (event ∷ []) letters done.done (begins_serve_none event id begins, tt));
+      ids = subst (HaveLoggedIds old.ids records) (sym given) (tells old.ids next);
       handled = λ within. safe_as (kept_of old) [] (logged_first records (with_names name letters))
           (logged_first records (letters_of (asked n name letters))) (kept_of new)
           (noticed name (objects_of old.objects name) event) (seen_of notice ∷ [])
@@ -92,26 +95,26 @@ module _ (asker : ℕ) (old new : Keeper) where
       GivesId old.ids id new.ids before given → IsOutcomeAt old.objects name (event ∷ []) new.objects letters →
       begun_id event ≡ Some id → IsEventAllowed old.ids.node old.file.fixed.mover event →
       seen_of notice ∷ [] ≡ noticed name (objects_of old.objects name) event → AreFew records →
-      EventIsLogged old name event records → AllByRecursion (IsReadBack old.digest) records →
+      EventIsLogged old name event records → TellOfId id records → AllByRecursion (IsReadBack old.digest) records →
       IsGrown given noted (opened_growth old.digest records notice) →
       IsGrown noted after (sent_growth new.ids.node new.digest (asked new.ids.node name letters)) →
       AllByRecursion (IsSendable new.ids.node new.digest) (asked new.ids.node name letters) →
       Acts asker [] old before new after
   begun_acts before given noted after name event id letters records notice file digest (inl g) done begins allowed seen few logged
-      read notes sent fits =
+      tells read notes sent fits =
       acts_more asker [] old old new before given after
       (acts_rest asker [] old before given no_growth g.2 refl refl refl)
       (next_acts asker old new given noted after name event id letters records notice file digest g.0 g.1 done begins allowed seen
-      few logged read notes sent fits)
+      few logged tells read notes sent fits)
   begun_acts before given noted after name event id letters records notice file digest (inr g) done begins allowed seen few logged
-      read notes sent fits =
+      tells read notes sent fits =
       let middle = in_epoch old in
       let node : middle.ids.node ≡ old.ids.node = (begun_later old.ids g.0).node in
       acts_more asker [] old middle new before given after
       (epoch_acts asker old middle before given refl refl refl g.0 refl g.3)
       (next_acts asker middle new given noted after name event id letters records notice file digest g.1 g.2 done begins
       (subst (λ n. IsEventAllowed n old.file.fixed.mover event) (sym node) allowed) seen few
-      (λ from to file number objects. logged from to file (number ∙ node) objects) read notes sent fits)
+      (λ from to file number objects. logged from to file (number ∙ node) objects) tells read notes sent fits)
 
 -- a call asks again
 pub resent_acts : (asker : ℕ) (keeper : Keeper) (before after : Work) (name : List ℕ) (letters : List Letter) →
@@ -131,6 +134,7 @@ resent_acts asker keeper before after name letters resent sent fits =
       sent = fits;
       own = refl;
       addressed = asked_addressed n asker name letters (resent_ask (objects_of keeper.objects name) letters resent);
+      ids = same_epoch keeper.ids keeper.ids refl;
       handled = λ within.
           let node = kept_of keeper in
           safe_as node [] (logged_first [] (with_names name letters)) (logged_first [] (letters_of (asked n name letters))) node [] []

@@ -1,15 +1,17 @@
 -- Ids that are given, epochs that begin, and calls that are refused, as what a node does.
-use Rattle.std.proofs.Common.{◌≡◌, ◌≢◌, ◌<◌, ◌^◌, ◌⊎◌, inl, inr, ℕ, suc, [], ◌∷◌, Result, OnOk}
+use Rattle.std.proofs.Common.{◌≡◌, ◌≢◌, ◌<◌, ◌^◌, ◌⊎◌, inl, inr, ℕ, suc, [], ◌∷◌, Some, Result, OnOk}
 use Rattle.std.proofs.Common.{refl, sym, subst, ap, ◌∙◌}
 use Rattle.std.proofs.lemmas.Result.{on_ok_weaker}
 use Rattle.tag.specs.declared.refusal.Refusal.{Refusal}
 use Rattle.tag.specs.declared.refusal.Refusal.TheVariants.{NoMemory}
 use Rattle.encoder.specs.Fragment.{fragment}
-use Rattle.deeds.specs.CallId.{CallIds, HasRanges, after_given, with_next_epoch}
+use Rattle.deeds.specs.CallId.{CallIds, HasRanges, after_given, next_given_id, with_next_epoch}
 use Rattle.deeds.specs.Ids.{IsLater}
 use Rattle.deeds.proofs.HandledLemmas.{handled_as, nothing_handled}
 use Rattle.deeds.proofs.IdLemmas.{later_same, next_later}
+use Rattle.recoveries.specs.LoggedIds.{HaveLoggedIds}
 use Rattle.recoveries.specs.Records.{LogRecord}
+use Rattle.recoveries.proofs.LoggedIdLemmas.{call_logged, epoch_logged}
 use Rattle.recoveries.proofs.LoggedLemmas.{same_unlogged, starts_logged}
 use Rattle.node_keeper.specs.Objects.{AreSame}
 use Rattle.node_effects.specs.Work.{IsGrown, no_growth, one_entry}
@@ -25,12 +27,15 @@ use Rattle.node_keeper.proofs.IdLemmas.{begun_later, next_epoch, next_is_node}
 use Rattle.node_keeper.proofs.ReadLemmas.{start_read}
 
 -- ids are given away, and nothing else is done
-given_acts : (asker : ℕ) (old new : Keeper) (before after : Work) → new.file ≡ old.file → new.digest ≡ old.digest →
-    AreSame old.objects new.objects → new.ids ≡ after_given old.ids → (HasRanges old.ids → IsLater old.ids new.ids) →
-    IsGrown before after no_growth → Acts asker [] old before new after
-given_acts asker old new before after file digest same given later grown =
+given_acts : (asker : ℕ) (old new : Keeper) (before after : Work) (id : ℕ) → new.file ≡ old.file → new.digest ≡ old.digest →
+    AreSame old.objects new.objects → next_given_id old.ids ≡ Some id → new.ids ≡ after_given old.ids → IsGrown before after no_growth →
+    Acts asker [] old before new after
+given_acts asker old new before after id file digest same next given grown =
     let node : new.ids.node ≡ old.ids.node = ap (λ (i : CallIds). i.node) given ∙ next_is_node old.ids in
     let kept = file_same old new file same.settings in
+    let later : HasRanges old.ids → IsLater old.ids new.ids =
+    λ within. next_later old.ids new.ids id
+    (record { now = old.ids; reached = later_same old.ids within; next = next; left = sym given }) in
     acts_in_order asker [] old new before after (record {
       sends = [];
       records = [];
@@ -41,6 +46,7 @@ given_acts asker old new before after file digest same given later grown =
       sent = tt;
       own = refl;
       addressed = tt;
+      ids = subst (HaveLoggedIds old.ids []) (sym given) (call_logged id old.ids next);
       handled = λ within. few_safe (kept_of old) [] [] (kept_of new) [] [] (inl refl) within
           (handled_as fragment (kept_of old) [] (record (kept_of old) { ids = new.ids }) (kept_of new) [] [] [] []
           (nothing_handled fragment (kept_of old) [] new.ids (later within)) kept refl same.objects refl refl)
@@ -74,6 +80,7 @@ epoch_acts asker old new before after file digest objects more ids grown =
       sent = tt;
       own = refl;
       addressed = tt;
+      ids = epoch_logged old.ids new.ids more ids;
       handled = λ within. few_safe (kept_of old) [] (LogRecord.Starts ∷ []) (kept_of new) [] []
           (inr (LogRecord.Starts, refl)) within
           (handled_as fragment (kept_of old) [] (record (kept_of old) { ids = new.ids }) (kept_of new) [] [] [] []
@@ -92,16 +99,12 @@ in_epoch old = record old { ids = with_next_epoch old.ids }
 pub refused_acts : (asker : ℕ) (old new : Keeper) (before after : Work) (id : ℕ) → new.file ≡ old.file → new.digest ≡ old.digest →
     GivesId old.ids id new.ids before after → AreSame old.objects new.objects → Acts asker [] old before new after
 refused_acts asker old new before after id file digest (inl g) same =
-    given_acts asker old new before after file digest same g.1
-    (λ within. next_later old.ids new.ids id
-    (record { now = old.ids; reached = later_same old.ids within; next = g.0; left = sym g.1 })) g.2
+    given_acts asker old new before after id file digest same g.0 g.1 g.2
 refused_acts asker old new before after id file digest (inr g) same =
     let middle = in_epoch old in
     acts_more asker [] old middle new before after after
     (epoch_acts asker old middle before after refl refl refl g.0 refl g.3)
-    (given_acts asker middle new after after file digest same g.2
-    (λ within. next_later middle.ids new.ids id
-    (record { now = middle.ids; reached = later_same middle.ids within; next = g.1; left = sym g.2 })) (grown_none after))
+    (given_acts asker middle new after after id file digest same g.1 g.2 (grown_none after))
 
 -- the same, by what the object ensures where it refuses, if memory was not refused
 pub refused_if : {T E : Type 0} (old new : Keeper) (before after : Work) (id : ℕ) (refusal : Refusal) (result : Result T E) →

@@ -9,6 +9,7 @@ use Rattle.local_object.specs.Doing.{give_up_events, has_move_open, is_taken, se
 use Rattle.deeds.specs.Deeds.{Notice as Seen}
 use Rattle.recoveries.specs.Copies.{IsHeeded, IsLogged}
 use Rattle.recoveries.specs.Records.{LogRecord}
+use Rattle.recoveries.proofs.LoggedIdLemmas.{TellsNoId}
 use Rattle.recoveries.proofs.LoggedLemmas.{given_up_unlogged, served_logged, taken_logged, taken_unlogged, unchanged_unlogged}
 use Rattle.node_keeper.specs.Doing.{IsOutcomeAt}
 use Rattle.node_keeper.specs.Objects.{objects_of}
@@ -41,6 +42,11 @@ read_if : (digest : List ℕ) (one : LogRecord) → (IsLoggable digest one → I
     AllByRecursion (IsLoggable digest) (cond b (one ∷ []) []) → AllByRecursion (IsReadBack digest) (cond b (one ∷ []) [])
 read_if digest one reads true fits = (reads fits.0, tt)
 read_if digest one reads false fits = tt
+
+-- a record that tells of no id
+idless_if : (one : LogRecord) → TellsNoId one → (b : Bool) → AllByRecursion TellsNoId (cond b (one ∷ []) [])
+idless_if one none true = (none, tt)
+idless_if one none false = tt
 
 -- a request is served
 module _ (asker : ℕ) (it : NamedLetter) (old new : Keeper) (before after : Work) where
@@ -75,6 +81,7 @@ module _ (asker : ℕ) (it : NamedLetter) (old new : Keeper) (before after : Wor
         outputs = refl;
         read = read_if old.digest (LogRecord.Serves it.name it.letter) (serve_read old.digest it) changes
             serves.fits.logged;
+        idless = idless_if (LogRecord.Serves it.name it.letter) (refl, refl) changes;
         sent = serves.fits.sent;
         own = refl;
         addressed = replied_addressed old.ids.node asker it.name serves.replies
@@ -119,6 +126,7 @@ module _ (it : NamedLetter) (old new : Keeper) (before after : Work) (ended : Op
         outputs = ap (λ xs. log_all (map (log_entry_of old.digest) records) ++ xs) (append-nil sending.outputs);
         read = read_if old.digest (LogRecord.Takes it.name it.letter) (take_read old.digest it) moves
             takes.fits.logged;
+        idless = idless_if (LogRecord.Takes it.name it.letter) (refl, refl) moves;
         sent = takes.fits.sent;
         own = append-nil sending.own;
         addressed = asked_addressed old.ids.node asker it.name takes.letters
@@ -143,6 +151,7 @@ given_up_acts asker old new work name id file digest ids done =
       grown = grown_none work;
       outputs = refl;
       read = tt;
+      idless = tt;
       sent = tt;
       own = refl;
       addressed = tt;

@@ -20,3 +20,4 @@ pub mod SeenLemmas
 pub mod SendingLemmas
 pub mod UnchangedObjectLemmas
 pub mod WantLemmas
+pub mod IdsLeftLemmas

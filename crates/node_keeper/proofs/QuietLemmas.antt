@@ -27,6 +27,7 @@ use Rattle.deeds.proofs.MethodLemmas.{BeginsNone, if_all, quiet_handled}
 use Rattle.recoveries.specs.Copies.{IsLogged}
 use Rattle.recoveries.specs.Records.{LogRecord}
 use Rattle.recoveries.specs.Stops.{logged_first}
+use Rattle.recoveries.proofs.LoggedIdLemmas.{TellsNoId, none_logged}
 use Rattle.node_keeper.specs.Objects.{IsChangedAt, objects_of}
 use Rattle.node_effects.specs.Seen.{all_seen}
 use Rattle.node_effects.specs.Work.{Growth, IsGrown, log_all, send_all}
@@ -50,6 +51,7 @@ pub record GoesOut (asker : ℕ) (keeper : Keeper) (before after : Work) (record
   pub outputs : growth.outputs ≡
       log_all (map (log_entry_of keeper.digest) records) ++ send_all (posted keeper.ids.node keeper.digest sends)
   pub read : AllByRecursion (IsReadBack keeper.digest) records
+  pub idless : AllByRecursion TellsNoId records
   pub sent : AllByRecursion (IsSendable keeper.ids.node keeper.digest) sends
   pub own : growth.own ≡ to_itself keeper.ids.node sends
   pub addressed : AllByRecursion (IsDirected keeper.ids.node asker) sends
@@ -76,6 +78,7 @@ quiet_acts asker got old new before after name events local letters records file
       sent = out.sent;
       own = out.own;
       addressed = out.addressed;
+      ids = none_logged old.ids new.ids records out.idless ids;
       handled = λ within. safe_as (kept_of old) got (logged_first records (with_names name letters))
           (logged_first records (letters_of out.sends)) (kept_of new) tells (all_seen out.growth.notices)
           (few_safe (kept_of old) got records (kept_of new) (with_names name letters) tells few within

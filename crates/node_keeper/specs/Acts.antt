@@ -1,9 +1,10 @@
 -- What a node does, and what it wants done afterwards.
-use Rattle.std.specs.Prelude.{◌≡◌, ◌<◌, ◌^◌, ◌⊎◌, ℕ, suc, List, ◌++◌, map, Some}
+use Rattle.std.specs.Prelude.{◌≡◌, ◌<◌, ◌^◌, ◌⊎◌, ℕ, suc, List, ◌++◌, map, None, Some}
 use Rattle.std.specs.List.{AllByRecursion}
 use Rattle.encoder.specs.Fragment.{fragment}
 use Rattle.deeds.specs.CallId.{CallIds, HasRanges, after_given, with_next_epoch, next_given_id}
 use Rattle.deeds.specs.Named.{NamedLetter as Named}
+use Rattle.recoveries.specs.LoggedIds.{HaveLoggedIds}
 use Rattle.recoveries.specs.Records.{LogRecord}
 use Rattle.recoveries.specs.Stops.{IsHandledSafely}
 use Rattle.node_effects.specs.Seen.{all_seen}
@@ -30,12 +31,14 @@ abbrev pub GivesId : (old : CallIds) → (id : ℕ) → (new : CallIds) → (bef
 GivesId old id new before after =
     ((next_given_id old ≡ Some id) × (new ≡ after_given old) × IsGrown before after no_growth)
     ⊎ ((suc old.epoch < 2 ^ 24) × (next_given_id (with_next_epoch old) ≡ Some id)
-    × (new ≡ after_given (with_next_epoch old)) × IsGrown before after (one_entry start_entry))
+    × (new ≡ after_given (with_next_epoch old)) × IsGrown before after (one_entry start_entry)
+    × (next_given_id old ≡ None))
 
 -- The node did deeds with these letters, which had come; `asker` is the node that had asked. Its work grew by the log
 -- entries of the records that its log needs, by the letters that it sent, each to the node to which it has to go, and
 -- by what its clients saw. The entries are read back as these records, and the frames as messages with these letters.
--- Entries and letters stand in such an order that each letter may go out once the log has all entries before it.
+-- Entries and letters stand in such an order that each letter may go out once the log has all entries before it. The
+-- entries tell of the ids that the node gave.
 pub record Acts (asker : ℕ) (got : List Named) (old : Keeper) (before : Work) (new : Keeper)
     (after : Work) : Type 0 where
   pub wants : List Want
@@ -46,6 +49,7 @@ pub record Acts (asker : ℕ) (got : List Named) (old : Keeper) (before : Work) 
   pub sent : AllByRecursion (IsSendable old.ids.node old.digest) (sends_in wants)
   pub own : growth.own ≡ to_itself old.ids.node (sends_in wants)
   pub addressed : AllByRecursion (IsDirected old.ids.node asker) (sends_in wants)
+  pub ids : HaveLoggedIds old.ids (records_in wants) new.ids
   pub handled : HasRanges old.ids → IsHandledSafely fragment (kept_of old) got (left_by wants) (kept_of new)
       (all_seen growth.notices)
   pub node : new.ids.node ≡ old.ids.node

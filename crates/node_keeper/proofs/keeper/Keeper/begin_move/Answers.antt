@@ -3,6 +3,7 @@ use Rattle.local_object.specs.Events.{LocalEvent}
 use Rattle.node_keeper.specs.Doing.{IsOutcomeAt}
 use Rattle.node_effects.specs.declared.notice.Notice.TheVariants as notice
 use Rattle.recoveries.specs.Records.{LogRecord}
+use Rattle.recoveries.proofs.LoggedIdLemmas.{move_logged as told_move}
 use Rattle.node_keeper.specs.Beginning.{moving_call}
 use Rattle.node_keeper.proofs.BegunLemmas.{begun_acts}
 use Rattle.node_keeper.proofs.EpochLemmas.{refused_if}
@@ -23,6 +24,7 @@ returns-in_ok-post-in-Ok-clause-acts c =
     (moved ∷ []) (notice.Moves c.args.name.now c.in_ok-id.id c.args.layout) refl refl c.in_ok-id.ensures.gives
     done refl c.requires refl (inr (moved, refl))
     (move_logged c.args.self.now c.args.name.now c.in_ok-id.id c.args.layout c.requires c.in-Ok.ensures.cause)
+    (told_move c.args.name.now c.in_ok-id.id c.args.layout)
     (c.in_ok-log_move-in-Ok.ensures.read (lawful_of done), tt) c.in_ok-log_move-in-Ok.ensures.logged
     c.in_ok-post-in-Ok.ensures.grown c.in_ok-post-in-Ok.ensures.writes
 

@@ -2,6 +2,7 @@ use Rattle.std.proofs.Common.{[], ap, inl, refl, subst, ◌∷◌}
 use Rattle.deeds.specs.Deeds.{Notice as Seen}
 use Rattle.local_object.specs.Events.{LocalEvent}
 use Rattle.node_effects.specs.Work.{IsGrown}
+use Rattle.recoveries.proofs.LoggedIdLemmas.{call_logged}
 use Rattle.node_effects.specs.declared.notice.Notice.TheVariants as notice
 use Rattle.node_keeper.specs.Beginning.{opened_growth, reading_call}
 use Rattle.node_keeper.proofs.BegunLemmas.{begun_acts}
@@ -17,8 +18,8 @@ returns-in_ok-post-in-Ok-clause-acts c =
     c.args.name.now (LocalEvent.BeginRead c.in_ok-id.id) c.in_ok-id.id c.in-Ok.letters.items []
     (notice.Reads c.in_ok-clone-in-Ok.field-0 c.in_ok-id.id) refl refl c.in_ok-id.ensures.gives c.in-Ok.ensures.done refl tt
     (ap (λ n. Seen.Reads n c.in_ok-id.id ∷ []) c.in_ok-clone-in-Ok.ensures.cases) (inl refl)
-    (read_logged c.args.self.now c.args.name.now c.in_ok-id.id c.in-Ok.ensures.cause) tt c.in_ok-note-in-Ok.ensures.grown
-    c.in_ok-post-in-Ok.ensures.grown c.in_ok-post-in-Ok.ensures.writes
+    (read_logged c.args.self.now c.args.name.now c.in_ok-id.id c.in-Ok.ensures.cause) (call_logged c.in_ok-id.id) tt
+    c.in_ok-note-in-Ok.ensures.grown c.in_ok-post-in-Ok.ensures.grown c.in_ok-post-in-Ok.ensures.writes
 
 pub returns-in_ok-post-in-Ok-clause-begins : goal.returns-in_ok-post-in-Ok-clause-begins
 returns-in_ok-post-in-Ok-clause-begins c =

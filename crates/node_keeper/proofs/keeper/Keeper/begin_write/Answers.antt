@@ -5,6 +5,7 @@ use Rattle.local_object.specs.Events.{LocalEvent}
 use Rattle.node_keeper.specs.Objects.{objects_of}
 use Rattle.node_keeper.specs.Doing.{IsOutcomeAt}
 use Rattle.node_effects.specs.Work.{IsGrown}
+use Rattle.recoveries.proofs.LoggedIdLemmas.{call_logged}
 use Rattle.node_effects.specs.declared.notice.Notice.TheVariants as notice
 use Rattle.node_keeper.specs.Beginning.{opened_growth, writing_call}
 use Rattle.node_keeper.proofs.BegunLemmas.{begun_acts}
@@ -24,8 +25,8 @@ returns-in_ok-post-in-Ok-clause-acts c =
     (ap (λ n. Seen.Writes n c.in_ok-id.id c.args.value ∷ []) c.in_ok-name_seen-in-Ok.ensures.cases) (inl refl)
     (write_logged c.args.self.now c.args.name.now c.in_ok-id.id c.args.value
     (subst (λ v. write_refusal (objects_of c.args.self.now.objects c.args.name.now) c.in_ok-id.id v ≡ None)
-    c.in_ok-written.ensures.cases c.in-Ok.ensures.cause)) tt c.in_ok-note-in-Ok.ensures.grown c.in_ok-post-in-Ok.ensures.grown
-    c.in_ok-post-in-Ok.ensures.writes
+    c.in_ok-written.ensures.cases c.in-Ok.ensures.cause)) (call_logged c.in_ok-id.id) tt c.in_ok-note-in-Ok.ensures.grown
+    c.in_ok-post-in-Ok.ensures.grown c.in_ok-post-in-Ok.ensures.writes
 
 pub returns-in_ok-post-in-Ok-clause-begins : goal.returns-in_ok-post-in-Ok-clause-begins
 returns-in_ok-post-in-Ok-clause-begins c =
