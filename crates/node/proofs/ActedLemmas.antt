@@ -1,5 +1,5 @@
 -- What a node has done so far, as it handles a frame.
-use Rattle.std.proofs.Common.{◌≡◌, ℕ, zero, suc, Bool, true, false, cond, ◌==◌, List, [], ◌∷◌, ◌++◌}
+use Rattle.std.proofs.Common.{◌≡◌, ℕ, List, [], ◌∷◌, ◌++◌}
 use Rattle.std.proofs.Common.{None, Some, slice_get, refl, sym, subst, ap, ◌∙◌}
 use Rattle.std.proofs.lemmas.List.{append-nil, append_assoc, map-append}
 use Rattle.std.specs.List.{AllByRecursion}
@@ -7,9 +7,10 @@ use Rattle.encoder.specs.Fragment.{fragment}
 use Rattle.deeds.specs.CallId.{HasRanges}
 use Rattle.deeds.specs.Named.{NamedLetter as Named, IsOneOf}
 use Rattle.open_calls.proofs.ListLemmas.{all_append, all_weaker}
-use Rattle.deeds.proofs.NameLemmas.{one_of_first, one_of_second}
 use Rattle.node_strings.specs.Arrival.{arrival_at}
 use Rattle.recoveries.specs.Stops.{IsHandledSafely, sent_in}
+use Rattle.recoveries.specs.LoggedIds.{HaveLoggedIds}
+use Rattle.recoveries.proofs.LoggedIdLemmas.{logged_then}
 use Rattle.recoveries.proofs.StopLemmas.{more_safe, two_safe}
 use Rattle.node_clients.specs.Desk.{NoneWaits}
 use Rattle.node_effects.specs.Seen.{all_seen, named_of, seen_of}
@@ -20,14 +21,13 @@ use Rattle.letter.specs.declared.letter.NamedLetter.{NamedLetter}
 use Rattle.node_effects.specs.declared.work.Work.{Work}
 use Rattle.node_keeper.specs.Acts.{Acts}
 use Rattle.node_keeper.specs.Fitting.{IsSendable}
-use Rattle.node_keeper.specs.Keeping.{heeds, if_heeded, kept_of}
+use Rattle.node_keeper.specs.Keeping.{if_heeded, kept_of}
 use Rattle.node_keeper.specs.Logging.{IsReadBack}
-use Rattle.node_keeper.specs.Sendings.{IsDirected, Sending, letters_of, to_itself}
+use Rattle.node_keeper.specs.Sendings.{IsDirected, letters_of, to_itself}
 use Rattle.node_keeper.specs.Wants.{left_by, outputs_of, records_in, sends_in}
 use Rattle.node_keeper.specs.declared.keeper.Keeper.{Keeper}
 use Rattle.node_keeper.proofs.ActLemmas.{safe_as}
 use Rattle.node_keeper.proofs.IdLemmas.{handled_within}
-use Rattle.node_keeper.proofs.SendingLemmas.{letters_append}
 use Rattle.node_keeper.proofs.WantLemmas.{left_append, left_sent, outputs_append, records_append, sends_append}
 use Rattle.node.specs.declared.node.Node.{Node}
 use Rattle.node.specs.Frames.{letters_in, sender_or}
@@ -35,34 +35,7 @@ use Rattle.node.specs.Handles.{Handles, HasActed}
 use Rattle.node.specs.Serving.{ServedSince}
 use Rattle.node.specs.Peers.{IsChangedBy}
 use Rattle.node.specs.Ticks.{IsDoneFirst}
-
--- a letter of the node to itself is one of those that it sent
-abbrev pub WasSent : List Sending → NamedLetter → Type 0
-WasSent sends it = IsOneOf (letters_of sends) (named_of it)
-
-later : (send : Sending) (sends : List Sending) (it : NamedLetter) → WasSent sends it → WasSent (send ∷ sends) it
-later send sends it is = (suc is.0, is.1)
-
-own_were_sent : (number : ℕ) (sends : List Sending) → AllByRecursion (WasSent sends) (to_itself number sends)
-own_were_sent number [] = tt
-own_were_sent number (send ∷ sends) =
-    go (send.to == number)
-    (all_weaker (WasSent sends) (WasSent (send ∷ sends)) (later send sends) (to_itself number sends) (own_were_sent number sends))
-  where
-    go : (b : Bool) → AllByRecursion (WasSent (send ∷ sends)) (to_itself number sends) →
-        AllByRecursion (WasSent (send ∷ sends)) (cond b (send.it ∷ to_itself number sends) (to_itself number sends))
-    go true rest = ((0, refl), rest)
-    go false rest = rest
-
-sent_before : (first second : List Sending) (it : NamedLetter) → WasSent first it → WasSent (first ++ second) it
-sent_before first second it is =
-    subst (λ xs. IsOneOf xs (named_of it)) (sym (letters_append first second))
-    (one_of_first (letters_of first) (letters_of second) (named_of it) is)
-
-sent_after : (first second : List Sending) (it : NamedLetter) → WasSent second it → WasSent (first ++ second) it
-sent_after first second it is =
-    subst (λ xs. IsOneOf xs (named_of it)) (sym (letters_append first second))
-    (one_of_second (letters_of first) (letters_of second) (named_of it) is)
+use Rattle.node.proofs.OwnLetterLemmas.{WasSent, heeded_is, own_were_sent, sent_after, sent_before, sent_one}
 
 -- what is done first, where there was nothing to do
 pub acted_first : (asker : ℕ) (got : List Named) (a b : Keeper) (u v : Work) → HasRanges a.ids → IsEmpty u →
@@ -78,6 +51,7 @@ acted_first asker got a b u v within empty acts =
           (sym notices) (acts.handled within);
       outputs = acts.grown.outputs ∙ ap (λ xs. xs ++ g.outputs) empty.outputs ∙ acts.outputs;
       read = acts.read;
+      ids = acts.ids;
       sent = acts.sent;
       own = subst (λ xs. AllByRecursion (WasSent sends) xs) (sym own) (own_were_sent a.ids.node sends);
       addressed = record {
@@ -119,6 +93,8 @@ acted_then asker other got more a b c v w x done outputs notices own acts itself
           (two_safe fragment (kept_of a) (kept_of b) (kept_of c) got left more_left (all_seen v.notices.items)
           (all_seen g.notices) done.handled next)
           (left_append done.wants acts.wants) (ap all_seen noted ∙ map-append seen_of v.notices.items g.notices);
+      ids = subst (λ rs. HaveLoggedIds a.ids rs c.ids) (sym (records_append done.wants acts.wants))
+          (logged_then a.ids b.ids c.ids (records_in done.wants) (records_in acts.wants) done.ids acts.ids);
       outputs = acts.grown.outputs ∙ ap (λ xs. xs ++ g.outputs) (outputs ∙ done.outputs)
           ∙ ap (λ xs. outputs_of n a.digest done.wants ++ xs) (acts.outputs
           ∙ ap (λ m. outputs_of m b.digest acts.wants) done.node ∙ ap (λ d. outputs_of n d acts.wants) done.digest)
@@ -160,33 +136,13 @@ acted_same asker got a b v w done outputs notices own = record {
       (sym notices) done.handled;
   outputs = outputs ∙ done.outputs;
   read = done.read;
+  ids = done.ids;
   sent = done.sent;
   own = subst (λ xs. AllByRecursion (WasSent (sends_in done.wants)) xs) (sym own) done.own;
   addressed = done.addressed;
   node = done.node;
   digest = done.digest;
 }
-
--- a letter that is heeded is the one that came
-pub heeded_is : (keeper : Keeper) (it letter : Named) → IsOneOf (if_heeded (kept_of keeper) it) letter → IsOneOf (it ∷ []) letter
-heeded_is keeper it letter is = go (heeds (kept_of keeper) it) is
-  where
-    go : (b : Bool) → IsOneOf (cond b (it ∷ []) []) letter → IsOneOf (it ∷ []) letter
-    go true is = is
-    go false is = absurd (none is.0 is.1)
-      where
-        none : (i : ℕ) → slice_get [] i ≡ Some letter → ⊥
-        none i e = cc
-
--- one of the letters that were sent
-pub sent_one : (got : List Named) (sends : List Sending) (it : NamedLetter) (letter : Named) → WasSent sends it →
-    IsOneOf (named_of it ∷ []) letter → IsOneOf (got ++ letters_of sends) letter
-sent_one got sends it letter sent is =
-    one_of_second got (letters_of sends) letter (subst (λ l. IsOneOf (letters_of sends) l) (only is.0 is.1) sent)
-  where
-    only : (i : ℕ) → slice_get (named_of it ∷ []) i ≡ Some letter → named_of it ≡ letter
-    only zero e = cc
-    only (suc i) e = absurd (cc)
 
 module _ (asker : ℕ) (got : List Named) (first b : Keeper) where
   -- a letter of the node to itself is handled
@@ -237,6 +193,7 @@ handles_of old new frame work effects done served outputs answers notices waits 
       (kept_of new.keeper) (all_seen ns)) (sym notices) done.handled;
   outputs = outputs ∙ done.outputs;
   read = done.read;
+  ids = done.ids;
   sent = done.sent;
   addressed = done.addressed;
   served = subst (λ fs. ServedSince (arrival_at frame) old new fs effects.notices.items) (sym answers)

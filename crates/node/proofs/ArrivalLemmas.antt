@@ -21,11 +21,13 @@ use Rattle.node_clients.specs.declared.next.Next.{Next}
 use Rattle.node_clients.specs.declared.next.Next.TheVariants.{Came}
 use Rattle.node_keeper.specs.declared.keeper.Keeper.{Keeper}
 use Rattle.node.specs.AtOnce.{IsAtOnce, IsFirstDone}
+use Rattle.node.specs.GivenIds.{UseIds}
 use Rattle.node.specs.Replies.{IsRight}
 use Rattle.node.specs.Serving.{FollowsUp, IsComing, ServedSince, ServesClients, ServesArrival}
 use Rattle.node.specs.Serving.{ServesMore}
 use Rattle.node.specs.declared.node.Node.{Node}
 use Rattle.node.specs.declared.peers.Peers.{Peers}
+use Rattle.node.proofs.GivenIdLemmas.{used_then}
 use Rattle.node.proofs.ServingLemmas.{all_right, serves_then}
 
 -- the first thing stays the first one where more follow
@@ -93,6 +95,7 @@ since_first came a b u v told seen s = record {
   at_once = s.at_once;
   served = s.serves.has.served;
   right = s.serves.right;
+  ids = s.serves.ids;
   answers = s.serves.has.told ∙ ap (λ xs. xs ++ all_frames (s.coming ++ s.more)) told;
   notices = s.serves.has.notices ∙ ap (λ xs. xs ++ all_notices (s.coming ++ s.more)) seen;
   file = s.serves.file;
@@ -119,6 +122,8 @@ since_then came a b c answers notices v w told seen s m =
       right = subst (λ ss. AllByRecursion (IsRight a.keeper.ids.node a.keeper.file) ss) all
           (all_append (IsRight a.keeper.ids.node a.keeper.file) before m.services s.right
           (all_right a.keeper.ids.node b.keeper.ids.node a.keeper.file b.keeper.file m.services s.number s.file m.serves.right));
+      ids = subst (λ ss. UseIds a.keeper.ids ss c.keeper.ids) all
+          (used_then a.keeper.ids b.keeper.ids c.keeper.ids before m.services s.ids m.serves.ids);
       answers = m.serves.has.told ∙ ap (λ xs. xs ++ all_frames m.services) (told ∙ s.answers)
           ∙ sym (frames_append before m.services) ∙ ap all_frames all;
       notices = m.serves.has.notices ∙ ap (λ xs. xs ++ all_notices m.services) (seen ∙ s.notices)

@@ -23,6 +23,7 @@ use Rattle.node_keeper.specs.declared.keeper.Keeper.{Keeper}
 use Rattle.indexmap.specs.IndexMap.{index_map_len}
 use Rattle.node_clients.specs.declared.counts.Counts.{Counts}
 use Rattle.node.specs.AtOnce.{IsCarriedOut, IsReplyHere}
+use Rattle.node.specs.GivenIds.{UsesIdIf, UsesIds, is_refusal}
 use Rattle.node.specs.Replies.{IsReplyTo, IsRight}
 use Rattle.node.specs.Serving.{FollowsUp, IsCommandDone, ServesClients, ServesCommand, ServesNext}
 use Rattle.node.specs.declared.node.Node.{Node}
@@ -127,7 +128,8 @@ taken_served a b c u v client next same peers taken s =
             (command_served a.keeper.file.ticks a.keeper.file.fixed.delta a.desk b.desk c.desk client next s.service taken s.done)
             s.told s.due s.notices
             (subst (λ (k : Keeper). IsRight k.ids.node k.file s.service) same s.right)
-            (s.file ∙ ap (λ (k : Keeper). k.file) same) (s.number ∙ ap (λ (k : Keeper). k.ids.node) same);
+            (s.file ∙ ap (λ (k : Keeper). k.file) same)
+            (subst (λ (k : Keeper). UsesIds k.ids s.service c.keeper.ids) same s.ids);
         follows = ((command_is b.desk c.desk client next s.service s.done).1, tt);
       };
       first = λ command waiting idle waits.
@@ -156,8 +158,9 @@ pub replied : (client : ℕ) (next : Next) (answer : Answer) (old new : Node) (u
     IsClientAnswered old.desk client new.desk → IsGrown u v (answer_sent client answer) →
     IsReplyTo old.keeper.ids.node old.keeper.file client (asked next) answer →
     IsReplyHere old.keeper old.peers (index_map_len old.desk.calls) old.desk.counts (asked next) answer →
-    new.keeper.file ≡ old.keeper.file → new.keeper.ids.node ≡ old.keeper.ids.node → ServesCommand client next old u new v
-replied client next answer old new u v answered grown reply here file number = record {
+    new.keeper.file ≡ old.keeper.file → UsesIdIf (is_refusal answer) old.keeper.ids new.keeper.ids →
+    ServesCommand client next old u new v
+replied client next answer old new u v answered grown reply here file ids = record {
   service = Service.Replies client next answer;
   done = (refl, refl, answered);
   right = reply;
@@ -166,7 +169,7 @@ replied client next answer old new u v answered grown reply here file number = r
   due = grown.due;
   notices = grown.notices;
   file = file;
-  number = number;
+  ids = ids;
 }
 
 pub is_there : (connection : Option Connection) → doing connection ≡ Busy → IsSome connection
@@ -202,6 +205,6 @@ quits client command old new u v (Ok done) is busy grown state waiting stays oth
   due = grown.due;
   notices = grown.notices;
   file = ap (λ (k : Keeper). k.file) same;
-  number = ap (λ (k : Keeper). k.ids.node) same;
+  ids = ap (λ (k : Keeper). k.ids) same;
 }
 quits client command old new u v (Err error) is busy grown state waiting stays others calls counts same = tt

@@ -27,6 +27,7 @@ use Rattle.node_keeper.specs.declared.delivered.Begun.TheVariants as begun
 use Rattle.node_keeper.specs.declared.delivered.Delivered.{Delivered}
 use Rattle.node_keeper.specs.declared.delivered.Delivered.TheVariants as delivered
 use Rattle.node_keeper.specs.declared.keeper.Keeper.{Keeper}
+use Rattle.node_keeper.proofs.IdLemmas.{gives_next}
 use Rattle.node_keeper.proofs.SeenLemmas.{begins_leaves, begins_seen, delivers_leaves, delivers_seen}
 use Rattle.deeds.specs.CallId.{CallIds}
 use Rattle.indexmap.specs.IndexMap.{index_map_len}
@@ -35,6 +36,7 @@ use Rattle.node.specs.AtOnce.{BeginsHere, IsNextGiven, IsReplyHere}
 use Rattle.node.specs.Replies.{IsReplyTo, IsRight, MayBegin}
 use Rattle.node.specs.Serving.{FollowsUp, IsAwaited, ServesCommand, ServesMore}
 use Rattle.node.specs.declared.node.Node.{Node}
+use Rattle.node.proofs.GivenIdLemmas.{ending_uses}
 use Rattle.node.proofs.ServingLemmas.{more_none, more_one, serves_none, serves_one}
 
 -- what follows from three things that hold of the same result
@@ -66,9 +68,9 @@ pub call_served : (client : ℕ) (next : Next) (command : Command) (call : Begin
     (answers.Error (errors.Refused why))) →
     ((id : ℕ) → IsNextGiven old.keeper.ids id → call.refusal (objects_of old.keeper.objects call.name) id ≡ None →
     BeginsHere old.keeper old.peers command id) →
-    BeginsCall call old.keeper u new.keeper v begun → new.keeper.ids.node ≡ old.keeper.ids.node →
+    BeginsCall call old.keeper u new.keeper v begun →
     IsAwaited old.desk v client (call_begun client command) begun new.desk w → ServesCommand client next old u new w
-call_served client next command call old new u v w (begun.Open id) asks notices refusals may refused accepted begins number
+call_served client next command call old new u v w (begun.Open id) asks notices refusals may refused accepted begins
     awaited =
     let clients = begins_leaves call old.keeper new.keeper u v (begun.Open id) begins in
     let seen = begins_seen call old.keeper new.keeper u v (begun.Open id) begins in
@@ -85,9 +87,9 @@ call_served client next command call old new u v w (begun.Open id) asks notices 
       due = ap (λ (x : Work). x.due.items) same ∙ clients.due ∙ sym (append-nil u.due.items);
       notices = ap (λ (x : Work). x.notices.items) same ∙ seen ∙ ap (λ ns. u.notices.items ++ ns) (sym (notices id));
       file = begins_file call old.keeper new.keeper u v (begun.Open id) begins;
-      number = number;
+      ids = gives_next old.keeper.ids id new.keeper.ids u begins.given begins.gives;
     }
-call_served client next command call old new u v w (begun.Refused why) asks notices refusals may refused accepted begins number
+call_served client next command call old new u v w (begun.Refused why) asks notices refusals may refused accepted begins
     awaited =
     let clients = begins_leaves call old.keeper new.keeper u v (begun.Refused why) begins in
     let seen = begins_seen call old.keeper new.keeper u v (begun.Refused why) begins in
@@ -107,7 +109,7 @@ call_served client next command call old new u v w (begun.Refused why) asks noti
       due = grown.due ∙ ap (λ xs. xs ++ (client ∷ [])) clients.due;
       notices = grown.notices ∙ append-nil v.notices.items ∙ seen;
       file = begins_file call old.keeper new.keeper u v (begun.Refused why) begins;
-      number = number;
+      ids = let gives = gives_next old.keeper.ids begins.id new.keeper.ids u v begins.gives in (begins.id, gives.0, gives.1);
     }
 
 delivers_file : (heeded asks : Bool) (asker : ℕ) (it : NamedLetter) (old new : Keeper) (u v : Work) (result : Delivered) →
@@ -116,10 +118,21 @@ delivers_file false asks asker it old new u v result is = ap (λ (k : Keeper). k
 delivers_file true true asker it old new u v result is = is.1.rest.file
 delivers_file true false asker it old new u v result is = is.2.rest.file
 
-module _ (asker : ℕ) (it : NamedLetter) (old new : Node) (u v : Work) (number : new.keeper.ids.node ≡ old.keeper.ids.node) where
+delivers_ids : (heeded asks : Bool) (asker : ℕ) (it : NamedLetter) (old new : Keeper) (u v : Work) (result : Delivered) →
+    DeliversAs heeded asks asker it old u new v result → new.ids ≡ old.ids
+delivers_ids false asks asker it old new u v result is = ap (λ (k : Keeper). k.ids) is.1
+delivers_ids true true asker it old new u v result is = is.1.rest.ids
+delivers_ids true false asker it old new u v result is = is.2.rest.ids
+
+module _ (asker : ℕ) (it : NamedLetter) (old new : Node) (u v : Work) where
   file_after : (result : Delivered) → DeliversLetter asker it old.keeper u new.keeper v result → new.keeper.file ≡ old.keeper.file
   file_after result is =
       delivers_file (heeds (kept_of old.keeper) (named_of it)) (is_request it.letter.message.body) asker it old.keeper new.keeper
+      u v result is
+
+  ids_after : (result : Delivered) → DeliversLetter asker it old.keeper u new.keeper v result → new.keeper.ids ≡ old.keeper.ids
+  ids_after result is =
+      delivers_ids (heeds (kept_of old.keeper) (named_of it)) (is_request it.letter.message.body) asker it old.keeper new.keeper
       u v result is
 
   -- a letter was dropped
@@ -130,7 +143,7 @@ module _ (asker : ℕ) (it : NamedLetter) (old new : Node) (u v : Work) (number 
       more_one old new u v Service.Drops tt
       (serves_one old new u v Service.Drops dropped (clients.to_clients ∙ sym (append-nil u.to_clients.items))
       (clients.due ∙ sym (append-nil u.due.items)) (delivers_seen asker it old.keeper new.keeper u v delivered.Dropped is) tt
-      (file_after delivered.Dropped is) number)
+      (file_after delivered.Dropped is) (ids_after delivered.Dropped is))
 
   -- a letter was handled, and no call ended
   pub handled_served : DeliversLetter asker it old.keeper u new.keeper v delivered.Handled → new.desk ≡ old.desk →
@@ -139,7 +152,7 @@ module _ (asker : ℕ) (it : NamedLetter) (old new : Node) (u v : Work) (number 
       let clients = delivers_leaves asker it old.keeper new.keeper u v delivered.Handled is in
       more_none old new u v (serves_none old new u v same clients.to_clients clients.due
       (delivers_seen asker it old.keeper new.keeper u v delivered.Handled is ∙ append-nil u.notices.items)
-      (file_after delivered.Handled is) number)
+      (file_after delivered.Handled is) (ids_after delivered.Handled is))
 
   -- what was done for the client of a call that ended follows up, and is right
   ending_follows : (service : Service) → IsEnding service → FollowsUp service × IsRight old.keeper.ids.node old.keeper.file service
@@ -166,4 +179,5 @@ module _ (asker : ℕ) (it : NamedLetter) (old new : Node) (u v : Work) (number 
       (ends.told ∙ ap (λ xs. xs ++ service_frames ends.service) clients.to_clients)
       (ends.due ∙ ap (λ xs. xs ++ service_dues ends.service) clients.due)
       (ends.notices ∙ delivers_seen asker it old.keeper new.keeper u v (delivered.Ended ended) is
-      ∙ ap (λ ns. u.notices.items ++ ns) (sym ends.seen)) follows.1 (file_after (delivered.Ended ended) is) number)
+      ∙ ap (λ ns. u.notices.items ++ ns) (sym ends.seen)) follows.1 (file_after (delivered.Ended ended) is)
+      (ending_uses old.keeper.ids new.keeper.ids ends.service ends.ending (ids_after (delivered.Ended ended) is)))

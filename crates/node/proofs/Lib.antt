@@ -5,6 +5,8 @@ pub mod ReadyLemmas
 pub mod ShownLemmas
 pub mod SilenceLemmas
 pub mod MoveLemmas
+pub mod GivenIdLemmas
+pub mod IdsLeftLemmas
 pub mod ServingLemmas
 pub mod CommandLemmas
 pub mod PlainReplyLemmas
@@ -13,6 +15,7 @@ pub mod KeeperLemmas
 pub mod TickLemmas
 pub mod AgainLemmas
 pub mod LeftLemmas
+pub mod OwnLetterLemmas
 pub mod ActedLemmas
 pub mod StartLemmas
 pub mod RecoveryLemmas
@@ -22,3 +25,4 @@ pub mod AnewLemmas
 pub mod AnewCopyLemmas
 pub mod ResumedDeskLemmas
 pub mod OpenMoveLemmas
+pub mod AnswerSizeLemmas

@@ -71,7 +71,7 @@ call_ages id old new u v late older same nothing = record {
   ticks = (refl, tt);
   serves = serves_one old new u v (Service.Ages id) (late, older) (nothing.told ∙ sym (append-nil u.to_clients.items))
       (nothing.due ∙ sym (append-nil u.due.items)) (nothing.notices ∙ sym (append-nil u.notices.items)) tt
-      (ap (λ (k : Keeper). k.file) same) (ap (λ (k : Keeper). k.ids.node) same);
+      (ap (λ (k : Keeper). k.file) same) (ap (λ (k : Keeper). k.ids) same);
 }
 
 -- a call that is late
@@ -84,14 +84,14 @@ call_is_late id true old between new u v late move older same s = record {
   ticks = (refl, tt);
   serves = serves_one old new u v (Service.Releases id s.who) (late, move, between.desk, older, s.late) s.told s.due
       (s.notices ∙ sym (append-nil u.notices.items)) tt (s.file ∙ ap (λ (k : Keeper). k.file) same)
-      (s.number ∙ ap (λ (k : Keeper). k.ids.node) same);
+      (s.ids ∙ ap (λ (k : Keeper). k.ids) same);
 }
 call_is_late id false old between new u v late move older same s = record {
   services = Service.GivesUp id s.who ∷ [];
   ticks = (refl, tt);
   serves = serves_one old new u v (Service.GivesUp id s.who) (late, move, between.desk, older, s.late.0, s.late.1) s.told s.due
       (s.notices ∙ sym (append-nil u.notices.items)) tt (s.file ∙ ap (λ (k : Keeper). k.file) same)
-      (s.number ∙ ap (λ (k : Keeper). k.ids.node) same);
+      (s.ids ∙ ap (λ (k : Keeper). k.ids) same);
 }
 
 -- a move that is late, which asks again
@@ -109,7 +109,7 @@ late_move id old new u v w grown nothing released same =
       notices = nothing.notices ∙ grown.notices ∙ ap (λ xs. u.notices.items ++ xs) (growth_notices old.desk who answer)
           ∙ append-nil u.notices.items;
       file = ap (λ (k : Keeper). k.file) same;
-      number = ap (λ (k : Keeper). k.ids.node) same;
+      ids = ap (λ (k : Keeper). k.ids) same;
     }
 
 -- a read or a write that is late
@@ -117,8 +117,8 @@ pub late_call : (id : ℕ) (old new : Node) (u w : Work) →
     IsGrown u w (growth_for old.desk (waiting_for old.desk.calls id) (answers.Error errors.NoQuorum)) →
     IsCallClosed old.desk id (listener old.desk (waiting_for old.desk.calls id)) new.desk →
     new.desk.counts ≡ with_told (has_listener old.desk (waiting_for old.desk.calls id)) (with_give_up old.desk.counts) →
-    new.keeper.file ≡ old.keeper.file → new.keeper.ids.node ≡ old.keeper.ids.node → ServesLate id false old u new w
-late_call id old new u w grown closed counts file number =
+    new.keeper.file ≡ old.keeper.file → new.keeper.ids ≡ old.keeper.ids → ServesLate id false old u new w
+late_call id old new u w grown closed counts file ids =
     let who = waiting_for old.desk.calls id in
     let answer = answers.Error errors.NoQuorum in record {
       who = listener old.desk who;
@@ -128,5 +128,5 @@ late_call id old new u w grown closed counts file number =
       notices = grown.notices ∙ ap (λ xs. u.notices.items ++ xs) (growth_notices old.desk who answer)
           ∙ append-nil u.notices.items;
       file = file;
-      number = number;
+      ids = ids;
     }

@@ -5,6 +5,7 @@ use Rattle.cluster_file.specs.File.{FileContents, IsLawfulFile}
 use Rattle.deeds.specs.Kept.{new_node}
 use Rattle.node_log.specs.Entry.{IsEntry}
 use Rattle.recoveries.specs.Copies.{IsCopyOf, IsRecorded}
+use Rattle.recoveries.specs.LoggedIds.{epochs_in, moves_in}
 use Rattle.recoveries.specs.Records.{IsStarted, LogRecord}
 use Rattle.recoveries.specs.OwnCalls.{HasOwnCalls}
 use Rattle.recoveries.specs.RewritingNodes.{HasDistinctCalls, HasOwnObjects}
@@ -20,14 +21,16 @@ use Rattle.node.specs.Recovering.{CarriesOutEntry}
 use Rattle.node.specs.Starts.{cluster_entry, cluster_strings}
 
 -- These are the entries of a log that is written anew: one that names the cluster and the node, and one for each of
--- some records. If all objects of the node are its own, and no two calls of one object have the same id, the records
--- are enough for what the node keeps.
+-- some records. The records say that as many epochs began as did, and that no move began. If all objects of the node
+-- are its own, and no two calls of one object have the same id, the records are enough for what the node keeps.
 pub record AreAnew (node : Node) (entries : List Strings) : Type 0 where
   pub records : List LogRecord
   pub those : entries ≡ cluster_entry node.keeper.digest node.keeper.ids.node
       ∷ map (log_entry_of node.keeper.digest) records
   pub named : IsEntry (cluster_strings node.keeper.digest node.keeper.ids.node)
   pub read : AllByRecursion (IsReadBack node.keeper.digest) records
+  pub epochs : epochs_in records ≡ node.keeper.ids.epoch
+  pub moves : moves_in records ≡ []
   pub recorded : HasOwnObjects (kept_of node.keeper) → HasDistinctCalls (kept_of node.keeper) →
       IsRecorded (new_node (names_of_keeper node.keeper) node.keeper.ids.node) records (kept_of node.keeper)
 

@@ -169,8 +169,7 @@ FailsStep node [] (client ∷ due) error = FailsNext node client error
 FailsStep node [] [] error = ⊥
 
 -- Why a node cannot go on with a frame when it has done what came: it did deeds and services up to some state, and it
--- cannot do the next step from there. The ids in that state are those of `first`, or later ones; this does not say how
--- many were given meanwhile.
+-- cannot do the next step from there. The services say which ids were used meanwhile.
 pub record FailsBehind (asker : ℕ) (got : List Named) (arrival : Option Arrival) (first : Node)
     (error : NodeError) : Type 0 where
   pub middle : Node

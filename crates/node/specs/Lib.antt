@@ -5,6 +5,7 @@ pub mod Shown
 pub mod Info
 pub mod Replies
 pub mod AtOnce
+pub mod GivenIds
 pub mod Serving
 pub mod Hearing
 pub mod Ticks
@@ -14,3 +15,5 @@ pub mod Starts
 pub mod Anew
 pub mod OpenMoves
 pub mod Failures
+pub mod IdsLeft
+pub mod AnswerSizes

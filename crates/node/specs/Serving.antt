@@ -26,6 +26,7 @@ use Rattle.node_clients.specs.declared.open_call.OpenCall.{OpenCall}
 use Rattle.node_keeper.specs.declared.delivered.Begun.{Begun}
 use Rattle.node_keeper.specs.declared.delivered.Begun.TheVariants as begun
 use Rattle.node.specs.AtOnce.{IsAtOnce, IsCarriedOut, IsFirstDone}
+use Rattle.node.specs.GivenIds.{UseIds, UsesIds}
 use Rattle.node.specs.Replies.{IsRight}
 use Rattle.node.specs.declared.node.Node.{Node}
 
@@ -64,12 +65,13 @@ IsComing desk (Some (came.Message sender frame)) services = services ≡ []
 IsComing desk (Some (came.Tick heard)) services = AreTicksOf (keys desk.calls) services
 
 -- The node did exactly these services for its clients, and what it did with commands is right. Its work grew by the
--- frames that clients are sent for them, by the connections that are idle again, and by what clients see of them. The
--- cluster file and the node's number stay the same.
+-- frames that clients are sent for them, by the connections that are idle again, and by what clients see of them. It
+-- gave just the ids that they use. The cluster file and the node's number stay the same.
 pub record ServesClients (old : Node) (before : Work) (services : List Service) (new : Node)
     (after : Work) : Type 0 where
   pub has : HasServed old.keeper.file.ticks old.keeper.file.fixed.delta old.desk before services new.desk after
   pub right : AllByRecursion (IsRight old.keeper.ids.node old.keeper.file) services
+  pub ids : UseIds old.keeper.ids services new.keeper.ids
   pub file : new.keeper.file ≡ old.keeper.file
   pub number : new.keeper.ids.node ≡ old.keeper.ids.node
 
@@ -108,6 +110,7 @@ pub record ServedSince (came : Option Arrival) (first now : Node) (frames : List
   pub served : AreServicesDone first.keeper.file.ticks first.keeper.file.fixed.delta first.desk (coming ++ more)
       now.desk
   pub right : AllByRecursion (IsRight first.keeper.ids.node first.keeper.file) (coming ++ more)
+  pub ids : UseIds first.keeper.ids (coming ++ more) now.keeper.ids
   pub answers : frames ≡ all_frames (coming ++ more)
   pub notices : seen ≡ all_notices (coming ++ more)
   pub file : now.keeper.file ≡ first.keeper.file
@@ -136,7 +139,7 @@ pub record ServesCommand (client : ℕ) (next : Next) (old : Node) (before : Wor
   pub due : after.due.items ≡ before.due.items ++ service_dues service
   pub notices : after.notices.items ≡ before.notices.items ++ service_notices service
   pub file : new.keeper.file ≡ old.keeper.file
-  pub number : new.keeper.ids.node ≡ old.keeper.ids.node
+  pub ids : UsesIds old.keeper.ids service new.keeper.ids
 
 -- what the desk does for a client when its call was to begin: the call began and the client waits for its answer, or
 -- the call was refused and the client is told
@@ -169,7 +172,7 @@ pub record ServesLate (id : ℕ) (is_move : Bool) (old : Node) (before : Work) (
   pub due : after.due.items ≡ before.due.items ++ told_clients who
   pub notices : after.notices.items ≡ before.notices.items
   pub file : new.keeper.file ≡ old.keeper.file
-  pub number : new.keeper.ids.node ≡ old.keeper.ids.node
+  pub ids : new.keeper.ids ≡ old.keeper.ids
 
 -- these calls are older by a tick, one after another
 pub record ServesTicks (ids : List ℕ) (old : Node) (before : Work) (new : Node) (after : Work) : Type 0 where

@@ -1,7 +1,10 @@
-//! What a node has from its log, also from one that was written anew, and what it tells of the other nodes.
+//! What a node has from its log, also from one that was written anew, what it tells of the other nodes, and how many
+//! ids it gives.
+ghost use Rattle.node.specs.AnswerSizes.{EndedAnswersFit};
 ghost use Rattle.node.specs.Anew.{AnewGivesCopies, HandledFramesKeepOwn, HandledFramesKeepOwnCalls};
 ghost use Rattle.node.specs.Anew.{OwnCallsAreDistinct, RecoveredEntriesKeepOwn, StartedNodesKeepOwn};
 ghost use Rattle.node.specs.Anew.{StartingNodesHaveOwn};
+ghost use Rattle.node.specs.IdsLeft.{HandledFramesUseIds, IdsAreLeft, NodesRunOutOfIds};
 ghost use Rattle.node.specs.Info.{ReadyNodesHearQuorums};
 ghost use Rattle.node.specs.OpenMoves.{DesksHaveTheOpenMoves, StartedDesksHaveTheOpenMoves};
 ghost use Rattle.node.specs.Peers.{OthersAreToldOnce};
@@ -64,4 +67,25 @@ pub fn desks_have_the_open_moves()
 /// A law: that is still so when the node has started.
 pub fn started_desks_have_the_open_moves()
     ensures { StartedDesksHaveTheOpenMoves }
+{}
+
+/// A law: a node has a next id until it has given all that were left: 2^32 in each epoch, and 2^24 epochs.
+pub fn ids_are_left()
+    ensures { IdsAreLeft }
+{}
+
+/// A law: a node that handles a frame uses one id for each call that begins, and one for each that its object refuses.
+pub fn handled_frames_use_ids()
+    ensures { HandledFramesUseIds }
+{}
+
+/// A law: a node fails with `NoMoreIds` only where a command needs an id, and all ids that were left have been used.
+pub fn nodes_run_out_of_ids()
+    ensures { NodesRunOutOfIds }
+{}
+
+/// A law: the answer to a call that has ended can be sent, unless it is a value that is longer than a string of a
+/// frame.
+pub fn ended_answers_fit()
+    ensures { EndedAnswersFit }
 {}

@@ -13,6 +13,7 @@ ghost use Rattle.node_keeper.specs.Acts.{Acts};
 ghost use Rattle.node_effects.specs.declared.error.NodeError.TheVariants.{NoMemory};
 ghost use Rattle.node.specs.AtOnce.{IsPlainHere};
 ghost use Rattle.node.specs.Failures.{FailsAsked, FailsNext};
+ghost use Rattle.node.specs.GivenIds.{is_refusal};
 ghost use Rattle.node.specs.Replies.{IsPlainReply};
 ghost use Rattle.node.specs.Shown.{IsPageHere};
 ghost use Rattle.node.specs.Serving.{IsAwaited, ServesCommand, ServesNext};
@@ -95,6 +96,7 @@ impl Node {
     // The answer to a command that begins no call, and is no `QUIT`.
     fn plain_answer(&self, client: ConnectionId, command: Command) -> Result<Answer, NodeError>
         ensures plain { IfOk result (IsPlainReply client command) }
+        ensures unrefused { IfOk result (λ answer. is_refusal answer ≡ false) }
         ensures here { IfOk result
             (IsPlainHere self.now.keeper self.now.peers (index_map_len self.now.desk.calls) self.now.desk.counts
             command) }
@@ -120,6 +122,7 @@ impl Node {
     // The answer to a `SCAN`.
     fn page(&self, cursor: u64, options: ScanOptions) -> Result<Answer, NodeError>
         ensures page { IfOk result (IsPageHere self.now.keeper.objects cursor options) }
+        ensures unrefused { IfOk result (λ answer. is_refusal answer ≡ false) }
         ensures refused { IfErr result (λ e. e ≡ NoMemory) }
     {
         let page = self.keeper.objects.scan(cursor, options.count)?;

@@ -1,7 +1,6 @@
 use Rattle.std.proofs.Common.{[], ◌++◌, ◌∙◌, ◌&&◌, not, refl, subst, sym, ap}
 use Rattle.std.proofs.lemmas.List.{append-nil}
 use Rattle.std.proofs.lemmas.Result.{on_ok_weaker}
-use Rattle.deeds.specs.CallId.{CallIds}
 use Rattle.node_keeper.proofs.ActLemmas.{acts_more}
 use Rattle.node.specs.Serving.{ServesLate}
 use Rattle.node.specs.declared.node.Node.{Node}
@@ -57,7 +56,7 @@ returns-clause-late c =
       gone = c.give_up.ensures.gone;
       others = c.give_up.ensures.others;
       idle = c.give_up.ensures.idle;
-    }) c.give_up.ensures.counts rest.file (ap (λ (ids : CallIds). ids.node) rest.ids))) c.give_up.ensures.told
+    }) c.give_up.ensures.counts rest.file rest.ids)) c.give_up.ensures.told
 
 pub returns-then-call-clause-again : goal.returns-then-call-clause-again
 returns-then-call-clause-again c =

@@ -30,7 +30,6 @@ returns-clause-serves c =
     (λ awaited next asks. call_served c.args.client next (ask.Delete deletion) (writing_call (name_now deletion) []) old new
     c.args.work.now c.begin_write.new.work c.wait.new.work c.in_ok-begun.begun asks (λ id. refl)
     (λ local id why e. (local, id, why, e, refl)) tt (λ id why given e. (id, given, why, e, refl)) (λ id given e. (given, e)) begins
-    (c.in_ok-begun.ensures.acts 0).node
     (subst (λ n.
     let call : OpenCall = record {
       name = n;

@@ -35,7 +35,7 @@ pub returns-in-Dropped-clause-serves : goal.returns-in-Dropped-clause-serves
 returns-in-Dropped-clause-serves c =
     let old = c.args.self.now in
     let new : Node = record old { keeper = c.deliver.new.self; desk = c.drop_frame.new.self } in
-    dropped_served c.args.sender c.args.it old new c.args.work.now c.deliver.new.work c.in_ok-deliver.ensures.acts.node
+    dropped_served c.args.sender c.args.it old new c.args.work.now c.deliver.new.work
     (subst (λ result. DeliversLetter c.args.sender c.args.it old.keeper c.args.work.now c.deliver.new.self c.deliver.new.work result)
     c.in-Dropped.is c.in_ok-deliver.ensures.delivers)
     (c.drop_frame.ensures.clients, c.drop_frame.ensures.calls, c.drop_frame.ensures.counts)
@@ -44,7 +44,7 @@ pub returns-in-Handled-clause-serves : goal.returns-in-Handled-clause-serves
 returns-in-Handled-clause-serves c =
     let old = c.args.self.now in
     let new : Node = record old { keeper = c.deliver.new.self } in
-    handled_served c.args.sender c.args.it old new c.args.work.now c.deliver.new.work c.in_ok-deliver.ensures.acts.node
+    handled_served c.args.sender c.args.it old new c.args.work.now c.deliver.new.work
     (subst (λ result. DeliversLetter c.args.sender c.args.it old.keeper c.args.work.now c.deliver.new.self c.deliver.new.work result)
     c.in-Handled.is c.in_ok-deliver.ensures.delivers) refl
 
@@ -56,7 +56,7 @@ returns-in-Ended-clause-serves c =
     let delta = c.delta-delta.result in
     of_three c.end.result
     (λ told idle counts. ended_served c.args.sender c.args.it old new c.args.work.now c.deliver.new.work
-    c.in_ok-deliver.ensures.acts.node ended c.end.new.work
+    ended c.end.new.work
     (subst (λ result. DeliversLetter c.args.sender c.args.it old.keeper c.args.work.now c.deliver.new.self c.deliver.new.work result)
     c.in-Ended.is c.in_ok-deliver.ensures.delivers)
     (subst (λ d. EndsAs old.keeper.file.ticks d c.args.it.name ended old.desk c.deliver.new.work c.end.new.self c.end.new.work)

@@ -10,6 +10,7 @@ use Rattle.node_keeper.specs.Beginning.{moving_call}
 use Rattle.node.specs.Moves.{move_fault}
 use Rattle.node.specs.Replies.{IsMoveRefused, IsReplyTo}
 use Rattle.node.specs.declared.node.Node.{Node}
+use Rattle.node.proofs.GivenIdLemmas.{fault_is_none, reply_uses_none}
 use Rattle.node.proofs.KeeperLemmas.{call_served}
 use Rattle.node.proofs.CommandLemmas.{answer_is_sent, answered_now, replied}
 use Rattle.node.proofs.node.Node.move_object.Goals as goal
@@ -39,7 +40,9 @@ returns-in-Some-clause-serves c =
     (subst (λ r. IsReplyTo old.keeper.ids.node old.keeper.file client r answer) (sym asks)
     (old.peers.heard, subst (λ f. IsMoveRefused f answer) fault refl))
     (subst (λ r. IsReplyHere old.keeper old.peers (index_map_len old.desk.calls) old.desk.counts r answer) (sym asks)
-    (subst (λ f. IsMoveRefusedHere f old.keeper c.args.name answer) fault refl)) refl refl) c.refuse.ensures.grown
+    (subst (λ f. IsMoveRefusedHere f old.keeper c.args.name answer) fault refl)) refl
+    (reply_uses_none old.keeper.ids answer (fault_is_none c.in-Some.error old.keeper.ids.node old.keeper.file old.peers.heard
+    c.args.layout (sym fault)))) c.refuse.ensures.grown
 
 pub returns-clause-serves : goal.returns-clause-serves
 returns-clause-serves c =
@@ -59,5 +62,5 @@ returns-clause-serves c =
     )) (old.peers.heard, none)
     (λ id why next e. subst (λ f. IsMoveRefusedHere f old.keeper c.args.name (answers.Error (errors.Refused why))) (sym none)
     (id, next, why, e, refl))
-    (λ id next e. (none, (next, e))) c.in_ok-begun.ensures.begins (c.in_ok-begun.ensures.acts 0).node awaited)
+    (λ id next e. (none, (next, e))) c.in_ok-begun.ensures.begins awaited)
     c.wait.ensures.awaited

@@ -5,6 +5,7 @@ use Rattle.node.specs.AtOnce.{IsReplyHere}
 use Rattle.node.specs.Replies.{IsReplyTo}
 use Rattle.node.specs.declared.node.Node.{Node}
 use Rattle.node.proofs.CommandLemmas.{answer_is_sent, answered_now, quits, replied}
+use Rattle.node.proofs.GivenIdLemmas.{reply_uses_none}
 use Rattle.node.proofs.PlainReplyLemmas.{plain_is_here, plain_is_reply}
 use Rattle.node.proofs.TellLemmas.{tells_acts}
 use Rattle.node.proofs.node.Node.obey.Goals as goal
@@ -60,5 +61,5 @@ returns-in_ok-answer-in_default-clause-serves c =
     c.in_ok-answer-in_default.ensures.plain))
     (subst (λ r. IsReplyHere old.keeper old.peers (index_map_len old.desk.calls) old.desk.counts r answer) (sym asks)
     (plain_is_here old.keeper old.peers (index_map_len old.desk.calls) old.desk.counts c.args.command answer c.in_default.not-Read
-    c.in_default.not-Set c.in_default.not-Move c.in_default.not-Delete c.in_ok-answer-in_default.ensures.here)) refl refl)
-    c.answer.ensures.grown
+    c.in_default.not-Set c.in_default.not-Move c.in_default.not-Delete c.in_ok-answer-in_default.ensures.here)) refl
+    (reply_uses_none old.keeper.ids answer c.in_ok-answer-in_default.ensures.unrefused)) c.answer.ensures.grown

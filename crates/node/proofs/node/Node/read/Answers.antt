@@ -21,4 +21,4 @@ returns-clause-serves c =
     (reading_call c.args.name) old new c.args.work.now c.begin_read.new.work c.wait.new.work c.in_ok-begun.begun asks
     (λ id. refl) (λ local id why e. (local, id, why, e, refl)) tt
     (λ id why next e. (id, next, why, e, refl)) (λ id next e. (next, e))
-    c.in_ok-begun.ensures.begins (c.in_ok-begun.ensures.acts 0).node awaited) c.wait.ensures.awaited
+    c.in_ok-begun.ensures.begins awaited) c.wait.ensures.awaited

@@ -33,7 +33,7 @@ returns-in-Left-clause-serves c =
     record { gone = c.leave.ensures.gone; others = c.leave.ensures.others; calls = refl; counts = refl } in
     subst (λ a. ServesArrival (Some a) old work new work) (sym c.in-Left.is)
     (arrival_alone (Some (came.Left client)) old new work work (Service.Leaves client ∷ []) refl tt
-    (unsent_one old new work (Service.Leaves client) gone refl refl refl tt refl))
+    (unsent_one old new work (Service.Leaves client) gone refl refl refl tt refl refl))
 
 pub returns-in-Left-clause-waits : goal.returns-in-Left-clause-waits
 returns-in-Left-clause-waits c =
@@ -44,7 +44,7 @@ returns-in-Left-clause-waits c =
     let gone : IsGone old.desk client new.desk =
     record { gone = c.leave.ensures.gone; others = c.leave.ensures.others; calls = refl; counts = refl } in
     serves_wait old new work work (Service.Leaves client ∷ [])
-    (unsent_one old new work (Service.Leaves client) gone refl refl refl tt refl) (tt, tt)
+    (unsent_one old new work (Service.Leaves client) gone refl refl refl tt refl refl) (tt, tt)
 
 pub returns-in_ok-push-in-Command-clause-serves : goal.returns-in_ok-push-in-Command-clause-serves
 returns-in_ok-push-in-Command-clause-serves c =
@@ -65,7 +65,7 @@ returns-in_ok-push-in-Command-clause-serves c =
     on_ok_weaker c.go_on.result
     (λ next. subst (λ a. ServesArrival (Some a) old work new c.go_on.new.work) (sym c.in-Command.is)
     (arrival_then (Some (came.Command client frame)) old between new work work c.go_on.new.work (Service.Arrives client frame)
-    refl (unsent_one old between work (Service.Arrives client frame) arrived refl refl refl tt refl) next.more
+    refl (unsent_one old between work (Service.Arrives client frame) arrived refl refl refl tt refl refl) next.more
     (λ free. next.first (Came frame) [] (arrived.state ∙ free.0) (arrived.waiting ∙ ap (λ xs. xs ++ (Came frame ∷ [])) free.1))))
     c.go_on.ensures.serves
 
