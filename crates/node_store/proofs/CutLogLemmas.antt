@@ -11,7 +11,7 @@ use Rattle.node_store.specs.Laws.{MovedIsNoticed}
 use Rattle.node_store.proofs.LogBytesLemmas.{chain_behind_lt, has_bytes}
 
 -- where two lists are put together of two parts each, one of the first parts begins the other
-split : (a c b d : List ℕ) → a ++ b ≡ c ++ d
+pub split : (a c b d : List ℕ) → a ++ b ≡ c ++ d
     → ((m : List ℕ) × (c ≡ a ++ m) × (b ≡ m ++ d)) ⊎ ((m : List ℕ) × (a ≡ c ++ m) × (m ≡ [] → ⊥))
 split [] c b d e = inl (c, refl, e)
 split (x ∷ a) [] b d e = inr (x ∷ a, refl, λ (none : (x ∷ a) ≡ []). absurd cc)

@@ -1,11 +1,13 @@
 -- What is kept of a file, or found in its place.
-use Rattle.std.proofs.Common.{◌≡◌, ℕ, ◌+◌, ◌≤◌, List, length, Option, Some, None, sym, ap, arith}
+use Rattle.std.proofs.Common.{◌≡◌, ◌⊎◌, ℕ, ◌+◌, ◌≤◌, List, length, [], Option, Some, None, inl, inr, sym, subst, ap, ◌∙◌}
+use Rattle.std.proofs.Common.{append-nil, arith}
 use Rattle.std.specs.Prelude.{Result, Ok, Err}
 use Rattle.std.proofs.lemmas.List.{take_all}
+use Rattle.std.specs.Io.KnownBytes.{Keeps}
 use Rattle.frames.specs.Writing.{Writes}
-use Rattle.node_store.specs.Logs.{Grows}
+use Rattle.node_store.specs.Logs.{Grows, IsKeptBehind}
 use Rattle.node_store.specs.Disk.{LosesEnd, found_after_stop}
-use Rattle.node_store.proofs.GrowthLemmas.{Known, grows_twice}
+use Rattle.node_store.proofs.GrowthLemmas.{Known, grows_none, grows_same, grows_twice}
 
 -- what was written grew
 pub writes_grow : {T E : Type 0} (r : Result T E) (old new : Known) (bytes : List ℕ) → Writes old new r bytes → Grows old new
@@ -30,3 +32,53 @@ pub loses_found : (count : ℕ) (other : Option Known) (kept keeps : Known) → 
     → LosesEnd count (found_after_stop other kept) (found_after_stop other keeps)
 loses_found count None kept keeps loses = loses
 loses_found count (Some bytes) kept keeps loses = loses_nothing count bytes
+
+-- what is kept grows by none
+pub keeps_grow : (old new : Known) → Keeps old new → Grows old new
+keeps_grow None new same = ([], tt)
+keeps_grow (Some xs) None same = absurd same
+keeps_grow (Some xs) (Some ys) same = ([], same ∙ sym (append-nil xs))
+
+-- where nothing changes, what was written is kept, with the same bytes behind it
+pub same_behind : (written kept : Known) → IsKeptBehind written kept → Grows written kept × Grows kept kept
+same_behind None kept behind = absurd behind
+same_behind (Some xs) kept behind = (behind, grows_none kept)
+
+-- what is found keeps what was written, and perhaps some of what was cut off, if the file does
+pub cut_found : (other : Option Known) (kept keeps written : Known)
+    → (IsKeptBehind written kept → Grows written keeps × Grows keeps kept)
+    → IsKeptBehind written (found_after_stop other kept)
+    → Grows written (found_after_stop other keeps) × Grows (found_after_stop other keeps) (found_after_stop other kept)
+cut_found None kept keeps written cut behind = cut behind
+cut_found (Some bytes) kept keeps None cut behind = absurd behind
+cut_found (Some bytes) kept keeps (Some xs) cut behind = (behind, grows_none bytes)
+
+-- the same if the file was synced, and the folder perhaps
+
+synced_as : (other : Option Known) (kept keeps : Known) (xs : List ℕ) → keeps ≡ Some xs
+    → Grows (Some xs) (found_after_stop other kept)
+    → Grows (Some xs) (found_after_stop other keeps) × Grows (found_after_stop other keeps) (found_after_stop other kept)
+synced_as None kept keeps xs is behind =
+    (grows_same (Some xs) keeps (sym is), subst (λ (k : Known). Grows k kept) (sym is) behind)
+synced_as (Some bytes) kept keeps xs is behind = (behind, grows_none bytes)
+
+all_kept : (keeps writes : Known) (xs : List ℕ) → Keeps (Some xs) writes → keeps ≡ writes → keeps ≡ Some xs
+all_kept keeps None xs same all = absurd same
+all_kept keeps (Some ys) xs same all = all ∙ ap Some same
+
+pub synced_found : (other then : Option Known) (kept keeps written writes : Known) → Keeps written writes → keeps ≡ writes
+    → (then ≡ other) ⊎ (then ≡ None) → IsKeptBehind written (found_after_stop other kept)
+    → Grows written (found_after_stop then keeps) × Grows (found_after_stop then keeps) (found_after_stop other kept)
+synced_found other then kept keeps None writes same all either behind = absurd behind
+synced_found other then kept keeps (Some xs) writes same all either behind =
+    let is = all_kept keeps writes xs same all in
+    let Left : Option Known → Type 0 = λ t.
+    Grows (Some xs) (found_after_stop t keeps) × Grows (found_after_stop t keeps) (found_after_stop other kept) in
+    elim either [
+      | inl e ↦ subst Left (sym e) (synced_as other kept keeps xs is behind)
+      | inr e ↦
+          subst Left (sym e) (
+            grows_same (Some xs) keeps (sym is),
+            subst (λ (k : Known). Grows k (found_after_stop other kept)) (sym is) behind,
+          )
+    ]

@@ -1,13 +1,14 @@
 -- How known bytes grow and are consumed, one part after another; and lists that grow at their end.
 use Rattle.std.proofs.Common.{◌≡◌, ℕ, ◌+◌, ◌<◌, List, [], ◌∷◌, ◌++◌, length, get_or, take, Option, Some, None, sym, ap, subst, ◌∙◌}
-use Rattle.std.proofs.Common.{refl, append_assoc, append-nil, OnOk, Result, Ok, Err}
+use Rattle.std.proofs.Common.{refl, append_assoc, append-nil, OnOk, Result, Ok, Err, ◌≤◌, ◌-◌, ◌^◌, min, arith}
 use Rattle.std.specs.List.{flat_map, FoldsTo, AllByRecursion}
 use Rattle.std.specs.Io.KnownBytes.{Appends, Consumes, Keeps}
-use Rattle.std.proofs.lemmas.Grind.{flat_map-append}
+use Rattle.std.proofs.lemmas.Grind.{common_steps, flat_map-append}
 use Rattle.std.proofs.lemmas.List.{take_more}
 use Rattle.node_log.specs.Reading.{HadLeft}
 use Rattle.frames.specs.Writing.{Writes}
 use Rattle.node_store.specs.Logs.{Grows}
+use Rattle.node_store.specs.Rewriting.{HasLengthened}
 
 -- what is known of some bytes
 abbrev pub Known : Type 0
@@ -22,6 +23,14 @@ appends_then (Some us) (Some vs) (Some ws) xs ys p q = q ∙ ap (λ (t : List �
 pub appends_none : (a : Known) → Appends a a []
 appends_none None = tt
 appends_none (Some xs) = sym (append-nil xs)
+
+pub lengthened_none : (a : Known) (n : ℕ) → n ≤ 2 ^ 64 - 1 → HasLengthened a a n n
+lengthened_none a n fits = ([], appends_none a, grind (arith, common_steps))
+
+pub lengthened_then : (a b c : Known) (before middle now : ℕ) (more : List ℕ) → HasLengthened a b before middle
+    → Appends b c more → now ≡ min (middle + length more) (2 ^ 64 - 1) → HasLengthened a c before now
+lengthened_then a b c before middle now more (bytes, appended, is) then is_now =
+    (bytes ++ more, appends_then a b c bytes more appended then, grind (arith, common_steps))
 
 pub appends_kept : (a b c : Known) (xs : List ℕ) → Appends a b xs → Keeps b c → Appends a c xs
 appends_kept None b c xs p q = tt

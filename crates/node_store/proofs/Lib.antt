@@ -11,3 +11,5 @@ pub mod RoundLemmas
 pub mod CutLogLemmas
 pub mod LeftLogLemmas
 pub mod StoppingLemmas
+pub mod StepLemmas
+pub mod GatheringLemmas

@@ -6,3 +6,6 @@ pub mod Serving
 pub mod Laws
 pub mod Rewriting
 pub mod Rounds
+pub mod Stopping
+pub mod Gathering
+pub mod Steps

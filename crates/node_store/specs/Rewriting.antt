@@ -1,6 +1,7 @@
 -- What a log has after it was written anew.
-use Rattle.std.specs.Prelude.{◌≡◌, ◌⊎◌, ◌+◌, ◌*◌, ◌≤◌, ℕ, List, length, Option, Some, None, Result, Ok, Err, ⊤}
-use Rattle.std.specs.Io.KnownBytes.{Keeps}
+use Rattle.std.specs.Prelude.{◌≡◌, ◌⊎◌, ◌+◌, ◌-◌, ◌*◌, ◌^◌, ◌≤◌, ℕ, List, length, min, Option, Some, None, Result, Ok}
+use Rattle.std.specs.Prelude.{Err, ⊤}
+use Rattle.std.specs.Io.KnownBytes.{Appends, Keeps}
 use Rattle.node_log.specs.Entry.{chain_behind, first_chain}
 use Rattle.node_store.specs.Recovery.{log_bytes}
 use Rattle.node_store.specs.declared.end.LogEnd.{LogEnd}
@@ -38,3 +39,8 @@ HasRewritten old new entries (Err error) = KeepsOrBecomes old new (Some (log_byt
 -- a log of so many bytes has become one of so many bytes: at least twice as many, and at least 16 MiB more
 abbrev pub HasGrown : (before now : ℕ) → Type 0
 HasGrown before now = (2 * before ≤ now) × (before + 16_777_216 ≤ now)
+
+-- a log of so many bytes grew, and has become one of so many bytes, or of 2^64 - 1 if it has more
+abbrev pub HasLengthened : (old new : Option (List ℕ)) → (before now : ℕ) → Type 0
+HasLengthened old new before now =
+    (bytes : List ℕ) × Appends old new bytes × (now ≡ min (before + length bytes) (2 ^ 64 - 1))

@@ -15,10 +15,14 @@ const MOST_BYTES: usize = 1_048_576;
 
 /// Bytes that wait to be written, in this order: frames that depend on none of the entries, entries for the log, and
 /// frames that may depend on entries; and the chain behind the entries.
-pub(crate) struct Batch {
+pub struct Batch {
+    /// The frames that depend on none of the entries.
     pub early: Gathered,
+    /// The entries for the log.
     pub log: Gathered,
+    /// The frames that may depend on entries.
     pub output: Gathered,
+    /// The chain behind the entries.
     pub chain: Chain,
 }
 
@@ -35,7 +39,7 @@ impl Drop for Batch {
 
 impl Batch {
     /// Makes a batch without bytes, for a log that ends behind this chain.
-    pub fn new(alloc: Global, chain: Chain) -> Batch
+    pub(crate) fn new(alloc: Global, chain: Chain) -> Batch
         ensures empty { HasGathered result.chain.state result [] }
         ensures chain { result.chain.state ≡ chain.state }
     {
@@ -48,14 +52,14 @@ impl Batch {
     }
 
     /// Returns whether so many bytes wait that they are to be written now.
-    pub fn is_full(&self) -> bool {
+    pub(crate) fn is_full(&self) -> bool {
         self.early.len() >= MOST_BYTES
             || self.log.len() >= MOST_BYTES
             || self.output.len() >= MOST_BYTES
     }
 
     /// Adds the bytes of what a machine wants done. Fails only if memory is refused.
-    pub fn push(&mut self, effects: &Effects) -> io::Result<()>
+    pub(crate) fn push(&mut self, effects: &Effects) -> io::Result<()>
         ensures { OnOk result (Gathers self.old self.new (effects_outputs effects.now)) }
     {
         self.push_outputs(&effects.outputs)?;
@@ -109,7 +113,7 @@ impl Batch {
     }
 
     /// Drops all bytes, after they were written.
-    pub fn clear(&mut self)
+    pub(crate) fn clear(&mut self)
         ensures empty { HasGathered self.new.chain.state self.new [] }
         ensures chain { self.new.chain.state ≡ self.old.chain.state }
     {

@@ -10,7 +10,7 @@ pub trait DiskFile {
     ghost use Rattle.std.specs.Prelude.{◌≡◌, ℕ, List, Option, None, IfSome, OnOk, IfOk, length};
     ghost use Rattle.std.specs.Io.KnownBytes.{Keeps};
     ghost use Rattle.frames.specs.Writing.{Writes};
-    ghost use Rattle.node_store.specs.Logs.{Grows};
+    ghost use Rattle.node_store.specs.Logs.{Grows, IsKeptBehind};
     ghost use Rattle.node_store.specs.Disk.{IsCutTo, LosesEnd};
 
     // The bytes that a reader of the file gets while the machine runs, where they are known.
@@ -26,11 +26,14 @@ pub trait DiskFile {
         ensures kept { Grows (kept self.old) (kept self.new) }
         ensures within { Grows (kept self.old) (written self.old) → Grows (kept self.new) (written self.new) };
 
-    /// Makes the file keep what was written.
+    /// Makes the file keep what was written. Behind that it may still keep bytes that were cut off: where it fails,
+    /// some or all of these.
     fn sync_data(&mut self) -> io::Result<()>
         ensures written { Keeps (written self.old) (written self.new) }
         ensures kept { Grows (kept self.old) (written self.old) → Grows (kept self.old) (kept self.new) }
         ensures within { Grows (kept self.old) (written self.old) → Grows (kept self.new) (written self.new) }
+        ensures cut { IsKeptBehind (written self.old) (kept self.old) → Grows (written self.old) (kept self.new)
+            × Grows (kept self.new) (kept self.old) }
         ensures all { OnOk result (kept self.new ≡ written self.new) };
 
     /// How many bytes the file has.

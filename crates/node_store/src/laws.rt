@@ -1,5 +1,6 @@
 //! What holds for every log.
 ghost use Rattle.node_store.specs.Laws.{CutLogIsFront, LeftLogIsRead, LogIsReadOnce, MovedIsNoticed};
+ghost use Rattle.node_store.specs.Steps.{CutOffStepsWriteFirst, StepsWriteAll};
 
 use node_log::{entries_are_read_back, moved_entries_are_noticed};
 
@@ -35,3 +36,10 @@ pub fn left_logs_are_read()
     cut_logs_are_fronts();
     logs_are_read_once();
 }
+
+/// A law: the steps for a batch, carried out one after another on a synced log, write all that waits in it. If they are
+/// cut off anywhere, a frame was sent only if the log keeps all entries before it.
+pub fn steps_keep_order()
+    ensures all { StepsWriteAll }
+    ensures cut { CutOffStepsWriteFirst }
+{}

@@ -2,12 +2,16 @@
 //! frames.
 #![tactic(auto)]
 
+pub use batch::Batch;
 pub use disk::{DiskFile, DiskFolder};
 pub use end::LogEnd;
 pub use error::{StoreError, StoreFault};
 pub use folder::{FolderLog, SecondLog};
+pub use gathering::{Round, gather_round};
+pub use given::GivenBytes;
 pub use laws::{
     cut_logs_are_fronts, left_logs_are_read, logs_are_read_once, moved_entries_stop_reading,
+    steps_keep_order,
 };
 pub use log::Log;
 pub use reading::recover_machine;
@@ -15,6 +19,7 @@ pub use rewriting::{Rewriting, has_grown, is_worth_rewriting, rewrite_log};
 pub use second::RewritableLog;
 pub use serving::serve_frames;
 pub use stop::ServeError;
+pub use stopping::{StoppingLog, StoppingWriter};
 pub use stored::StoredLog;
 pub use writing::{append_bytes, append_entries, push_entries};
 
@@ -23,6 +28,8 @@ mod disk;
 mod end;
 mod error;
 mod folder;
+mod gathering;
+mod given;
 mod laws;
 mod log;
 mod reading;
@@ -30,5 +37,6 @@ mod rewriting;
 mod second;
 mod serving;
 mod stop;
+mod stopping;
 mod stored;
 mod writing;

@@ -6,7 +6,7 @@ pub trait Log {
     ghost use Rattle.std.specs.Prelude.{◌≡◌, ℕ, List, Option, None, OnOk};
     ghost use Rattle.std.specs.Io.KnownBytes.{Keeps};
     ghost use Rattle.frames.specs.Writing.{Writes};
-    ghost use Rattle.node_store.specs.Logs.{Grows};
+    ghost use Rattle.node_store.specs.Logs.{Grows, IsKeptBehind};
 
     // The bytes that were appended, where they are known.
     ghost written: { Self → Option (List ℕ) } = { λ _. None };
@@ -21,10 +21,13 @@ pub trait Log {
         ensures kept { Grows (kept self.old) (kept self.new) }
         ensures within { Grows (kept self.old) (written self.old) → Grows (kept self.new) (written self.new) };
 
-    /// Makes the log keep all bytes that were appended.
+    /// Makes the log keep all bytes that were appended. Behind them it may still keep bytes that were cut off: some or
+    /// all of these are kept, where it fails.
     fn sync(&mut self) -> io::Result<()>
         ensures written { Keeps (written self.old) (written self.new) }
         ensures kept { Grows (kept self.old) (written self.old) → Grows (kept self.old) (kept self.new) }
         ensures within { Grows (kept self.old) (written self.old) → Grows (kept self.new) (written self.new) }
+        ensures cut { IsKeptBehind (written self.old) (kept self.old) → Grows (written self.old) (kept self.new)
+            × Grows (kept self.new) (kept self.old) }
         ensures all { OnOk result (kept self.new ≡ written self.new) };
 }

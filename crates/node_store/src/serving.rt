@@ -1,13 +1,17 @@
 //! The loop of a node: frames in, entries to the log, frames out.
-ghost use Rattle.std.specs.Prelude.{◌≡◌, ◌⊎◌, [], ⊤, ℕ, List, MatchOption, OnOk, IfErr, IfOk};
+ghost use Rattle.std.specs.Prelude.{◌≡◌, ◌⊎◌, [], ⊤, ℕ, List, true, false, MatchOption, OnOk, IfErr, IfOk};
 ghost use Rattle.std.specs.Io.Buffered.{reader_remaining};
+ghost use Rattle.std.specs.Io.KnownBytes.{Appends, Consumes};
+ghost use Rattle.frames.specs.Frame.{frame_bytes};
 ghost use Rattle.frames.specs.Writing.{Writes};
+ghost use Rattle.node_log.specs.Reading.{HadLeft};
 ghost use Rattle.node_effects.specs.declared.error.NodeError.TheVariants.{NoMemory};
 ghost use Rattle.node_effects.specs.declared.output.Output.{Output};
 ghost use Rattle.node_store.specs.Outputs.{HasGathered};
-ghost use Rattle.node_store.specs.Rewriting.{HasGrown};
+ghost use Rattle.node_store.specs.Rewriting.{HasGrown, HasLengthened};
 ghost use Rattle.node_store.specs.Rounds.{ServesInRounds};
-ghost use Rattle.node_store.specs.Serving.{HandlesArrived, IsFrameHandled, IsWriteLost, ServesSome, ServesUntil};
+ghost use Rattle.node_store.specs.Serving.{HandlesArrived, IsFrameHandled, IsInputEnd, IsWriteLost};
+ghost use Rattle.node_store.specs.Serving.{ServesSome, ServesUntil};
 ghost use Rattle.node_store.specs.Serving.{StopsAtFrame, WritesOutputs};
 
 use crate::batch::Batch;
@@ -23,7 +27,7 @@ use std::io;
 use std::io::{BufReader, ErrorKind, Read, Write};
 
 // How many frames are handled before the log is synced, at most.
-const MOST_AT_ONCE: u16 = 1024;
+pub(crate) const MOST_AT_ONCE: u16 = 1024;
 
 /// Handles the frames of the input, until it ends or the log has grown so much that it may be worth writing anew. All
 /// frames that have arrived are handled one after another. Then the frames are written that were wanted before any
@@ -66,6 +70,8 @@ pub fn serve_frames<M: Machine, I: Read + Drop, O: Write, L: Log, E: Write>(
         (StopsAtFrame M.handles M.notes M.fails machine.old (reader_remaining I.remaining input.old)) }
     ensures synced { OnOk result (L.kept log.new ≡ L.written log.new) }
     ensures grown { IfOk result (λ now. MatchOption now ⊤ (λ now. HasGrown end.length now.length)) }
+    ensures lengthened { IfOk result (λ now. MatchOption now ⊤
+        (λ now. HasLengthened (L.kept log.old) (L.kept log.new) end.length now.length)) }
 {
     let mut length = end.length;
     let mut batch = Batch::new(alloc, end.chain);
@@ -111,6 +117,7 @@ fn serve_arrived<M: Machine, I: Read + Drop, O: Write, L: Log>(
     ensures stopped { IfErr result
         (StopsAtFrame M.handles M.notes M.fails machine.old (reader_remaining I.remaining input.old)) }
     ensures synced { OnOk result (L.kept log.new ≡ L.written log.new) }
+    ensures appended { OnOk result (Appends (L.kept log.old) (L.kept log.new) batch.new.log) }
 {
     let goes_on = handle_arrived(alloc, machine, input, batch)?;
     write_batch(output, log, batch)?;
@@ -130,6 +137,7 @@ fn write_batch<O: Write, L: Log>(
         result }
     ensures lost { IfErr result IsWriteLost }
     ensures synced { OnOk result (L.kept log.new ≡ L.written log.new) }
+    ensures appended { OnOk result (Appends (L.kept log.old) (L.kept log.new) batch.now.log) }
 {
     if let Err(error) = write_out(output, &batch.early) {
         return Err(ServeError::OutputLost(error));
@@ -171,17 +179,21 @@ fn is_due<I: Read + Drop>(input: &BufReader<I>, batch: &Batch) -> bool {
     input.buffer().is_empty() || batch.is_full()
 }
 
-// Handles the next frame. Returns whether there was one.
-fn handle_next<M: Machine, I: Read + Drop>(
+/// Handles the next frame. Returns whether there was one. If there was none, nothing has changed.
+pub(crate) fn handle_next<M: Machine, R: Read>(
     alloc: Global,
     machine: &mut M,
-    input: &mut BufReader<I>,
+    input: &mut R,
     batch: &mut Batch,
 ) -> Result<bool, ServeError>
-    ensures handles { HandlesArrived M.handles M.notes machine.old machine.new (reader_remaining I.remaining input.old)
-        (reader_remaining I.remaining input.new) batch.old batch.new result }
+    ensures handles { HandlesArrived M.handles M.notes machine.old machine.new (R.remaining input.old)
+        (R.remaining input.new) batch.old batch.new result }
     ensures stopped { IfErr result
-        (StopsAtFrame M.handles M.notes M.fails machine.old (reader_remaining I.remaining input.old)) }
+        (StopsAtFrame M.handles M.notes M.fails machine.old (R.remaining input.old)) }
+    ensures ended { IfOk result (λ found. found ≡ false → HadLeft IsInputEnd (R.remaining input.old)) }
+    ensures same { IfOk result (λ found. found ≡ false → (machine.new ≡ machine.old) × (batch.new ≡ batch.old)) }
+    ensures taken { IfOk result (λ found. found ≡ true → (frame : List (List ℕ))
+        × Consumes (R.remaining input.old) (R.remaining input.new) (frame_bytes frame)) }
 {
     match read_frame(alloc, input) {
         Ok(Some(frame)) => match handle(machine, frame, batch) {

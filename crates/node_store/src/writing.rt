@@ -1,6 +1,5 @@
 //! Appending to the log.
 ghost use Rattle.std.specs.Prelude.{◌≡◌, ◌++◌, IfOk, OnOk, length};
-ghost use Rattle.std.specs.Io.KnownBytes.{Appends};
 ghost use Rattle.std.specs.List.{concat};
 ghost use Rattle.frames.specs.Writing.{Writes};
 ghost use Rattle.node_log.specs.Entry.{chain_behind};
@@ -65,7 +64,7 @@ fn append_each<L: Log>(log: &mut L, parts: &[Bytes]) -> io::Result<()>
 }
 
 /// Appends entries to a log that is synced and ends behind this chain, and syncs it again. Returns how many bytes they
-/// have, and goes on with the chain behind them. If it fails, also for want of memory, the log may keep a front of the
+/// have, and goes on with the chain behind them. If it fails, also for want of memory, the log keeps a front of the
 /// bytes.
 pub fn append_entries<L: Log>(
     alloc: Global,
@@ -74,8 +73,8 @@ pub fn append_entries<L: Log>(
     entries: &[Entry],
 ) -> io::Result<u64>
     requires { L.kept log.old ≡ L.written log.old }
-    ensures kept { IfOk result (λ bytes. Appends (L.kept log.old) (L.kept log.new)
-        (log_bytes chain.old.state entries.now) × (bytes ≡ length (log_bytes chain.old.state entries.now))) }
+    ensures kept { Writes (L.kept log.old) (L.kept log.new) result (log_bytes chain.old.state entries.now) }
+    ensures length { IfOk result (λ bytes. bytes ≡ length (log_bytes chain.old.state entries.now)) }
     ensures chain { OnOk result (chain.new.state ≡ chain_behind chain.old.state entries.now) }
     ensures synced { OnOk result (L.kept log.new ≡ L.written log.new) }
 {

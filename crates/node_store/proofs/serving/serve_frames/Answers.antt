@@ -2,6 +2,7 @@ use Rattle.std.proofs.Common.{rules, true, false, sym, List, ℕ}
 use Rattle.std.specs.Io.Buffered.{reader_remaining}
 use Rattle.std.proofs.lemmas.Result.{err_from_is_err_and}
 use Rattle.node_store.specs.declared.stop.ServeError.TheVariants.{NoInput}
+use Rattle.node_store.proofs.GrowthLemmas.{lengthened_none, lengthened_then}
 use Rattle.node_store.proofs.RoundLemmas.{between, gone_none, gone_on, round_noted, stops_idle}
 use Rattle.node_store.proofs.ServingLemmas.{serves_none, serves_behind, serves_more, serves_as, serves_idle, going, stopped}
 use Rattle.node_store.proofs.StoppingLemmas.{stopped_so, stops_noted, stops_then}
@@ -74,7 +75,15 @@ loop-preserved g c =
           (known c.loop.input) (known c.serve_arrived.new.input) (kept c.loop.log) (kept c.serve_arrived.new.log)
           (held c.loop.output) (held c.serve_arrived.new.output) c.in_ok-serve_arrived.field-0 true (search rules)
           c.in_ok-serve_arrived.ensures.serves) (sym c.clear.ensures.chain),
+      lengthened_then (kept c.args.log.now) (kept c.loop.log) (kept c.serve_arrived.new.log) c.args.end.length c.loop.length _ _
+          c.loop.invariant.4 c.in_ok-serve_arrived.ensures.appended (search rules),
     )
+
+pub returns-then-has_grown-clause-lengthened : goal.returns-then-has_grown-clause-lengthened
+returns-then-has_grown-clause-lengthened g c =
+    let kept = g.L.Log.kept in
+    lengthened_then (kept c.args.log.now) (kept c.loop.log) (kept c.serve_arrived.new.log) c.args.end.length c.loop.length _ _
+    c.loop.invariant.4 c.in_ok-serve_arrived.ensures.appended (search rules)
 
 pub returns-then-has_grown-clause-serves : goal.returns-then-has_grown-clause-serves
 returns-then-has_grown-clause-serves g c =
@@ -122,6 +131,7 @@ loop-init g c =
       c.new-batch.ensures.empty,
       gone_none g.M.Machine.handles g.M.Machine.notes c.args.end.chain.state c.new-batch.result.chain.state c.args.machine.now
           (known c.args.input.now) (kept c.args.log.now) (held c.args.output.now) c.new-batch.ensures.chain,
+      lengthened_none (kept c.args.log.now) c.args.end.length (search rules),
     )
 
 pub returns-then-has_grown-clause-grown : goal.returns-then-has_grown-clause-grown

@@ -1,7 +1,8 @@
--- The frames so far were handled, and what the machine wanted done for them is done.
+-- The frames so far were handled, what the machine wanted done for them is done, and the log is as long as is said.
 use Rattle.std.proofs.Common.{◌≡◌, ℕ, [], true, Ok}
 use Rattle.std.specs.Io.Buffered.{reader_remaining}
 use Rattle.node_store.specs.Outputs.{HasGathered}
+use Rattle.node_store.specs.Rewriting.{HasLengthened}
 use Rattle.node_store.specs.Rounds.{BetweenRounds, GoesRounds}
 use Rattle.node_store.specs.Serving.{ServesSome}
 use Rattle.node_store.proofs.serving.serve_frames.Given as goal
@@ -26,3 +27,4 @@ invariant-loop g l = ServesSome g.M.Machine.handles g.M.Machine.notes l.fn.end.c
       kept = g.L.Log.kept l.log;
       held = g.O.Write.contents l.output;
     }))
+    × HasLengthened (g.L.Log.kept l.fn.log) (g.L.Log.kept l.log) l.fn.end.length l.length
