@@ -27,5 +27,12 @@ pub mod WrittenEventLemmas
 pub mod FirstWrittenLemmas
 pub mod RoundLawLemmas
 pub mod ProgramLemmas
+pub mod AmongLemmas
+pub mod LeftAfterLemmas
+pub mod StoppedStartLemmas
 pub mod SessionLemmas
 pub mod SessionLawLemmas
+pub mod MoveIdLemmas
+pub mod DistinctMoveLemmas
+pub mod OpenMoveLawLemmas
+pub mod KillLemmas

@@ -2,7 +2,7 @@
 use Rattle.std.proofs.Common.{◌≡◌, ◌≤◌, ◌+◌, ℕ, List, [], ◌∷◌, ◌++◌, length, take, Option, None, Some}
 use Rattle.std.proofs.Common.{refl, sym, subst, ap, ◌∙◌, append_assoc, append-nil, length-append, arith}
 use Rattle.std.specs.List.{AllByRecursion, FoldsTo}
-use Rattle.std.specs.Io.KnownBytes.{Appends}
+use Rattle.std.specs.Io.KnownBytes.{Appends, Keeps}
 use Rattle.deeds.specs.Kept.{FileOfNames}
 use Rattle.node_log.specs.Entry.{chain_behind, first_chain}
 use Rattle.node_strings.specs.Strings.{Strings}
@@ -35,19 +35,19 @@ whole_run law names (event ∷ events) processes may sound number =
     whole_run law names events (processes_after processes event) may.1
     (all_whole_after law names processes event may.0 sound) number
 
-reached_whole : LeftLogIsRead → (processes : Processes) → AreReached processes → (number : ℕ) →
+pub reached_whole : LeftLogIsRead → (processes : Processes) → AreReached processes → (number : ℕ) →
     HasWholeLog (processes.at number)
 reached_whole law processes reached number =
     subst (λ (ps : Processes). HasWholeLog (ps.at number)) reached.result
     (whole_run law reached.names reached.events new_processes reached.may
     (λ any. record { whole = tt; fits = omega arith }) number)
 
-carried_all : (old new : Node) (entries : List Strings) → FoldsTo CarriesOutEntry old entries new → CarriesOutAll old entries new
+pub carried_all : (old new : Node) (entries : List Strings) → FoldsTo CarriesOutEntry old entries new → CarriesOutAll old entries new
 carried_all old new [] same = sym same
 carried_all old new (entry ∷ entries) folds = (folds.0, folds.1, carried_all folds.0 new entries folds.2)
 
 -- the bytes up to the end of some entries are those of the entries
-cut_at : (chain : ℕ) (entries : List Strings) (rest disk : List ℕ) (count : ℕ) → disk ≡ log_bytes chain entries ++ rest →
+pub cut_at : (chain : ℕ) (entries : List Strings) (rest disk : List ℕ) (count : ℕ) → disk ≡ log_bytes chain entries ++ rest →
     count ≡ length (log_bytes chain entries) → take count disk ≡ log_bytes chain entries
 cut_at chain entries rest disk count whole long =
     ap (λ (n : ℕ). take n disk) long ∙ ap (λ (t : List ℕ). take (length (log_bytes chain entries)) t) whole
@@ -57,12 +57,17 @@ cut_at chain entries rest disk count whole long =
     front_of [] ys = refl
     front_of (x ∷ xs) ys = ap (λ (t : List ℕ). x ∷ t) (front_of xs ys)
 
+pub kept_as : (old new : Option (List ℕ)) (bytes : List ℕ) → old ≡ Some bytes → Keeps old new → new ≡ old
+kept_as None new bytes is keeps = absurd (cc)
+kept_as (Some some) None bytes is keeps = absurd keeps
+kept_as (Some some) (Some others) bytes is keeps = ap Some keeps
+
 -- after a rewriting, if there was one, the log has these bytes and ends behind this chain
 pub record IsFound (read : List Strings) (anew : Option (List Strings)) (kept : Option (List ℕ)) (then : LogEnd) : Type 0 where
   pub bytes : kept ≡ Some (log_bytes first_chain (found_log read anew))
   pub chained : then.chain.state ≡ chain_behind first_chain (found_log read anew)
 
-found_if : (read : List Strings) (anew : Option (List Strings)) (bytes : List ℕ) (kept : Option (List ℕ)) (end then : LogEnd) →
+pub found_if : (read : List Strings) (anew : Option (List Strings)) (bytes : List ℕ) (kept : Option (List ℕ)) (end then : LogEnd) →
     bytes ≡ log_bytes first_chain read → end.chain.state ≡ chain_behind first_chain read →
     IsRewrittenIf anew (Some bytes) end kept then → IsFound read anew kept then
 found_if read None bytes kept end then same chained is = record {
@@ -89,6 +94,7 @@ starts_are_events law processes reached number disk node chain keeps stopped lef
       rewritten = start.renewed;
       named = start.named;
       started = start.started;
+      desk = start.desk;
     } in
     let event = ProcessEvent.Starts number read start.anew start.new copy node in
     let next = processes_after processes event in

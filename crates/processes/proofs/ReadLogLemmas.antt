@@ -3,16 +3,19 @@ use Rattle.std.proofs.Common.{◌≡◌, ◌≤◌, ℕ, Bool, true, false, List
 use Rattle.std.proofs.Common.{length, take, ltb, Option, None, Some, refl, sym, subst, ap, ◌∙◌, arith}
 use Rattle.std.proofs.lemmas.Bool.{ltb-true, ltb-false}
 use Rattle.std.proofs.lemmas.List.{length-append, length-take-le, take_all}
+use Rattle.std.specs.List.{AllByRecursion}
 use Rattle.deeds.specs.Kept.{FileOfNames, KeptNode, new_node}
 use Rattle.recoveries.specs.Records.{LogRecord, Recovers, RecoversOne}
 use Rattle.recoveries.specs.RewritingNodes.{HasOwnObjects}
 use Rattle.recoveries.proofs.LoggedLemmas.{started_number}
+use Rattle.node_log.specs.Entry.{first_chain}
+use Rattle.node_log.specs.Reading.{IsEnd}
 use Rattle.node_strings.specs.Strings.{Strings}
 use Rattle.node_keeper.specs.Keeping.{kept_of}
 use Rattle.node.specs.declared.node.Node.{Node}
 use Rattle.node.specs.Anew.{AreAnew, CarriesOutAll}
-use Rattle.node_store.specs.Laws.{LeftLogIsRead}
-use Rattle.node_store.specs.Recovery.{IsWholeEntry}
+use Rattle.node_store.specs.Laws.{IsLeft, LeftLogIsRead}
+use Rattle.node_store.specs.Recovery.{BeginsWith, IsWholeEntry}
 use Rattle.open_calls.proofs.ListLemmas.{all_append}
 use Rattle.node.specs.Starts.{start_entries}
 use Rattle.node.proofs.AnewLemmas.{new_nodes, recovered_entries, started_nodes}
@@ -48,11 +51,12 @@ pub record AreFirst (process : Process) (read : List Strings) : Type 0 where
   pub least : process.synced ≤ length read
   pub most : length read ≤ length process.log
 
-pub read_first : LeftLogIsRead → (names : FileOfNames) (number : ℕ) (process : Process) (read : List Strings)
-    (anew : Option (List Strings)) (new copy after : Node) → HasWholeLog process →
-    MayStart names number process read anew new copy after → AreFirst process read
-read_first law names number process read anew new copy after sound may =
-    let found = law process.log read process.synced may.disk sound.whole may.whole may.left may.begins in
+-- what is read of what a stop left of the log of a process
+pub first_read : LeftLogIsRead → (process : Process) (read : List Strings) (disk : List ℕ) → HasWholeLog process →
+    AllByRecursion IsWholeEntry read → IsLeft process.log process.synced disk → BeginsWith first_chain read IsEnd disk →
+    AreFirst process read
+first_read law process read disk sound whole left begins =
+    let found = law process.log read process.synced disk sound.whole whole left begins in
     go found.0 found.1 found.2 (ltb (length process.log) found.0) refl
   where
     go : (count : ℕ) → process.synced ≤ count → read ≡ take count process.log → (b : Bool) → ltb (length process.log) count ≡ b →
@@ -74,6 +78,12 @@ read_first law names number process read anew new copy after sound may =
           least = omega arith;
           most = omega arith;
         }
+
+pub read_first : LeftLogIsRead → (names : FileOfNames) (number : ℕ) (process : Process) (read : List Strings)
+    (anew : Option (List Strings)) (new copy after : Node) → HasWholeLog process →
+    MayStart names number process read anew new copy after → AreFirst process read
+read_first law names number process read anew new copy after sound may =
+    first_read law process read may.disk sound may.whole may.left may.begins
 
 -- the log is whole after a start
 pub started_whole : (names : FileOfNames) (number : ℕ) (process : Process) (read : List Strings) (anew : Option (List Strings))

@@ -160,12 +160,13 @@ processes_after processes event =
 
 -- When it may happen
 
--- a new node of this number, whose cluster file has these settings
+-- a new node of this number, whose cluster file has these settings, and whose desk has no call
 pub record IsNewNode (names : FileOfNames) (number : ℕ) (node : Node) : Type 0 where
   pub file : FileContents
   pub lawful : IsLawfulFile file
   pub same : names_of file ≡ names
   pub kept : kept_of node.keeper ≡ new_node (names_of file) number
+  pub calls : node.desk.calls.entries ≡ []
 
 -- these are the entries of a log that the node writes anew, if it does
 abbrev pub AreAnewIf : Node → Option (List Strings) → Type 0
@@ -173,8 +174,8 @@ AreAnewIf node None = ⊤
 AreAnewIf node (Some entries) = AreAnew node entries
 
 -- A stopped process starts: these bytes are left of its log, and it reads these entries from them, up to where the log
--- ends. A new node carries them out again. Its log may then be written anew, and the node is started. The entry that
--- names the cluster and the node is one.
+-- ends. A new node carries them out again. Its log may then be written anew, and the node is started, which changes
+-- nothing at its desk. The entry that names the cluster and the node is one.
 pub record MayStart (names : FileOfNames) (number : ℕ) (process : Process) (read : List Strings)
     (anew : Option (List Strings)) (new copy after : Node) : Type 0 where
   pub stopped : process.running ≡ None
@@ -187,6 +188,7 @@ pub record MayStart (names : FileOfNames) (number : ℕ) (process : Process) (re
   pub rewritten : AreAnewIf copy anew
   pub named : CanBeNamed copy
   pub started : IsStarted (kept_of copy.keeper) (kept_of after.keeper)
+  pub desk : after.desk ≡ copy.desk
 
 -- a message from a node was sent by that node: the network makes up no message, and changes none
 abbrev pub WasWritten : Processes → (number : ℕ) → Option Arrival → Type 0

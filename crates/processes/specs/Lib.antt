@@ -6,3 +6,7 @@ pub mod Laws
 pub mod Loops
 pub mod Programs
 pub mod Sessions
+pub mod OpenMoves
+pub mod Interleaved
+pub mod StoppedStarts
+pub mod Kills

@@ -1,5 +1,5 @@
 -- What a node program does when it starts, and when it writes its log anew, as events of its process.
-use Rattle.std.specs.Prelude.{◌≡◌, ℕ, List, [], take, Option, None, Some, Ok}
+use Rattle.std.specs.Prelude.{◌≡◌, ◌⊎◌, ◌≤◌, ◌++◌, ℕ, List, [], length, take, Option, None, Some, Ok}
 use Rattle.std.specs.Io.KnownBytes.{Appends}
 use Rattle.recoveries.specs.Records.{IsStarted}
 use Rattle.deeds.specs.Kept.{FileOfNames}
@@ -11,6 +11,7 @@ use Rattle.node.specs.Recovering.{CarriesOutEntry}
 use Rattle.node.specs.Starts.{CanBeNamed, start_entries}
 use Rattle.node.specs.declared.node.Node.{Node}
 use Rattle.node_store.specs.Laws.{IsLeft}
+use Rattle.node_store.specs.Outputs.{AppendsFront}
 use Rattle.node_store.specs.Recovery.{HasRecovered, log_bytes}
 use Rattle.node_store.specs.Rewriting.{Becomes, IsEndOf, KeepsOrBecomes}
 use Rattle.node_store.specs.declared.end.LogEnd.{LogEnd}
@@ -40,11 +41,12 @@ IsHalfRewritten node old new =
     (entries : List Strings) × AreAnew node entries
     × KeepsOrBecomes old new (Some (log_bytes first_chain entries))
 
--- the node was started, and its log, which ended behind the one chain, got the entries of the start and ends behind the
--- other chain
+-- the node was started, which changed nothing at its desk, and its log, which ended behind the one chain, got the
+-- entries of the start and ends behind the other chain
 pub record IsBegun (old new : Node) (chain then : ℕ) (kept keeps : Option (List ℕ)) : Type 0 where
   pub named : CanBeNamed old
   pub started : IsStarted (kept_of old.keeper) (kept_of new.keeper)
+  pub desk : new.desk ≡ old.desk
   pub appended : Appends kept keeps (log_bytes chain (start_entries old))
   pub chained : then ≡ chain_behind chain (start_entries old)
 
@@ -66,8 +68,71 @@ pub record IsStart (names : FileOfNames) (number : ℕ) (disk : List ℕ) (node 
   pub rewritten : IsRewrittenIf anew (Some (take end.length disk)) end kept then
   pub named : CanBeNamed copy
   pub started : IsStarted (kept_of copy.keeper) (kept_of node.keeper)
+  pub desk : node.desk ≡ copy.desk
   pub appended : Appends kept keeps (log_bytes then.chain.state (start_entries copy))
   pub chained : chain ≡ chain_behind then.chain.state (start_entries copy)
+
+-- What a start leaves that fails
+
+-- how far a start of the program has come when it fails:
+-- - it reads its log, which it has not changed;
+-- - it cuts its log, and syncs it;
+-- - it puts a log that is written anew in the place of the old one;
+-- - it starts its node;
+-- - it appends the entries of the start.
+pub data StartStage : Type 0 where
+  Reading : StartStage
+  Cutting : StartStage
+  Exchanging : StartStage
+  Starting : StartStage
+  Appending : StartStage
+
+-- in these bytes, a new node found entries up to this end, and carried them out
+pub record IsReadLog (names : FileOfNames) (number : ℕ) (disk : List ℕ) (copy : Node) (end : LogEnd) : Type 0 where
+  pub new : Node
+  pub is_new : IsNewNode names number new
+  pub recovered : HasRecovered CarriesOutEntry new copy (Some disk) (Ok end)
+
+-- the bytes begin with those of this front
+abbrev pub IsFront : (front bytes : List ℕ) → Type 0
+IsFront front bytes = (rest : List ℕ) × (bytes ≡ front ++ rest)
+
+-- A log in which these bytes were found, and which kept those, was to be cut behind so many bytes. Bytes that begin
+-- with those found, and with those that were kept, begin with those that it keeps now: at least so many, or at least as
+-- many as it kept before.
+abbrev pub IsPartlyCut : (count : ℕ) → (disk : List ℕ) → (kept keeps : Option (List ℕ)) → Type 0
+IsPartlyCut count disk kept keeps =
+    (old whole : List ℕ) → kept ≡ Some old → IsFront old whole → IsFront disk whole →
+    (now : List ℕ) × (keeps ≡ Some now) × IsFront now whole × ((count ≤ length now) ⊎ (length old ≤ length now))
+
+-- the node was started, which changed nothing at its desk, and its log, which ended behind this chain, perhaps got a
+-- front of the entries of the start
+pub record IsPartlyBegun (old new : Node) (chain : ℕ) (kept keeps : Option (List ℕ)) : Type 0 where
+  pub named : CanBeNamed old
+  pub started : IsStarted (kept_of old.keeper) (kept_of new.keeper)
+  pub desk : new.desk ≡ old.desk
+  pub appended : AppendsFront kept keeps (log_bytes chain (start_entries old))
+
+-- What the log keeps if a start fails that has come so far. These bytes were found in it, and those were kept when it
+-- was opened. A node that carried out the entries that were found, up to an end, is there from the cut on.
+abbrev pub IsStoppedAt : StartStage → FileOfNames → (number : ℕ) → (disk : List ℕ) → (kept keeps : Option (List ℕ)) →
+    Type 0
+IsStoppedAt StartStage.Reading names number disk kept keeps = keeps ≡ kept
+IsStoppedAt StartStage.Cutting names number disk kept keeps = (copy : Node) × (end : LogEnd)
+    × IsReadLog names number disk copy end × IsPartlyCut end.length disk kept keeps
+IsStoppedAt StartStage.Exchanging names number disk kept keeps = (copy : Node) × (end : LogEnd)
+    × IsReadLog names number disk copy end × IsHalfRewritten copy (Some (take end.length disk)) keeps
+IsStoppedAt StartStage.Starting names number disk kept keeps = (copy : Node) × (end then : LogEnd)
+    × IsReadLog names number disk copy end × IsPerhapsRewritten copy (Some (take end.length disk)) end keeps then
+IsStoppedAt StartStage.Appending names number disk kept keeps = (copy node : Node) × (end then : LogEnd)
+    × (between : Option (List ℕ)) × IsReadLog names number disk copy end
+    × IsPerhapsRewritten copy (Some (take end.length disk)) end between then
+    × IsPartlyBegun copy node then.chain.state between keeps
+
+-- what the log keeps if a start fails, however far it has come
+abbrev pub IsStoppedStart : FileOfNames → (number : ℕ) → (disk : List ℕ) → (kept keeps : Option (List ℕ)) → Type 0
+IsStoppedStart names number disk kept keeps =
+    (stage : StartStage) × IsStoppedAt stage names number disk kept keeps
 
 -- The laws
 

@@ -1,9 +1,13 @@
 //! What each run of the processes of a cluster promises.
+ghost use Rattle.processes.specs.Interleaved.{SessionsAreEvents, StoppedSessionsAreEvents};
+ghost use Rattle.processes.specs.Interleaved.{UnexchangedSessionsAreEvents};
 ghost use Rattle.processes.specs.Laws.{ClientsSeeAtomicHistories, ProcessesAreAtomic};
 ghost use Rattle.processes.specs.Laws.{ProcessesHaveClusters, ProcessesKeepValues};
 ghost use Rattle.processes.specs.Loops.{RoundsAreEvents, StopsAreEvents};
+ghost use Rattle.processes.specs.OpenMoves.{LeftLogsHaveDistinctMoves, LogsHaveDistinctMoves};
+ghost use Rattle.processes.specs.OpenMoves.{StartsHaveTheOpenMoves};
 ghost use Rattle.processes.specs.Programs.{RewritesAreEvents, StartsAreEvents};
-ghost use Rattle.processes.specs.Sessions.{SessionsAreEvents, StoppedSessionsAreEvents, UnexchangedSessionsAreEvents};
+ghost use Rattle.processes.specs.StoppedStarts.{StoppedStartsAreEvents};
 
 use node_store::left_logs_are_read;
 
@@ -37,6 +41,28 @@ pub fn processes_keep_values()
     left_logs_are_read();
 }
 
+/// A law: at each moment, no two moves in the log of a process have the same id.
+pub fn logs_have_distinct_moves()
+    ensures { LogsHaveDistinctMoves }
+{
+    left_logs_are_read();
+}
+
+/// A law: nor do two moves in what a stop leaves of the log.
+pub fn left_logs_have_distinct_moves()
+    ensures { LeftLogsHaveDistinctMoves }
+{
+    left_logs_are_read();
+}
+
+/// A law: whenever a process starts, the desk of its node has exactly the moves that are open at the node's objects,
+/// and no other call. So open moves go on after each start.
+pub fn starts_have_the_open_moves()
+    ensures { StartsHaveTheOpenMoves }
+{
+    left_logs_are_read();
+}
+
 /// A law: a round of the loop `serve_frames` is a list of events of the program's process.
 pub fn rounds_are_events()
     ensures { RoundsAreEvents }
@@ -54,13 +80,20 @@ pub fn starts_are_events()
     left_logs_are_read();
 }
 
+/// A law: so is a start that fails, however far it has come, and what the log then keeps is what a stop may leave.
+pub fn stopped_starts_are_events()
+    ensures { StoppedStartsAreEvents }
+{
+    left_logs_are_read();
+}
+
 /// A law: so is a rewriting of its log.
 pub fn rewrites_are_events()
     ensures { RewritesAreEvents }
 {}
 
 /// A law: what a program does until its input ends, in rounds with rewritings between them, is a list of events of its
-/// process.
+/// process, whatever other processes do between the rounds.
 pub fn sessions_are_events()
     ensures { SessionsAreEvents }
 {}

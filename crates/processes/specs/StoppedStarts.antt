@@ -1,0 +1,32 @@
+-- The contracts that docs/trusted.md lists do not depend on this file; other contracts and proofs do.
+-- A start of a node program that fails, as events of its process.
+use Rattle.std.specs.Prelude.{◌≡◌, ◌<◌, ◌^◌, ℕ, suc, List, [], Option, None, Some}
+use Rattle.deeds.specs.Kept.{FileOfNames}
+use Rattle.node.specs.declared.node.Node.{Node}
+use Rattle.node_store.specs.Laws.{IsLeft}
+use Rattle.node_store.specs.declared.end.LogEnd.{LogEnd}
+use Rattle.processes.specs.Loops.{HaveEvents}
+use Rattle.processes.specs.Processes.{Process, Processes}
+use Rattle.processes.specs.Programs.{IsFront, IsReadLog, IsStoppedStart}
+use Rattle.processes.specs.Runs.{AreReached}
+
+-- a node that carries out again the entries in these bytes can begin one more epoch
+abbrev pub HasMoreEpochs : FileOfNames → (number : ℕ) → (disk : List ℕ) → Type 0
+HasMoreEpochs names number disk = (copy : Node) (end : LogEnd) → IsReadLog names number disk copy end →
+    suc copy.keeper.ids.epoch < 2 ^ 24
+
+-- the process is stopped, and what its log keeps is what a stop may leave of it
+abbrev pub IsStoppedWith : Process → (keeps : Option (List ℕ)) → Type 0
+IsStoppedWith process keeps =
+    (process.running ≡ None) × ((disk : List ℕ) × (keeps ≡ Some disk) × IsLeft process.log process.synced disk)
+
+-- A start that fails is a list of events of the process, perhaps of none, which write nothing and end with a process
+-- that is stopped, and what the log then keeps is what a stop may leave of the process's log. A stop may have left the
+-- bytes that were found; and a front of these, of which the same holds, was kept when the log was opened.
+abbrev pub StoppedStartsAreEvents : Type 0
+StoppedStartsAreEvents = (processes : Processes) (reached : AreReached processes) (number : ℕ) (disk kept : List ℕ)
+    (keeps : Option (List ℕ)) →
+    (processes.at number).running ≡ None → IsLeft (processes.at number).log (processes.at number).synced disk →
+    IsLeft (processes.at number).log (processes.at number).synced kept → IsFront kept disk →
+    HasMoreEpochs reached.names number disk → IsStoppedStart reached.names number disk (Some kept) keeps →
+    HaveEvents reached.names number processes (λ written process. (written ≡ []) × IsStoppedWith process keeps)
