@@ -1,4 +1,7 @@
 mod ThreeWordLemmas
+mod CutLemmas
 mod StartLemmas
+mod FailedStartLemmas
 mod ReaderLemmas
 mod SessionLemmas
+mod RunLemmas

@@ -3,7 +3,7 @@ use Rattle.std.proofs.Common.{◌≡◌, ◌==◌, ℕ, List, [], Option, None, 
 use Rattle.std.specs.Io.Buffered.{reader_buffer, reader_capacity, reader_inner, reader_remaining}
 use Rattle.std.specs.Io.KnownBytes.{prepend_known}
 use Rattle.std.specs.declared.io.buffered.BufReader.{BufReader}
-use Rattle.casd.proofs.StartLemmas.{Known}
+use Rattle.casd.proofs.CutLemmas.{Known}
 
 -- it has what its reader has
 prepend_nothing : (known : Known) → prepend_known [] known ≡ known

@@ -1,6 +1,5 @@
 -- What the program does with its node, one time after another.
 use Rattle.std.proofs.Common.{◌≡◌, ℕ, zero, suc, List, Option, None, Some, Result, Ok, Err, refl, sym, subst}
-use Rattle.deeds.specs.Kept.{FileOfNames}
 use Rattle.node.specs.Handles.{Handles as HandlesFrame}
 use Rattle.node.specs.Recovering.{Notes as NotesLength}
 use Rattle.node.specs.declared.node.Node.{Node}
@@ -9,13 +8,13 @@ use Rattle.node_store.specs.declared.end.LogEnd.{LogEnd}
 use Rattle.node_store.specs.Serving.{StopsServing}
 use Rattle.node_store.specs.declared.stop.ServeError.{ServeError}
 use Rattle.node_store.proofs.RoundLemmas.{stops_idle}
-use Rattle.processes.specs.Programs.{IsPerhapsRewritten, IsStart}
+use Rattle.processes.specs.Programs.{IsPerhapsRewritten}
 use Rattle.processes.specs.Sessions.{GoesOn}
-use Rattle.casd.specs.Opening.{HasWrittenAnew, IsStartFault}
-use Rattle.casd.specs.Program.{HasRun, HasServed, HasServedOnce}
+use Rattle.casd.specs.Opening.{HasWrittenAnew}
+use Rattle.casd.specs.Program.{HasServed, HasServedOnce}
 use Rattle.casd.specs.declared.fault.Fault.{Fault}
 use Rattle.casd.specs.declared.fault.Fault.TheVariants as faults
-use Rattle.casd.proofs.StartLemmas.{Known}
+use Rattle.casd.proofs.CutLemmas.{Known}
 
 pub goes_then : (n m : ℕ) (a b c : BetweenRounds Node) → GoesOn n a b → GoesOn m b c → (count : ℕ) × GoesOn count a c
 goes_then n zero a b c first same = (n, subst (GoesOn n a) (sym same) first)
@@ -114,21 +113,3 @@ tired T first chain new left keeps held error (count, gone) any = (
     stops_idle HandlesFrame NotesLength chain new left keeps held error any,
   ),
 )
-
--- the program as a whole
-
-pub no_run : (T : Type 0) (names : FileOfNames) (number : ℕ) (disk : List ℕ) (input held : Known) (new : Node)
-    (keeps holds : Known) (fault : Fault) → IsStartFault fault →
-    HasRun {T = T} names number disk input held new keeps holds (Err fault)
-no_run T names number disk input held new keeps holds (faults.Ended error) early = absurd early
-no_run T names number disk input held new keeps holds _ early = tt
-
-pub ran : (T : Type 0) (names : FileOfNames) (number : ℕ) (disk : List ℕ) (input held : Known) (started new : Node) (chain : ℕ)
-    (kept left keeps holds : Known) (r : Result T Fault) → IsStart names number disk started chain kept →
-    HasServed (at chain started input kept held) new left keeps holds r →
-    HasRun names number disk input held new keeps holds r
-ran T names number disk input held started new chain kept left keeps holds (Ok done) start served =
-    (started, chain, kept, left, start, served)
-ran T names number disk input held started new chain kept left keeps holds (Err (faults.Ended error)) start served =
-    (started, chain, kept, left, start, served)
-ran T names number disk input held started new chain kept left keeps holds (Err _) start served = tt

@@ -1,6 +1,5 @@
 -- A start of the program, put together from what its functions do.
-use Rattle.std.proofs.Common.{◌≡◌, ℕ, List, Option, None, Some, Result, Ok, Err, IfOk}
-use Rattle.std.proofs.Common.{subst, ap, ◌∙◌}
+use Rattle.std.proofs.Common.{◌≡◌, ℕ, List, None, Some, Ok, subst}
 use Rattle.std.specs.Io.KnownBytes.{Keeps}
 use Rattle.deeds.specs.Kept.{FileOfNames}
 use Rattle.node.specs.Recovering.{CarriesOutEntry}
@@ -11,18 +10,9 @@ use Rattle.node_store.specs.Disk.{IsFrontOf}
 use Rattle.node_store.specs.Recovery.{BeginsWith, HasRecovered}
 use Rattle.node_store.specs.declared.end.LogEnd.{LogEnd}
 use Rattle.processes.specs.Events.{IsNewNode}
-use Rattle.processes.specs.Programs.{IsBegun, IsPerhapsRewritten, IsRewrittenIf, IsStart}
-
--- what is known of some bytes
-abbrev pub Known : Type 0
-Known = Option (List ℕ)
-
--- what was cut is kept
-pub front_kept : (count : ℕ) (old mid new : Known) → IsFrontOf count old mid → Keeps mid new → IsFrontOf count old new
-front_kept count None mid new is keeps = tt
-front_kept count (Some xs) None new is keeps = absurd (cc)
-front_kept count (Some xs) (Some ys) None is keeps = absurd keeps
-front_kept count (Some xs) (Some ys) (Some zs) is keeps = ap Some keeps ∙ is
+use Rattle.processes.specs.Programs.{IsBegun, IsPerhapsRewritten, IsRewrittenIf}
+use Rattle.casd.specs.Opening.{HasStarted}
+use Rattle.casd.proofs.CutLemmas.{Known}
 
 -- what was carried out again is what the log has, where the reader has the same
 had_kept : (P : List ℕ → Type 0) (a b : Known) → Keeps a b → HadLeft P b → HadLeft P a
@@ -39,37 +29,36 @@ recovered_kept a b old new end keeps (entries, (all, folds, long, had), chained)
 )
 
 -- what the functions of a start did is a start
-pub start_is : (names : FileOfNames) (number : ℕ) (disk : List ℕ) (new copy node : Node) (end later last : LogEnd)
-    (written cut kept keeps : Known) → IsNewNode names number new → written ≡ Some disk →
-    HasRecovered CarriesOutEntry new copy written (Ok end) → IsFrontOf end.length written cut →
-    IsPerhapsRewritten copy cut end kept later → IsBegun copy node later.chain.state last.chain.state kept keeps →
-    IsStart names number disk node last.chain.state keeps
-start_is names number disk new copy node end later last written cut kept keeps is_new found recovered front renewed begun =
-    record {
-      new = new;
-      copy = copy;
-      end = end;
-      then = later;
-      anew = renewed.0;
-      kept = kept;
-      is_new = is_new;
-      recovered = subst (λ (w : Known). HasRecovered CarriesOutEntry new copy w (Ok end)) found recovered;
-      renewed = renewed.1;
-      rewritten = subst (λ (old : Known). IsRewrittenIf renewed.0 old end kept later)
-          (subst (λ (w : Known). IsFrontOf end.length w cut) found front) renewed.2;
-      named = begun.named;
-      started = begun.started;
-      appended = begun.appended;
-      chained = begun.chained;
-    }
-
--- the same, where the last of these functions may have failed
-pub started : {E : Type 0} (names : FileOfNames) (number : ℕ) (disk : List ℕ) (new copy node : Node) (end later : LogEnd)
-    (begun : Result LogEnd E) (written cut kept keeps : Known) → IsNewNode names number new → written ≡ Some disk →
-    HasRecovered CarriesOutEntry new copy written (Ok end) → IsFrontOf end.length written cut →
-    IsPerhapsRewritten copy cut end kept later →
-    IfOk begun (λ last. IsBegun copy node later.chain.state last.chain.state kept keeps) →
-    IfOk begun (λ last. IsStart names number disk node last.chain.state keeps)
-started names number disk new copy node end later (Ok last) written cut kept keeps is_new found recovered front renewed begun =
-    start_is names number disk new copy node end later last written cut kept keeps is_new found recovered front renewed begun
-started names number disk new copy node end later (Err e) written cut kept keeps is_new found recovered front renewed begun = tt
+pub started : (names : FileOfNames) (number : ℕ) (found : Known) (new copy node : Node) (end later last : LogEnd)
+    (cut kept keeps : Known) → IsNewNode names number new → HasRecovered CarriesOutEntry new copy found (Ok end) →
+    IsFrontOf end.length found cut → IsPerhapsRewritten copy cut end kept later →
+    IsBegun copy node later.chain.state last.chain.state kept keeps →
+    HasStarted names number found node last.chain.state keeps
+started names number None new copy node end later last cut kept keeps is_new recovered front renewed begun = record {
+  new = new;
+  copy = copy;
+  entries = recovered.0;
+  is_new = is_new;
+  whole = recovered.1.0;
+  carried = recovered.1.1;
+  named = begun.named;
+  started = begun.started;
+  desk = begun.desk;
+}
+started names number (Some disk) new copy node end later last cut kept keeps is_new recovered front renewed begun = record {
+  new = new;
+  copy = copy;
+  end = end;
+  then = later;
+  anew = renewed.0;
+  kept = kept;
+  is_new = is_new;
+  recovered = recovered;
+  renewed = renewed.1;
+  rewritten = subst (λ (old : Known). IsRewrittenIf renewed.0 old end kept later) front renewed.2;
+  named = begun.named;
+  started = begun.started;
+  desk = begun.desk;
+  appended = begun.appended;
+  chained = begun.chained;
+}

@@ -1,22 +1,34 @@
 -- The contracts that docs/trusted.md lists do not depend on this file; other contracts and proofs do.
 -- How the program starts its node, and how it writes its log anew.
-use Rattle.std.specs.Prelude.{◌≡◌, ℕ, List, Option, Result, Ok, Err, ⊤}
+use Rattle.std.specs.Prelude.{◌≡◌, ◌≤◌, ◌⊎◌, ℕ, List, length, Option, Some, None, Result, Ok, Err}
+use Rattle.std.specs.List.{AllByRecursion, FoldsTo}
+use Rattle.recoveries.specs.Records.{IsStarted}
+use Rattle.deeds.specs.Kept.{FileOfNames}
+use Rattle.node_keeper.specs.Keeping.{kept_of}
+use Rattle.node_strings.specs.Strings.{Strings}
+use Rattle.node.specs.Recovering.{CarriesOutEntry}
+use Rattle.node.specs.Starts.{CanBeNamed}
 use Rattle.node.specs.declared.node.Node.{Node}
+use Rattle.node_store.specs.Disk.{IsFrontOf}
+use Rattle.node_store.specs.Recovery.{IsWholeEntry}
 use Rattle.node_store.specs.declared.end.LogEnd.{LogEnd}
-use Rattle.processes.specs.Programs.{IsHalfRewritten, IsPerhapsRewritten}
+use Rattle.processes.specs.Events.{IsNewNode}
+use Rattle.processes.specs.Programs.{IsBegun, IsHalfRewritten, IsPartlyBegun, IsPartlyCut, IsPerhapsRewritten, IsStart}
+use Rattle.processes.specs.Programs.{IsStoppedAt, StartStage}
+use Rattle.casd.specs.Fault.{IsStartFault}
 use Rattle.casd.specs.declared.fault.Fault.{Fault}
 use Rattle.casd.specs.declared.fault.Fault.TheVariants as faults
 
--- the program found that it must not use this log
-abbrev pub IsRefusal : Fault → Type 0
-IsRefusal faults.OldForm = ⊤
-IsRefusal (faults.BadLog error) = ⊤
-IsRefusal _ = ⊥
+-- The parts of a start
 
--- why the program may end before its loop begins: for any cause but that the loop ended
-abbrev pub IsStartFault : Fault → Type 0
-IsStartFault (faults.Ended error) = ⊥
-IsStartFault _ = ⊤
+-- a log, which had the bytes `written`, was cut behind so many of them and keeps these; or it was not, or not for sure
+abbrev pub HasCut : {T : Type 0} → (count : ℕ) → (written kept keeps : Option (List ℕ)) → Result T Fault → Type 0
+HasCut count written kept keeps (Ok done) = IsFrontOf count written keeps
+HasCut count written kept keeps (Err (faults.Unopened error)) =
+    (disk : List ℕ) → written ≡ Some disk → count ≤ length disk → IsPartlyCut count disk kept keeps
+HasCut count written kept keeps (Err (faults.LogLost error)) =
+    (disk : List ℕ) → written ≡ Some disk → count ≤ length disk → IsPartlyCut count disk kept keeps
+HasCut count written kept keeps (Err _) = ⊥
 
 -- the log, which kept these bytes up to this end, was perhaps written anew, and the new end is the result; or it is not
 -- known whether it was
@@ -25,3 +37,59 @@ abbrev pub HasWrittenAnew : Node → (old : Option (List ℕ)) → LogEnd → (n
 HasWrittenAnew node old end new (Ok then) = IsPerhapsRewritten node old end new then
 HasWrittenAnew node old end new (Err (faults.NotExchanged error)) = IsHalfRewritten node old new
 HasWrittenAnew node old end new (Err _) = ⊥
+
+-- the node was started, and the log has the entries of the start up to the end that is the result; or the node was not
+-- started; or it was, and the log perhaps has a front of the entries
+abbrev pub HasBegun : (old new : Node) → LogEnd → (kept keeps : Option (List ℕ)) → Result LogEnd Fault → Type 0
+HasBegun old new end kept keeps (Ok then) = IsBegun old new end.chain.state then.chain.state kept keeps
+HasBegun old new end kept keeps (Err (faults.Stopped error)) = keeps ≡ kept
+HasBegun old new end kept keeps (Err (faults.LogLost error)) = IsPartlyBegun old new end.chain.state kept keeps
+HasBegun old new end kept keeps (Err _) = ⊥
+
+-- A start
+
+-- the program started with a log of which nothing is known: a new node of this number carried out some entries, and was
+-- then started, which changed nothing at its desk
+pub record IsUnknownStart (names : FileOfNames) (number : ℕ) (node : Node) : Type 0 where
+  pub new : Node
+  pub copy : Node
+  pub entries : List Strings
+  pub is_new : IsNewNode names number new
+  pub whole : AllByRecursion IsWholeEntry entries
+  pub carried : FoldsTo CarriesOutEntry new entries copy
+  pub named : CanBeNamed copy
+  pub started : IsStarted (kept_of copy.keeper) (kept_of node.keeper)
+  pub desk : node.desk ≡ copy.desk
+
+-- the program started with these bytes of a log, if they are known
+abbrev pub HasStarted : FileOfNames → (number : ℕ) → (found : Option (List ℕ)) → Node → (chain : ℕ)
+    → (keeps : Option (List ℕ)) → Type 0
+HasStarted names number (Some disk) node chain keeps = IsStart names number disk node chain keeps
+HasStarted names number None node chain keeps = IsUnknownStart names number node
+
+-- What the log keeps if a start fails with this fault, in which these bytes were found, and which kept those. If it was
+-- not carried out again, it was not changed. It may be that it was not cut, not written anew, or has no entries of the
+-- start.
+abbrev pub LeavesLog : FileOfNames → (number : ℕ) → (disk : List ℕ) → (kept keeps : Option (List ℕ)) → Fault → Type 0
+LeavesLog names number disk kept keeps faults.OldForm =
+    IsStoppedAt StartStage.Reading names number disk kept keeps
+LeavesLog names number disk kept keeps (faults.BadLog error) =
+    IsStoppedAt StartStage.Reading names number disk kept keeps
+LeavesLog names number disk kept keeps faults.NoMemory =
+    IsStoppedAt StartStage.Reading names number disk kept keeps
+LeavesLog names number disk kept keeps (faults.Unopened error) =
+    IsStoppedAt StartStage.Reading names number disk kept keeps
+    ⊎ IsStoppedAt StartStage.Cutting names number disk kept keeps
+LeavesLog names number disk kept keeps (faults.LogLost error) =
+    IsStoppedAt StartStage.Cutting names number disk kept keeps
+    ⊎ IsStoppedAt StartStage.Appending names number disk kept keeps
+LeavesLog names number disk kept keeps (faults.NotExchanged error) =
+    IsStoppedAt StartStage.Exchanging names number disk kept keeps
+LeavesLog names number disk kept keeps (faults.Stopped error) =
+    IsStoppedAt StartStage.Starting names number disk kept keeps
+LeavesLog names number disk kept keeps _ = ⊥
+
+-- a start failed with this fault, and the log keeps what the fault says, if the bytes that were found in it are known
+abbrev pub IsFailedStart : FileOfNames → (number : ℕ) → (found kept keeps : Option (List ℕ)) → Fault → Type 0
+IsFailedStart names number (Some disk) kept keeps fault = LeavesLog names number disk kept keeps fault
+IsFailedStart names number None kept keeps fault = IsStartFault fault

@@ -85,7 +85,8 @@ impl Fault {
         }
     }
 
-    /// Returns the exit status: 2 for wrong arguments or a bad cluster file, and 1 for anything else.
+    /// Returns the exit status: 2 for wrong arguments or a bad cluster file, 3 if the log could not be written, synced
+    /// or exchanged, and 1 for anything else.
     fn status(&self) -> u8
         ensures { result ≡ exit_status_of self.now }
     {
@@ -96,6 +97,7 @@ impl Fault {
             | Fault::Unread(_)
             | Fault::BadFile(FileError::Fault(_))
             | Fault::NoNode(_) => 2,
+            Fault::LogLost(_) | Fault::NotExchanged(_) | Fault::Ended(ServeError::LogLost(_)) => 3,
             _ => 1,
         }
     }

@@ -1,7 +1,10 @@
 //! The folder of a node and its files, on the disk.
 //!
 //! Each function of `DiskFile` and `DiskFolder` makes the calls of the system for which it stands, and decides nothing.
-ghost use Rattle.casd.specs.Opening.{IsStartFault};
+ghost use Rattle.std.specs.Prelude.{◌≡◌, ◌≢◌, IfErr};
+ghost use Rattle.std.specs.IoError.{error_kind};
+ghost use Rattle.casd.specs.Fault.{IsOpenFault, IsReadFault};
+ghost use Rattle.casd.specs.declared.fault.Fault.TheVariants.{NoMemory, Unopened};
 
 use crate::fault::Fault;
 use crate::lock::{LockFile, lock_folder};
@@ -46,21 +49,30 @@ impl<'a, R: Files + AllocGlobal> NodeFolder<'a, R> {
     pub fn open(files: &'a R, folder: &str) -> Result<NodeFolder<'a, R>, Fault>
     where
         R::File: LockFile,
+        ensures { IfErr result IsOpenFault }
     {
-        let locked = lock_folder(files, folder)?;
-        let (log, second) = names_in(files, folder).map_err(unopened)?;
-        Ok(NodeFolder {
-            files,
-            folder: locked,
-            log,
-            second,
-        })
+        let locked = match lock_folder(files, folder) {
+            Ok(locked) => locked,
+            Err(fault) => return Err(fault),
+        };
+        match names_in(files, folder) {
+            Ok((log, second)) => Ok(NodeFolder {
+                files,
+                folder: locked,
+                log,
+                second,
+            }),
+            Err(error) => Err(unopened(error)),
+        }
     }
 }
 
-/// Why the log cannot be opened.
+/// Why the log cannot be opened or read: memory is refused, or the system fails so.
 pub fn unopened(error: io::Error) -> Fault
-    ensures { IsStartFault result }
+    ensures memory { error_kind error ≡ ErrorKind.OutOfMemory → result ≡ NoMemory }
+    ensures other { error_kind error ≢ ErrorKind.OutOfMemory → result ≡ Unopened error }
+    ensures opens { IsOpenFault result }
+    ensures reads { IsReadFault result }
 {
     match error.kind() {
         ErrorKind::OutOfMemory => Fault::NoMemory,

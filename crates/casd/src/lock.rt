@@ -1,4 +1,9 @@
 //! The lock on a node's folder.
+ghost use Rattle.std.specs.Prelude.{◌≡◌, ◌≢◌, IfErr};
+ghost use Rattle.std.specs.IoError.{error_kind};
+ghost use Rattle.casd.specs.Fault.{IsLockFault};
+ghost use Rattle.casd.specs.declared.fault.Fault.TheVariants.{InUse, NoFolder, Unlocked};
+
 use crate::fault::Fault;
 use std::fs::{File, TryLockError};
 use std::io::ErrorKind;
@@ -26,6 +31,7 @@ impl LockFile for File {
 pub fn lock_folder<R: Files>(files: &R, folder: &str) -> Result<R::File, Fault>
 where
     R::File: LockFile,
+    ensures { IfErr result IsLockFault }
 {
     let opened = match fs::open(files, folder) {
         Ok(opened) => opened,
@@ -38,7 +44,11 @@ where
 }
 
 // Why the folder cannot be opened.
-fn unopened(error: io::Error) -> Fault {
+fn unopened(error: io::Error) -> Fault
+    ensures missing { error_kind error ≡ ErrorKind.NotFound → result ≡ NoFolder }
+    ensures other { error_kind error ≢ ErrorKind.NotFound → result ≡ Unlocked error }
+    ensures fault { IsLockFault result }
+{
     match error.kind() {
         ErrorKind::NotFound => Fault::NoFolder,
         _ => Fault::Unlocked(error),
@@ -46,7 +56,11 @@ fn unopened(error: io::Error) -> Fault {
 }
 
 // Why the folder cannot be locked.
-fn unlocked(error: io::Error) -> Fault {
+fn unlocked(error: io::Error) -> Fault
+    ensures taken { error_kind error ≡ ErrorKind.WouldBlock → result ≡ InUse }
+    ensures other { error_kind error ≢ ErrorKind.WouldBlock → result ≡ Unlocked error }
+    ensures fault { IsLockFault result }
+{
     match error.kind() {
         ErrorKind::WouldBlock => Fault::InUse,
         _ => Fault::Unlocked(error),

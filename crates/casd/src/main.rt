@@ -5,13 +5,16 @@ use fault::Fault;
 use program::run_words;
 use std::process::ExitCode;
 use std::{env, fs, io};
+use system::SystemFiles;
 
 mod arguments;
 mod fault;
+mod files;
 mod folder;
 mod lock;
 mod opening;
 mod program;
+mod system;
 
 fn main(rt: HostRuntime) -> ExitCode {
     let status = match run(&rt) {
@@ -29,7 +32,8 @@ fn run(rt: &HostRuntime) -> Result<u8, Fault> {
     let _third = fs::open(rt, "/dev/null").map_err(Fault::NoNull)?;
     let words = words_of(rt).map_err(Fault::from_arguments)?;
     Ok(run_words(
-        rt,
+        rt.alloc(),
+        &SystemFiles::new(rt),
         words.as_slice(),
         rt.stdin(),
         &mut rt.stdout(),

@@ -1,81 +1,50 @@
-//! The cluster file, and the log of a node at its start.
-ghost use Rattle.std.specs.Prelude.{◌≡◌, ℕ, List, Some, Ok, IfOk, IfErr, OnOk};
+//! The log of a node at its start.
+ghost use Rattle.std.specs.Prelude.{◌≡◌, ℕ, Ok, IfOk, IfErr, OnOk};
 ghost use Rattle.deeds.specs.Kept.{FileOfNames};
-ghost use Rattle.node.specs.Recovering.{CarriesOutEntry};
-ghost use Rattle.node_store.specs.Disk.{IsFrontOf};
-ghost use Rattle.node_store.specs.Recovery.{HasRecovered};
-ghost use Rattle.node_store.specs.Rewriting.{HasRewritten};
-ghost use Rattle.processes.specs.Events.{IsNewNode};
-ghost use Rattle.processes.specs.Programs.{IsBegun, IsStart};
 ghost use Rattle.node.specs.Anew.{AreAnew};
+ghost use Rattle.node.specs.Recovering.{CarriesOutEntry};
 ghost use Rattle.node.specs.declared.node.Node.{Node};
-ghost use Rattle.casd.specs.Opening.{HasWrittenAnew, IsRefusal, IsStartFault};
+ghost use Rattle.node_store.specs.Recovery.{HasRecovered};
+ghost use Rattle.processes.specs.Events.{IsNewNode};
+ghost use Rattle.casd.specs.Fault.{IsReadFault, IsRefusal, IsStartFault};
+ghost use Rattle.casd.specs.Opening.{HasBegun, HasCut, HasStarted, HasWrittenAnew, IsFailedStart};
 
 use crate::fault::Fault;
-use crate::folder::{NodeFolder, unopened};
-use crate::lock::LockFile;
-use cluster_file::{ClusterFile, read_cluster_file};
+use crate::folder::unopened;
 use node::Node;
 use node_log::{Entry, HEAD_LENGTH, is_old_head};
 use node_store::{
-    FolderLog, Log, LogEnd, RewritableLog, Rewriting, StoredLog, append_entries,
-    is_worth_rewriting, recover_machine, rewrite_log,
+    Log, LogEnd, RewritableLog, Rewriting, StoredLog, append_entries, is_worth_rewriting,
+    recover_machine, rewrite_log,
 };
 use std::alloc::Global;
 use std::fmt::Display;
-use std::fs;
 use std::io::{BufReader, ErrorKind, Read, Write};
-use std::rt::Files;
 
 // The size of the buffer with which the log is read, in bytes.
 const LOG_BUFFER: usize = 65_536;
-
-/// Reads the cluster file of this name. Fails with `NoNode` if it has no node of this number.
-pub fn read_file<R: Files + AllocGlobal>(
-    rt: &R,
-    name: &str,
-    number: u8,
-) -> Result<ClusterFile, Fault> {
-    let text = fs::read(rt, name).map_err(Fault::Unread)?;
-    let file = read_cluster_file(rt.alloc(), &text).map_err(Fault::BadFile)?;
-    if file.has_node(number) {
-        Ok(file)
-    } else {
-        Err(Fault::NoNode(number))
-    }
-}
-
-/// Locks the folder and opens the log in it. Fails with `InUse` if another process has the folder locked. Then nothing
-/// is changed.
-pub fn open_log<'a, R: Files + AllocGlobal>(
-    rt: &'a R,
-    folder: &str,
-) -> Result<FolderLog<NodeFolder<'a, R>>, Fault>
-where
-    R::File: LockFile,
-{
-    let folder = NodeFolder::open(rt, folder)?;
-    FolderLog::open(folder).map_err(unopened)
-}
 
 /// Has the node carry out the log again, and cuts off an entry that is cut short at its end. Then it syncs the log,
 /// writes it anew, if most of it is no longer needed, and begins an epoch of the node. Returns where the log ends,
 /// which is synced. How many bytes it cut off is said on `err`, and why the log was not written anew.
 ///
-/// If the log is damaged, has the form of before, or is not this node's, it is left as it is.
+/// If the log is damaged, has the form of before, or is not this node's, it is left as it is. The clause `fails` says
+/// what the log keeps after each fault.
 pub fn start_with<L: StoredLog, E: Write>(
     alloc: Global,
     log: &mut L,
     node: &mut Node,
     err: &mut E,
 ) -> Result<LogEnd, Fault>
-    ensures starts { (names : FileOfNames) (number : ℕ) (disk : List ℕ) → IsNewNode names number node.old
-        → L.written log.old ≡ Some disk
-        → IfOk result (λ end. IsStart names number disk node.new end.chain.state (L.kept log.new)) }
+    ensures starts { (names : FileOfNames) (number : ℕ) → IsNewNode names number node.old
+        → IfOk result (λ end.
+        HasStarted names number (L.written log.old) node.new end.chain.state (L.kept log.new)) }
+    ensures fails { (names : FileOfNames) (number : ℕ) → IsNewNode names number node.old
+        → IfErr result (IsFailedStart names number (L.written log.old) (L.kept log.old) (L.kept log.new)) }
     ensures refused { IfErr result (λ fault. IsRefusal fault
         → (L.written log.new ≡ L.written log.old) × (L.kept log.new ≡ L.kept log.old)) }
     ensures synced { OnOk result (L.kept log.new ≡ L.written log.new) }
-    ensures fails { IfErr result IsStartFault }
+    ensures fault { IfErr result IsStartFault }
 {
     refuse_old_form(log)?;
     let end = recover(alloc, log, node)?;
@@ -86,7 +55,7 @@ pub fn start_with<L: StoredLog, E: Write>(
 
 // Fails with `OldForm` if the log has an older form.
 fn refuse_old_form<L: StoredLog>(log: &L) -> Result<(), Fault>
-    ensures { IfErr result IsStartFault }
+    ensures { IfErr result IsReadFault }
 {
     let mut reader = log.read().map_err(unopened)?;
     let mut head = [0; HEAD_LENGTH];
@@ -109,7 +78,7 @@ fn refuse_old_form<L: StoredLog>(log: &L) -> Result<(), Fault>
 fn recover<L: StoredLog>(alloc: Global, log: &L, node: &mut Node) -> Result<LogEnd, Fault>
     ensures recovered { IfOk result
         (λ end. HasRecovered CarriesOutEntry node.old node.new (L.written log.now) (Ok end)) }
-    ensures fails { IfErr result IsStartFault }
+    ensures reads { IfErr result IsReadFault }
 {
     let reader = log.read().map_err(unopened)?;
     match BufReader::with_capacity(alloc, LOG_BUFFER, reader) {
@@ -120,35 +89,52 @@ fn recover<L: StoredLog>(alloc: Global, log: &L, node: &mut Node) -> Result<LogE
 
 // Cuts the log behind so many bytes, and syncs it. Says on `err` how many bytes it cut off.
 fn cut_behind<L: StoredLog, E: Write>(log: &mut L, length: u64, err: &mut E) -> Result<(), Fault>
-    ensures cut { OnOk result (IsFrontOf length (L.written log.old) (L.kept log.new)) }
+    ensures cut { HasCut length (L.written log.old) (L.kept log.old) (L.kept log.new) result }
     ensures synced { OnOk result (L.kept log.new ≡ L.written log.new) }
     ensures kind { IfErr result (λ fault. IsRefusal fault → ⊥) }
-    ensures fails { IfErr result IsStartFault }
+    ensures fault { IfErr result IsStartFault }
 {
-    let cut = log.cut(length).map_err(Fault::Unopened)?;
+    let cut = match log.cut(length) {
+        Ok(cut) => cut,
+        Err(error) => return Err(Fault::Unopened(error)),
+    };
     if cut > 0 {
-        let _ = writeln!(
-            err,
-            "casd: the log's last entry was cut short; {cut} bytes were cut off"
-        );
+        tell_cut(err, cut);
     }
-    log.sync().map_err(Fault::LogLost)
+    match log.sync() {
+        Ok(()) => Ok(()),
+        Err(error) => Err(Fault::LogLost(error)),
+    }
+}
+
+// Says on `err` how many bytes were cut off. A write that fails is ignored.
+fn tell_cut<E: Write>(err: &mut E, cut: u64) {
+    let _ = writeln!(
+        err,
+        "casd: the log's last entry was cut short; {cut} bytes were cut off"
+    );
 }
 
 // Begins an epoch of the node, and appends the entries of this to the log that ends there. Returns where it ends then.
 fn begin<L: Log>(alloc: Global, log: &mut L, node: &mut Node, end: LogEnd) -> Result<LogEnd, Fault>
     requires { L.kept log.old ≡ L.written log.old }
-    ensures begun { IfOk result (λ then.
-        IsBegun node.old node.new end.chain.state then.chain.state (L.kept log.old) (L.kept log.new)) }
+    ensures begun { HasBegun node.old node.new end (L.kept log.old) (L.kept log.new) result }
     ensures synced { OnOk result (L.kept log.new ≡ L.written log.new) }
     ensures kind { IfErr result (λ fault. IsRefusal fault → ⊥) }
-    ensures fails { IfErr result IsStartFault }
+    ensures fault { IfErr result IsStartFault }
 {
     let mut end = end;
-    let entries = node.start().map_err(Fault::Stopped)?;
-    let more = append_entries(alloc, log, &mut end.chain, &entries).map_err(Fault::LogLost)?;
-    end.length = end.length.saturating_add(more);
-    Ok(end)
+    let entries = match node.start() {
+        Ok(entries) => entries,
+        Err(error) => return Err(Fault::Stopped(error)),
+    };
+    match append_entries(alloc, log, &mut end.chain, &entries) {
+        Ok(more) => {
+            end.length = end.length.saturating_add(more);
+            Ok(end)
+        }
+        Err(error) => Err(Fault::LogLost(error)),
+    }
 }
 
 /// Writes the log that ends there anew, if that is worth it and the node may do so now. The log is synced. Returns
@@ -168,7 +154,7 @@ pub fn write_anew<L: RewritableLog, E: Write>(
     ensures rewritten { HasWrittenAnew node.now (L.kept log.old) end (L.kept log.new) result }
     ensures synced { OnOk result (L.kept log.new ≡ L.written log.new) }
     ensures kind { IfErr result (λ fault. IsRefusal fault → ⊥) }
-    ensures fails { IfErr result IsStartFault }
+    ensures fault { IfErr result IsStartFault }
 {
     let _ = log.remove_second();
     if !is_worth_rewriting(end.length, node.needed_bytes()) {
@@ -198,7 +184,7 @@ fn exchange<L: RewritableLog, E: Write>(
         → HasWrittenAnew node (L.kept log.old) end (L.kept log.new) result }
     ensures synced { OnOk result (L.kept log.new ≡ L.written log.new) }
     ensures kind { IfErr result (λ fault. IsRefusal fault → ⊥) }
-    ensures fails { IfErr result IsStartFault }
+    ensures fault { IfErr result IsStartFault }
 {
     match rewrite_log(alloc, log, entries) {
         Ok(Rewriting::Done(anew)) => Ok(anew),

@@ -1,20 +1,25 @@
 //! The program, generic over its input and its writers.
-ghost use Rattle.std.specs.Prelude.{◌≡◌, ℕ, List, Some, OnOk, IfOk};
+ghost use Rattle.std.specs.Prelude.{◌≡◌, ℕ, List, OnOk, map, string_bytes};
 ghost use Rattle.std.specs.Io.Buffered.{reader_remaining};
+ghost use Rattle.cluster_file.specs.File.{IsLawfulFile};
 ghost use Rattle.deeds.specs.Kept.{FileOfNames};
 ghost use Rattle.processes.specs.Events.{IsNewNode};
+ghost use Rattle.words.specs.Word.{Word};
+ghost use Rattle.casd.specs.Ending.{EndsBy, HasRunNode, Prints, RunsNode};
+ghost use Rattle.casd.specs.Fault.{status_of};
 ghost use Rattle.casd.specs.Program.{HasRun, HasServed, HasServedOnce};
+ghost use Rattle.casd.specs.Request.{Spells};
 
 use crate::arguments::{Request, read_request};
 use crate::fault::Fault;
-use crate::lock::LockFile;
-use crate::opening::{open_log, read_file, start_with, write_anew};
+use crate::files::{GivenFiles, open_log, read_file};
+use crate::opening::{start_with, write_anew};
+use cluster_file::ClusterFile;
 use node::Node;
 use node_store::{LogEnd, RewritableLog, ServeError, StoredLog, serve_frames};
 use std::alloc::Global;
 use std::io;
 use std::io::{BufReader, ErrorKind, Read, Write};
-use std::rt::Files;
 
 // The size of the buffer of the input, in bytes: that of a pipe.
 const INPUT_BUFFER: usize = 65_536;
@@ -25,47 +30,82 @@ One node of a cluster. FILE is the cluster file, NODE the number of the node, an
 its folder, which must exist. The node keeps its log there, in the file `log`. Frames come
 in on standard input and go out on standard output; a host moves them.
 
-The status is 0 at the end of the input, 2 for wrong arguments or a bad cluster file, and
-1 for anything else, such as a folder in which another process runs, or a log that is
-damaged or cannot be written.";
+The status is 0 at the end of the input, 2 for wrong arguments or a bad cluster file, 3
+if the log could not be written, and 1 for anything else, such as a folder in which
+another process runs, or a log that is damaged.";
+
+const VERSION: &str = "casd 1";
 
 /// Carries out the words after the program's name, and returns the exit status. It is 0 at the end of the input, and
 /// otherwise that of the fault, whose text goes to `err`.
-pub fn run_words<R: Files + AllocGlobal, I: Read + Drop, O: Write, E: Write>(
-    rt: &R,
+pub fn run_words<G: GivenFiles, I: Read + Drop, O: Write, E: Write>(
+    alloc: Global,
+    files: &G,
     words: &[String],
     input: I,
     output: &mut O,
     err: &mut E,
 ) -> u8
-where
-    R::File: LockFile,
+    ensures { EndsBy (G.given files.now) (G.found files.now) (I.remaining input) (map string_bytes words.now)
+        (O.contents output.old) (O.contents output.new) result }
 {
-    let done = match read_request(words) {
-        Ok(Request::Help) => print_line(output, HELP),
-        Ok(Request::Version) => print_line(output, "casd 1"),
-        Ok(
-            Request::Run {
-                file,
-                number,
-                folder,
-            },
-        ) => run_node(rt, file, number, folder, input, output, err),
-        Err(fault) => Err(fault),
-    };
-    match done {
-        Ok(()) => 0,
+    match read_request(words) {
+        Ok(request) => carry_out(alloc, files, request, input, output, err),
         Err(fault) => fault.report(err),
     }
 }
 
-fn print_line<O: Write>(output: &mut O, text: &str) -> Result<(), Fault> {
-    writeln!(output, "{text}").map_err(Fault::OutputLost)
+// Carries out what the words ask for, and returns the exit status.
+fn carry_out<G: GivenFiles, I: Read + Drop, O: Write, E: Write>(
+    alloc: Global,
+    files: &G,
+    request: Request<'_>,
+    input: I,
+    output: &mut O,
+    err: &mut E,
+) -> u8
+    ensures { (words : List Word) → Spells words request.entry
+        → EndsBy (G.given files.now) (G.found files.now) (I.remaining input) words
+        (O.contents output.old) (O.contents output.new) result }
+{
+    match request {
+        Request::Help => print_line(output, err, HELP),
+        Request::Version => print_line(output, err, VERSION),
+        Request::Run {
+            file,
+            number,
+            folder,
+        } => {
+            let done = run_node(alloc, files, file, number, folder, input, output, err);
+            end(done, err)
+        }
+    }
+}
+
+// Prints a text and a line feed, and returns the exit status.
+fn print_line<O: Write, E: Write>(output: &mut O, err: &mut E, text: &str) -> u8
+    ensures { Prints text.now (O.contents output.old) (O.contents output.new) result }
+{
+    match output.writeln(text) {
+        Ok(()) => 0,
+        Err(error) => Fault::OutputLost(error).report(err),
+    }
+}
+
+// Returns the exit status, and says on `err` why the run failed, if it did.
+fn end<E: Write>(done: Result<(), Fault>, err: &mut E) -> u8
+    ensures { result ≡ status_of done }
+{
+    match done {
+        Ok(()) => 0,
+        Err(why) => why.report(err),
+    }
 }
 
 // The node of this number runs until its input ends.
-fn run_node<R: Files + AllocGlobal, I: Read + Drop, O: Write, E: Write>(
-    rt: &R,
+fn run_node<G: GivenFiles, I: Read + Drop, O: Write, E: Write>(
+    alloc: Global,
+    files: &G,
     file: &str,
     number: u8,
     folder: &str,
@@ -73,13 +113,35 @@ fn run_node<R: Files + AllocGlobal, I: Read + Drop, O: Write, E: Write>(
     output: &mut O,
     err: &mut E,
 ) -> Result<(), Fault>
-where
-    R::File: LockFile,
+    ensures { RunsNode number (G.given files.now file.now) (G.found files.now folder.now) (I.remaining input)
+        (O.contents output.old) (O.contents output.new) result }
 {
-    let file = read_file(rt, file, number)?;
-    let mut node = Node::new(rt.alloc(), file, number);
-    let mut log = open_log(rt, folder)?;
-    start_and_serve(rt.alloc(), &mut node, &mut log, input, output, err)
+    let file = match read_file(alloc, files, file, number) {
+        Ok(file) => file,
+        Err(fault) => return Err(fault),
+    };
+    let mut log = match open_log(files, folder) {
+        Ok(log) => log,
+        Err(fault) => return Err(fault),
+    };
+    run_log(alloc, file, number, &mut log, input, output, err)
+}
+
+// A new node of this number runs with this log until its input ends.
+fn run_log<L: StoredLog, I: Read + Drop, O: Write, E: Write>(
+    alloc: Global,
+    file: ClusterFile,
+    number: u8,
+    log: &mut L,
+    input: I,
+    output: &mut O,
+    err: &mut E,
+) -> Result<(), Fault>
+    ensures { IsLawfulFile file → HasRunNode file number (L.written log.old) (L.kept log.old) (I.remaining input)
+        (O.contents output.old) (L.kept log.new) (O.contents output.new) result }
+{
+    let mut node = Node::new(alloc, file, number);
+    start_and_serve(alloc, &mut node, log, input, output, err)
 }
 
 // Starts the node with its log, and serves until the input ends.
@@ -91,12 +153,14 @@ fn start_and_serve<L: StoredLog, I: Read + Drop, O: Write, E: Write>(
     output: &mut O,
     err: &mut E,
 ) -> Result<(), Fault>
-    ensures { (names : FileOfNames) (number : ℕ) (disk : List ℕ) → IsNewNode names number node.old
-        → L.written log.old ≡ Some disk
-        → HasRun names number disk (I.remaining input) (O.contents output.old) node.new (L.kept log.new)
-        (O.contents output.new) result }
+    ensures { (names : FileOfNames) (number : ℕ) → IsNewNode names number node.old
+        → HasRun names number (L.written log.old) (L.kept log.old) (I.remaining input) (O.contents output.old)
+        node.new (L.kept log.new) (O.contents output.new) result }
 {
-    let end = start_with(alloc, log, node, err)?;
+    let end = match start_with(alloc, log, node, err) {
+        Ok(end) => end,
+        Err(fault) => return Err(fault),
+    };
     match BufReader::with_capacity(alloc, INPUT_BUFFER, input) {
         Ok(mut input) => serve(alloc, node, &mut input, output, log, end, err),
         Err(_) => Err(Fault::NoMemory),

@@ -1,8 +1,39 @@
-use Rattle.casd.proofs.StartLemmas.{started}
+use Rattle.std.proofs.lemmas.Result.{err_from_is_err_and}
+use Rattle.casd.proofs.FailedStartLemmas.{begun_fails, begun_starts, uncut, unexchanged, unread}
 use Rattle.casd.proofs.opening.start_with.Goals as goal
 
+pub returns-in_err-refuse_old_form-clause-fails : goal.returns-in_err-refuse_old_form-clause-fails
+returns-in_err-refuse_old_form-clause-fails g c =
+    let p = err_from_is_err_and c.from_residual.result c.from_residual.ensures.1 in
+    rw (p.1, p.2) (λ names number is_new. unread names number _ _ c.in_err-refuse_old_form.field-0.0 c.in_err-refuse_old_form.ensures)
+
+pub returns-in_err-end-clause-fails : goal.returns-in_err-end-clause-fails
+returns-in_err-end-clause-fails g c =
+    let p = err_from_is_err_and c.from_residual-in_err-end.result c.from_residual-in_err-end.ensures.1 in
+    rw (p.1, p.2) (λ names number is_new. unread names number _ _ c.in_err-end.field-0.0 c.in_err-end.ensures.reads)
+
+pub returns-in_err-cut_behind-clause-fails : goal.returns-in_err-cut_behind-clause-fails
+returns-in_err-cut_behind-clause-fails g c =
+    let p = err_from_is_err_and c.from_residual-in_err-cut_behind.result c.from_residual-in_err-cut_behind.ensures.1 in
+    rw (p.1, p.2) (λ names number is_new.
+    uncut (Unit {0}) names number _ _ _ c.args.node.now c.recover.new.node c.in_ok-end.end c.in_err-cut_behind.field-0.0 is_new
+    c.in_ok-end.ensures.recovered c.in_err-cut_behind.ensures.cut)
+
+pub returns-in_err-end-2-clause-fails : goal.returns-in_err-end-2-clause-fails
+returns-in_err-end-2-clause-fails g c =
+    let p = err_from_is_err_and c.from_residual-in_err-end-2.result c.from_residual-in_err-end-2.ensures.1 in
+    rw (p.1, p.2) (λ names number is_new.
+    unexchanged names number _ _ _ _ c.args.node.now c.recover.new.node c.in_ok-end.end c.in_err-end-2.field-0.0 is_new
+    c.in_ok-end.ensures.recovered c.in_ok-cut_behind.ensures.cut c.in_err-end-2.ensures.rewritten)
+
 pub returns-clause-starts : goal.returns-clause-starts
-returns-clause-starts g c = λ names number disk is_new found.
-    started names number disk c.args.node.now c.recover.new.node c.begin.new.node c.in_ok-end.end c.in_ok-end-2.end
-    c.begin.result _ _ _ _ is_new found c.in_ok-end.ensures.recovered c.in_ok-cut_behind.ensures.cut c.in_ok-end-2.ensures.rewritten
+returns-clause-starts g c = λ names number is_new.
+    begun_starts names number c.begin.result _ _ _ _ c.args.node.now c.recover.new.node c.begin.new.node c.in_ok-end.end
+    c.in_ok-end-2.end is_new c.in_ok-end.ensures.recovered c.in_ok-cut_behind.ensures.cut c.in_ok-end-2.ensures.rewritten
+    c.begin.ensures.begun
+
+pub returns-clause-fails : goal.returns-clause-fails
+returns-clause-fails g c = λ names number is_new.
+    begun_fails names number c.begin.result _ _ _ _ _ c.args.node.now c.recover.new.node c.begin.new.node c.in_ok-end.end
+    c.in_ok-end-2.end is_new c.in_ok-end.ensures.recovered c.in_ok-cut_behind.ensures.cut c.in_ok-end-2.ensures.rewritten
     c.begin.ensures.begun

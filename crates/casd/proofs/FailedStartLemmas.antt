@@ -1,0 +1,132 @@
+-- What the log keeps if a start of the program fails.
+use Rattle.std.proofs.Common.{◌≡◌, ◌≤◌, ℕ, List, length, take, None, Some, Result, Ok, Err, IfOk, IfErr}
+use Rattle.std.proofs.Common.{refl, sym, subst, ap, ◌∙◌, inl, inr, arith, length-append}
+use Rattle.deeds.specs.Kept.{FileOfNames}
+use Rattle.node.specs.Recovering.{CarriesOutEntry}
+use Rattle.node.specs.declared.node.Node.{Node}
+use Rattle.node_log.specs.Entry.{first_chain}
+use Rattle.node_store.specs.Disk.{IsFrontOf}
+use Rattle.node_store.specs.Recovery.{HasRecovered, log_bytes}
+use Rattle.node_store.specs.declared.end.LogEnd.{LogEnd}
+use Rattle.processes.specs.Events.{IsNewNode}
+use Rattle.processes.specs.Programs.{IsHalfRewritten, IsPerhapsRewritten}
+use Rattle.casd.specs.Fault.{IsReadFault, IsStartFault}
+use Rattle.casd.specs.Opening.{HasBegun, HasCut, HasStarted, HasWrittenAnew, IsFailedStart}
+use Rattle.casd.specs.declared.fault.Fault.{Fault}
+use Rattle.casd.specs.declared.fault.Fault.TheVariants as faults
+use Rattle.casd.proofs.CutLemmas.{Known}
+use Rattle.casd.proofs.StartLemmas.{started}
+
+pub read_starts : (fault : Fault) → IsReadFault fault → IsStartFault fault
+read_starts faults.OldForm is = tt
+read_starts (faults.BadLog error) is = tt
+read_starts (faults.Unopened error) is = tt
+read_starts faults.NoMemory is = tt
+read_starts _ is = absurd is
+
+-- the log was not carried out again, and not changed
+pub unread : (names : FileOfNames) (number : ℕ) (found kept : Known) (fault : Fault) → IsReadFault fault →
+    IsFailedStart names number found kept kept fault
+unread names number None kept fault is = read_starts fault is
+unread names number (Some disk) kept faults.OldForm is = refl
+unread names number (Some disk) kept (faults.BadLog error) is = refl
+unread names number (Some disk) kept (faults.Unopened error) is = inl refl
+unread names number (Some disk) kept faults.NoMemory is = refl
+unread names number (Some disk) kept _ is = absurd is
+
+-- what a new node carried out of a log
+
+-- the entries have no more bytes than the log
+within_log : (new copy : Node) (disk : List ℕ) (end : LogEnd) → HasRecovered CarriesOutEntry new copy (Some disk) (Ok end) →
+    end.length ≤ length disk
+within_log new copy disk end (entries, (all, folds, long, (rest, begins, ends)), chained) =
+    let lengths = ap length begins ∙ length-append (log_bytes first_chain entries) rest in omega arith
+
+-- the log was not cut, or not for sure
+pub uncut : (T : Type 0) (names : FileOfNames) (number : ℕ) (found kept keeps : Known) (new copy : Node) (end : LogEnd)
+    (fault : Fault) → IsNewNode names number new → HasRecovered CarriesOutEntry new copy found (Ok end) →
+    HasCut {T = T} end.length found kept keeps (Err fault) → IsFailedStart names number found kept keeps fault
+uncut T names number None kept keeps new copy end (faults.Unopened error) is_new recovered cut = tt
+uncut T names number None kept keeps new copy end (faults.LogLost error) is_new recovered cut = tt
+uncut T names number None kept keeps new copy end _ is_new recovered cut = absurd cut
+uncut T names number (Some disk) kept keeps new copy end (faults.Unopened error) is_new recovered cut = inr (
+  copy,
+  end,
+  record { new = new; is_new = is_new; recovered = recovered },
+  cut disk refl (within_log new copy disk end recovered),
+)
+uncut T names number (Some disk) kept keeps new copy end (faults.LogLost error) is_new recovered cut = inl (
+  copy,
+  end,
+  record { new = new; is_new = is_new; recovered = recovered },
+  cut disk refl (within_log new copy disk end recovered),
+)
+uncut T names number (Some disk) kept keeps new copy end _ is_new recovered cut = absurd cut
+
+-- it is not known whether the log was exchanged
+pub unexchanged : (names : FileOfNames) (number : ℕ) (found kept cut keeps : Known) (new copy : Node) (end : LogEnd)
+    (fault : Fault) → IsNewNode names number new → HasRecovered CarriesOutEntry new copy found (Ok end) →
+    IsFrontOf end.length found cut → HasWrittenAnew copy cut end keeps (Err fault) →
+    IsFailedStart names number found kept keeps fault
+unexchanged names number None kept cut keeps new copy end (faults.NotExchanged error) is_new recovered front half = tt
+unexchanged names number None kept cut keeps new copy end _ is_new recovered front half = absurd half
+unexchanged names number (Some disk) kept cut keeps new copy end (faults.NotExchanged error) is_new recovered front half = (
+  copy,
+  end,
+  record { new = new; is_new = is_new; recovered = recovered },
+  subst (λ (old : Known). IsHalfRewritten copy old keeps) front half,
+)
+unexchanged names number (Some disk) kept cut keeps new copy end _ is_new recovered front half = absurd half
+
+-- the node was not started, or the log did not get the entries of the start
+pub unbegun : (names : FileOfNames) (number : ℕ) (found kept cut between keeps : Known) (new copy node : Node)
+    (end then : LogEnd) (fault : Fault) → IsNewNode names number new →
+    HasRecovered CarriesOutEntry new copy found (Ok end) → IsFrontOf end.length found cut →
+    IsPerhapsRewritten copy cut end between then → HasBegun copy node then between keeps (Err fault) →
+    IsFailedStart names number found kept keeps fault
+unbegun names number None kept cut between keeps new copy node end then (faults.Stopped error) is_new recovered front
+    renewed begun = tt
+unbegun names number None kept cut between keeps new copy node end then (faults.LogLost error) is_new recovered front
+    renewed begun = tt
+unbegun names number None kept cut between keeps new copy node end then _ is_new recovered front renewed begun = absurd begun
+unbegun names number (Some disk) kept cut between keeps new copy node end then (faults.Stopped error) is_new recovered front
+    renewed begun = (
+      copy,
+      end,
+      then,
+      record { new = new; is_new = is_new; recovered = recovered },
+      subst (λ (k : Known). IsPerhapsRewritten copy (Some (take end.length disk)) end k then) (sym begun)
+          (subst (λ (old : Known). IsPerhapsRewritten copy old end between then) front renewed),
+    )
+unbegun names number (Some disk) kept cut between keeps new copy node end then (faults.LogLost error) is_new recovered front
+    renewed begun = inr (
+      copy,
+      node,
+      end,
+      then,
+      between,
+      record { new = new; is_new = is_new; recovered = recovered },
+      subst (λ (old : Known). IsPerhapsRewritten copy old end between then) front renewed,
+      begun,
+    )
+unbegun names number (Some disk) kept cut between keeps new copy node end then _ is_new recovered front renewed begun =
+    absurd begun
+
+-- the last function of a start, which succeeds or fails
+pub begun_starts : (names : FileOfNames) (number : ℕ) (r : Result LogEnd Fault) (found cut kept keeps : Known)
+    (new copy node : Node) (end later : LogEnd) → IsNewNode names number new →
+    HasRecovered CarriesOutEntry new copy found (Ok end) → IsFrontOf end.length found cut →
+    IsPerhapsRewritten copy cut end kept later → HasBegun copy node later kept keeps r →
+    IfOk r (λ last. HasStarted names number found node last.chain.state keeps)
+begun_starts names number (Ok last) found cut kept keeps new copy node end later is_new recovered front renewed begun =
+    started names number found new copy node end later last cut kept keeps is_new recovered front renewed begun
+begun_starts names number (Err fault) found cut kept keeps new copy node end later is_new recovered front renewed begun = tt
+
+pub begun_fails : (names : FileOfNames) (number : ℕ) (r : Result LogEnd Fault) (found before cut kept keeps : Known)
+    (new copy node : Node) (end later : LogEnd) → IsNewNode names number new →
+    HasRecovered CarriesOutEntry new copy found (Ok end) → IsFrontOf end.length found cut →
+    IsPerhapsRewritten copy cut end kept later → HasBegun copy node later kept keeps r →
+    IfErr r (IsFailedStart names number found before keeps)
+begun_fails names number (Ok last) found before cut kept keeps new copy node end later is_new recovered front renewed begun = tt
+begun_fails names number (Err fault) found before cut kept keeps new copy node end later is_new recovered front renewed begun =
+    unbegun names number found before cut kept keeps new copy node end later fault is_new recovered front renewed begun

@@ -1,0 +1,11 @@
+use Rattle.std.proofs.Common.{inr}
+use Rattle.casd.proofs.program.run_node.Goals as goal
+
+pub returns : goal.returns
+returns g c = inr (inr (
+  c.in-Ok.file,
+  c.in-Ok-open_log.log.kept,
+  c.run_log.new.log.kept,
+  c.in-Ok.ensures,
+  rw (← c.in-Ok-open_log.ensures.found) (c.run_log.ensures c.in-Ok.ensures.0.lawful),
+))

@@ -1,0 +1,84 @@
+//! The files that the program is given: the cluster file, and the log in its folder.
+ghost use Rattle.std.specs.Prelude.{◌≡◌, IfErr, IfOk};
+ghost use Rattle.cluster_file.specs.File.{IsLawfulFile};
+ghost use Rattle.casd.specs.Fault.{IsOpenFault};
+ghost use Rattle.casd.specs.Files.{HasReadFile};
+
+use crate::fault::Fault;
+use crate::folder::unopened;
+use cluster_file::{ClusterFile, read_cluster_file};
+use node_store::{DiskFolder, FolderLog};
+use std::alloc::Global;
+use std::io;
+
+/// The files and folders that the program is given names of.
+pub trait GivenFiles {
+    ghost use Rattle.std.specs.Prelude.{◌≡◌, ℕ, List, Option, None, Some, IfErr, IfOk};
+    ghost use Rattle.std.specs.Io.KnownBytes.{Keeps};
+
+    // The bytes of the file of a name, where they are known.
+    ghost given: { Self → (name : List ℕ) → Option (List ℕ) } = { λ _ name. None };
+
+    // The bytes of the file `log` in a folder, where they are known. If there is no such file, these are none.
+    ghost found: { Self → (folder : List ℕ) → Option (List ℕ) } = { λ _ folder. None };
+
+    /// A folder that is locked.
+    type Folder: DiskFolder + Drop;
+
+    /// Reads all bytes of the file of this name.
+    fn read_bytes(&self, name: &str) -> io::Result<Vec<u8>>
+        ensures { IfOk result (λ bytes. Keeps (given self.now name.now) (Some bytes.items)) };
+
+    /// Locks a folder. Fails with `InUse` if another process has the lock. Then nothing is changed.
+    fn lock(&self, folder: &str) -> Result<Self::Folder, Fault>
+        ensures found { IfOk result (λ taken. Self.Folder.found taken ≡ found self.now folder.now) }
+        ensures fault { IfErr result IsOpenFault };
+}
+
+/// Reads the cluster file of this name. Fails with `NoNode` if it has no node of this number.
+pub fn read_file<G: GivenFiles>(
+    alloc: Global,
+    files: &G,
+    name: &str,
+    number: u8,
+) -> Result<ClusterFile, Fault>
+    ensures { HasReadFile (G.given files.now name.now) number result }
+{
+    let text = match files.read_bytes(name) {
+        Ok(text) => text,
+        Err(error) => return Err(Fault::Unread(error)),
+    };
+    let file = match read_cluster_file(alloc, &text) {
+        Ok(file) => file,
+        Err(error) => return Err(Fault::BadFile(error)),
+    };
+    know_lawful(&file);
+    if file.has_node(number) {
+        Ok(file)
+    } else {
+        Err(Fault::NoNode(number))
+    }
+}
+
+// Does nothing. Each cluster file is lawful, and its contract says so.
+fn know_lawful(file: &ClusterFile)
+    ensures { IsLawfulFile file.now }
+{
+    let _ = file.nodes();
+}
+
+/// Locks the folder and opens the log in it. Fails with `InUse` if another process has the folder locked. Then nothing
+/// is changed.
+pub fn open_log<G: GivenFiles>(files: &G, folder: &str) -> Result<FolderLog<G::Folder>, Fault>
+    ensures found { IfOk result (λ log. log.written ≡ G.found files.now folder.now) }
+    ensures fault { IfErr result IsOpenFault }
+{
+    let taken = match files.lock(folder) {
+        Ok(taken) => taken,
+        Err(fault) => return Err(fault),
+    };
+    match FolderLog::open(taken) {
+        Ok(log) => Ok(log),
+        Err(error) => Err(unopened(error)),
+    }
+}
