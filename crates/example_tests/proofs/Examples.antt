@@ -1,5 +1,7 @@
 -- Worked examples.
 pub mod BankRowLemmas
+pub mod LostWriteLemmas
+pub mod LostWriteStepLemmas
 pub mod MissedWriteLemmas
 pub mod OneOverlapLemmas
 pub mod RestartedReadLemmas

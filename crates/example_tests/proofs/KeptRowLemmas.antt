@@ -45,11 +45,22 @@ wrote_rows point = after_pre_write None (opened_rows point) write_tag (letter_pi
 abbrev final_rows : (point : ℕ) → Rows
 final_rows point = after_finalize None (wrote_rows point) write_tag 0
 
+-- before that, it has kept its piece, and finalized no tag but the opening tag
+
+wrote_bank_keeps : (point : ℕ) → finmap.entries (wrote_bank point).rows ≡ wrote_rows point
+wrote_bank_keeps point =
+    pre_written_entries (opened_bank point None 0) (opened_rows point) write_tag (letter_piece point) 0 refl
+    (opened_entries point None 0)
+
+pub wrote_greatest : (point : ℕ) → greatest_final (wrote_bank point) ≡ opening_tag
+wrote_greatest point = greatest_from (wrote_bank point) (wrote_rows point) (wrote_bank_keeps point)
+
+pub wrote_opening_piece : (point : ℕ) → piece_of (wrote_bank point) opening_tag ≡ Some (empty_piece point)
+wrote_opening_piece point = piece_from (wrote_bank point) (wrote_rows point) opening_tag (wrote_bank_keeps point)
+
 final_bank_keeps : (point : ℕ) → finmap.entries (final_bank point).rows ≡ final_rows point
 final_bank_keeps point =
-    finalized_entries (wrote_bank point) (wrote_rows point) write_tag 0 refl
-    (pre_written_entries (opened_bank point None 0) (opened_rows point) write_tag (letter_piece point) 0 refl
-    (opened_entries point None 0))
+    finalized_entries (wrote_bank point) (wrote_rows point) write_tag 0 refl (wrote_bank_keeps point)
 
 pub final_greatest : (point : ℕ) → greatest_final (final_bank point) ≡ write_tag
 final_greatest point = greatest_from (final_bank point) (final_rows point) (final_bank_keeps point)

@@ -86,7 +86,7 @@ module _ (synced : List Strings) (last : Strings) where
 
 -- The log of the example
 
-synced_frames : AllByRecursion IsWholeEntry synced_entries
+pub synced_frames : AllByRecursion IsWholeEntry synced_entries
 synced_frames = (
   record {
     few = omega arith;
@@ -101,7 +101,7 @@ synced_frames = (
   ),
 )
 
-unsynced_frame : IsFrame unsynced_entry
+pub unsynced_frame : IsFrame unsynced_entry
 unsynced_frame = record { few = omega arith; short = (omega arith, (omega arith, (omega arith, (omega arith, tt)))) }
 
 pub is_left : IsLeft stopped_log 4 stopped_disk

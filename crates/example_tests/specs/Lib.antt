@@ -1,7 +1,10 @@
+pub mod EarlyEnd
 pub mod Forgetting
 pub mod Inventing
+pub mod LostEntry
 pub mod Moving
 pub mod NodeExamples
+pub mod ReadsOfProcesses
 pub mod RecordExamples
 pub mod RefinedExamples
 pub mod Scripts

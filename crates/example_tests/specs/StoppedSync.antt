@@ -1,8 +1,8 @@
 -- The contracts that docs/trusted.md lists do not depend on this file; other contracts and proofs do.
 -- A worked example of a node that stops while its log is synced: what is read of the log, and the run of the nodes.
-use Rattle.std.specs.Prelude.{◌≡◌, ◌==◌, ◌&&◌, if◌then◌else◌, ℕ, Bool, true, false, List, [], ◌∷◌, ◌++◌, None, Some}
-use Rattle.std.specs.Prelude.{map, take, replicate}
-use Rattle.std.specs.List.{AllByRecursion}
+use Rattle.std.specs.Prelude.{◌≡◌, ◌==◌, ◌&&◌, if◌then◌else◌, not, ℕ, Bool, true, false, List, [], ◌∷◌, ◌++◌}
+use Rattle.std.specs.Prelude.{Option, None, Some, get_or, map, take, replicate, slice_set}
+use Rattle.std.specs.List.{AllByRecursion, filter}
 use Rattle.bank.specs.declared.request.Request.{Request}
 use Rattle.bank.specs.declared.request.Request.TheVariants as request
 use Rattle.mail.specs.declared.message.Body.{Body}
@@ -17,7 +17,16 @@ use Rattle.node_messages.specs.Strings.{strings_of}
 use Rattle.node_log.specs.Entry.{chain_behind, first_chain, log_entry_bytes}
 use Rattle.node_log.specs.Reading.{IsEnd}
 use Rattle.node_store.specs.Recovery.{BeginsWith, IsWholeEntry, log_bytes}
+use Rattle.open_calls.specs.OpenCalls.{NodeCall}
+use Rattle.local_object.specs.Local.{LocalObject, bank_here}
+use Rattle.deeds.specs.Kept.{FileOfNames}
+use Rattle.node_keeper.specs.Keeping.{kept_of}
+use Rattle.node.specs.declared.node.Node.{Node}
+use Rattle.processes.specs.Events.{MayStart}
+use Rattle.processes.specs.Processes.{Process}
 use Rattle.network.specs.Events.{Event, world_after}
+use Rattle.network.specs.Premises.{MayHappenInTurn}
+use Rattle.network.specs.Worlds.{World}
 use Rattle.example_tests.specs.RecordExamples.{whole}
 use Rattle.example_tests.specs.Scripts.{letter, restarted, start, three_nodes, to_keep}
 use Rattle.example_tests.specs.NodeExamples.{read}
@@ -50,12 +59,16 @@ changes_of member (Event.Serve message ∷ events) =
     then message ∷ changes_of member events else changes_of member events
 changes_of member (event ∷ events) = changes_of member events
 
--- the entries that node 0 synced before the write was answered: the first names the cluster and the node, the second
+-- the entries that a node synced before the write was answered: the first names the cluster and the node, the second
 -- records its start, and the other two that it kept its piece and finalized the tag
+abbrev pub entries_of : (number : ℕ) → List Strings
+entries_of number =
+    record_strings (record_of.Cluster some_digest number) ∷ record_strings record_of.Start
+    ∷ map (served_entry (97 ∷ [])) (changes_of number write_to_two)
+
+-- those of node 0
 abbrev pub synced_entries : List Strings
-synced_entries =
-    record_strings (record_of.Cluster some_digest 0) ∷ record_strings record_of.Start
-    ∷ map (served_entry (97 ∷ [])) (changes_of 0 write_to_two)
+synced_entries = entries_of 0
 
 -- an entry about another object, of whose write node 0 was to keep a piece
 abbrev pub unsynced_entry : Strings
@@ -82,6 +95,28 @@ abbrev pub OnlySyncedAreRead : Type 0
 OnlySyncedAreRead = (read : List Strings) → AllByRecursion IsWholeEntry read
     → BeginsWith first_chain read IsEnd stopped_disk → read ≡ synced_entries
 
+-- The start from this log
+
+-- the process of node 0 as it stops: the first four entries of its log are synced
+abbrev pub stopped_process : Process
+stopped_process = record { running = None; log = stopped_log; synced = 4; frames = []; answers = [] }
+
+-- what a node keeps of the object of the write
+abbrev pub object_of : Node → LocalObject
+object_of node = (kept_of node.keeper).objects (97 ∷ [])
+
+-- the calls that other nodes than this one carry out
+abbrev pub calls_of_others : (number : ℕ) → List NodeCall → List NodeCall
+calls_of_others number calls = filter (λ (call : NodeCall). not (call.node == number)) calls
+
+-- the node of this number, which is the member of this number, has started again as `node`: its bank and its calls are
+-- what that keeps of the object; those of other nodes are as in this world
+abbrev pub restarted_as : (number : ℕ) → Node → World → Event
+restarted_as number node world =
+    Event.Restart number
+    (slice_set world.banks 0 (slice_set (get_or world.banks 0 []) number (bank_here (object_of node) 0 number)))
+    ((object_of node).calls ++ calls_of_others number world.calls)
+
 -- The run
 
 -- node 0 writes to the nodes 0 and 1, and the write is answered; node 0 stops and starts again with what it kept of
@@ -94,3 +129,17 @@ abbrev pub stop_after_write_entries : List Entry
 stop_after_write_entries =
     record { call = 7; kind = operation.Write; called = 1; answered = Some 26; value = Some letter }
     ∷ record { call = 3; kind = operation.Read; called = 28; answered = Some 49; value = Some letter } ∷ []
+
+-- the same events, but node 0 starts again as this node
+abbrev pub stop_after_write_as : Node → List Event
+stop_after_write_as node = write_to_two ++ (restarted_as 0 node (world_after whole write_to_two start) ∷ read 0)
+
+-- Whatever bytes the stop left of the log, and whichever node starts from them, also if it writes the log anew: the run
+-- meets all premises if node 0 starts again as this node, so the read returns the value. In the cluster file, all three
+-- nodes are members of the object, and banks keep all versions.
+abbrev pub StartedNodeHasWrite : Type 0
+StartedNodeHasWrite = (names : FileOfNames) (read : List Strings) (anew : Option (List Strings))
+    (new copy after : Node) → names.delta ≡ None → names.first (97 ∷ []) ≡ three_nodes →
+    MayStart names 0 stopped_process read anew new copy after →
+    MayHappenInTurn whole (stop_after_write_as after) start
+    × ((world_after whole (stop_after_write_as after) start).history ≡ stop_after_write_entries)

@@ -8,7 +8,7 @@ use Rattle.piece.specs.declared.piece.Piece.{Piece}
 use Rattle.bank.specs.declared.row.Row.{Row}
 use Rattle.bank.specs.Bank.{Bank, opened_bank, opening_row, pre_written, finalized, row_after_pre_write, row_after_finalize, piece_of_row}
 use Rattle.bank.specs.Collect.{emptied_row, kept_entry, collected, fetched_piece}
-use Rattle.bank.specs.Knowledge.{row_finalized, is_finalized, count_above, exceeds}
+use Rattle.bank.specs.Knowledge.{finalized_at, row_finalized, is_finalized, count_above, exceeds}
 use Rattle.bank.specs.Serve.{greatest_among, greatest_final}
 use Rattle.bank.proofs.CollectedBankLemmas.{entries-collected}
 use Rattle.bank.proofs.EntryOrderLemmas.{Rows}
@@ -101,3 +101,7 @@ fetched_from bank es tag none is =
     ∙ (ap (λ xs. cond (exceeds bank.delta (count_above is_finalized tag xs)) None (piece_of_row (finmap.get bank.rows tag))) is
     ∙ ap (λ o. cond (exceeds bank.delta (count_above is_finalized tag es)) None (piece_of_row o))
     (finmap.get-entries bank.rows tag ∙ ap (finmap.find tag_cmp tag) is))
+
+pub finalized_from : (bank : Bank) (es : Rows) (tag : Tag) → finmap.entries bank.rows ≡ es →
+    finalized_at bank tag ≡ row_finalized (finmap.find tag_cmp tag es)
+finalized_from bank es tag is = ap row_finalized (finmap.get-entries bank.rows tag ∙ ap (finmap.find tag_cmp tag) is)

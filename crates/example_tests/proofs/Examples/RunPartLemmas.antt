@@ -121,13 +121,16 @@ letter_is_value = ((omega arith, tt), letter_fits)
 abbrev pub letter : ℕ → Piece
 letter member = record { point = member; len = 1; bytes = 65 ∷ [] }
 
--- the value may be settled once the only member's piece was taken
-pub settles : (object : Object) (index : ℕ) {call : Call} {k len told taken : ℕ} {phase : Phase} →
-    Wants object index call (want.Settle k len) → current_phase call.phases ≡ Some phase →
+-- a value may be settled once the piece of member 0 was taken, if one piece is enough
+pub settles_with : (object : Object) (index : ℕ) (value : List ℕ) → IsValue value → {call : Call} {k len told taken : ℕ}
+    {phase : Phase} → Wants object index call (want.Settle k len) → current_phase call.phases ≡ Some phase →
     slice_get phase.replies 0
-    ≡ Some (record { member = 0; reply = record { step = told; answer = answer.Piece (Some (letter 0)) }; step = taken }) →
-    (layout_at object phase.position).k ≡ 1 → MaySettle whole object index (65 ∷ [])
-settles object index {phase = phase} wants current took one = record {
+    ≡ Some (record {
+      member = 0;
+      reply = record { step = told; answer = answer.Piece (Some (record { point = 0; len = length value; bytes = value })) };
+      step = taken;
+    }) → (layout_at object phase.position).k ≡ 1 → MaySettle whole object index value
+settles_with object index value is {phase = phase} wants current took one = record {
   call = _;
   k = _;
   len = _;
@@ -151,5 +154,13 @@ settles object index {phase = phase} wants current took one = record {
       tt,
     );
   };
-  is_value = letter_is_value;
+  is_value = is;
 }
+
+-- so may the value, once the only member's piece was taken
+pub settles : (object : Object) (index : ℕ) {call : Call} {k len told taken : ℕ} {phase : Phase} →
+    Wants object index call (want.Settle k len) → current_phase call.phases ≡ Some phase →
+    slice_get phase.replies 0
+    ≡ Some (record { member = 0; reply = record { step = told; answer = answer.Piece (Some (letter 0)) }; step = taken }) →
+    (layout_at object phase.position).k ≡ 1 → MaySettle whole object index (65 ∷ [])
+settles object index wants current took one = settles_with object index (65 ∷ []) letter_is_value wants current took one

@@ -58,7 +58,7 @@ move_letter = heard to_move_fetch 24 move_found (reply_of 2 3 0 (Fetch first_tag
 abbrev pub moved : Object
 moved = run whole to_move_answer 27 move_letter
 
-other_lawful : IsLawful other_member
+pub other_lawful : IsLawful other_member
 other_lawful =
     record { some = omega arith; enough = omega arith; few = (let few : 1 ≤ 255 = omega arith in few); distinct = other_distinct }
 
