@@ -1,8 +1,8 @@
-//! The log in a folder, over a folder in memory.
+//! The log in a folder, over a folder in memory; and a log and a writer that stop after so many calls.
 use crate::memory::MemoryFolder;
-use node_store::{FolderLog, Log, RewritableLog, StoredLog};
+use node_store::{FolderLog, Log, RewritableLog, StoppingLog, StoppingWriter, StoredLog};
 use std::alloc::Global;
-use std::io::Read;
+use std::io::{Read, Write};
 use std::process::Abort;
 
 // A log with these bytes.
@@ -50,4 +50,59 @@ fn exchange<R: Abort>(rt: &R, alloc: Global, keeps_renames: bool) {
 fn exchanges(rt: HostRuntime) {
     exchange(&rt, rt.alloc(), false);
     exchange(&rt, rt.alloc(), true);
+}
+
+// A log that carries out so many calls, of two appends, a sync and a cut.
+fn stop<R: Abort>(rt: &R, alloc: Global, left: u64, bytes: &[u8]) {
+    let mut log = StoppingLog {
+        log: opened(rt, alloc, b"one", false),
+        left,
+    };
+    assert_eq!(rt; log.append(b", two").is_ok(), left > 0);
+    assert_eq!(rt; log.append(b", three").is_ok(), left > 1);
+    assert_eq!(rt; log.sync().is_ok(), left > 2);
+    assert_eq!(rt; log.cut(2).is_ok(), left > 3);
+    has(rt, alloc, &log.log, bytes);
+}
+
+#[test]
+fn a_log_stops(rt: HostRuntime) {
+    stop(&rt, rt.alloc(), 0, b"one");
+    stop(&rt, rt.alloc(), 1, b"one, two");
+    stop(&rt, rt.alloc(), 3, b"one, two, three");
+    stop(&rt, rt.alloc(), 4, b"on");
+}
+
+// A log that carries out so many calls is exchanged for one with other bytes.
+fn stop_exchange<R: Abort>(rt: &R, alloc: Global, left: u64, bytes: &[u8]) {
+    let mut log = StoppingLog {
+        log: opened(rt, alloc, b"old", false),
+        left,
+    };
+    let mut second = log.begin_second().expect(rt, "memory");
+    second.append(b"new").expect(rt, "memory");
+    second.sync().expect(rt, "memory");
+    assert_eq!(rt; log.put_second(second).is_ok(), left > 1);
+    assert_eq!(rt; log.remove_second().is_ok(), left > 2);
+    has(rt, alloc, &log.log, bytes);
+}
+
+#[test]
+fn an_exchange_stops(rt: HostRuntime) {
+    stop_exchange(&rt, rt.alloc(), 1, b"old");
+    stop_exchange(&rt, rt.alloc(), 2, b"new");
+    stop_exchange(&rt, rt.alloc(), 3, b"new");
+}
+
+#[test]
+fn a_writer_stops(rt: HostRuntime) {
+    let mut output = StoppingWriter {
+        writer: Vec::new(rt.alloc()),
+        left: 2,
+    };
+    assert_eq!(&rt; output.write(b"one").expect(&rt, "memory"), 3);
+    output.flush().expect(&rt, "memory");
+    assert_eq!(&rt; output.write(b"two").is_err(), true);
+    assert_eq!(&rt; output.flush().is_err(), true);
+    assert_eq!(&rt; output.writer.as_slice(), b"one".as_slice());
 }

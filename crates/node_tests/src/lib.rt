@@ -34,3 +34,5 @@ mod objects;
 mod order;
 #[cfg(test)]
 mod pair;
+#[cfg(test)]
+mod rounds;
