@@ -20,6 +20,8 @@
 #include <sys/wait.h>
 #include <unistd.h>
 
+/* The status with which the node program ends when it could not write or sync its log. */
+enum { LOG_LOST = 3 };
 enum { TICKS_OF_A_REPORT = 100, LARGE = 128 << 10, GREETING = 1000 /* milliseconds */, MOST_READY = 256 };
 
 /* A descriptor that can be read each time that so many milliseconds have passed, or -1. */
@@ -147,7 +149,9 @@ static int stop(struct host *host, enum course course) {
         say("the node program was ended by signal %d", WTERMSIG(status));
     else
         say("the node program ended with status %d", WEXITSTATUS(status));
-    return course != STOPS;
+    if (course == STOPS)
+        return 0;
+    return WIFEXITED(status) && WEXITSTATUS(status) == LOG_LOST ? LOG_LOST : 1;
 }
 
 /* A large piece of memory goes back to the system as soon as it is freed. Without this the C library keeps more and

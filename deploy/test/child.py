@@ -11,7 +11,8 @@ quits    answers a command as echo does, closes the connection, and answers once
 big      answers each frame of a client with a bulk string of 1 MiB
 relay    writes the last string of each frame of a client as it is, by one write
 deaf     reads nothing
-status   ends at once with status 3
+status   ends at once with status 4
+lost     ends at once with status 3
 signal   ends at once by SIGKILL
 garbage  writes what is no frame
 nowhere  writes a frame whose address the host does not know
@@ -27,6 +28,8 @@ from frames import Frames, encode
 
 def at_once(kind):
     if kind == "status":
+        sys.exit(4)
+    if kind == "lost":
         sys.exit(3)
     if kind == "signal":
         os.kill(os.getpid(), signal.SIGKILL)

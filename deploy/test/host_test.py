@@ -12,13 +12,17 @@ from hosts import HOST, Host, processes_with
 
 
 class Endings(unittest.TestCase):
-    def ends(self, kind, wanted):
+    def ends(self, kind, wanted, status=1):
         host = Host(kind)
-        self.assertEqual(host.status(), 1)
+        self.assertEqual(host.status(), status)
         self.assertRegex(host.said(), wanted)
 
     def test_child_ends_with_a_status(self):
-        self.ends("status", "the node program ended with status 3\n")
+        self.ends("status", "the node program ended with status 4\n")
+
+    def test_child_has_lost_its_log(self):
+        """The unit of systemd does not start a host again that ends so."""
+        self.ends("lost", "the node program ended with status 3\n", status=3)
 
     def test_child_ends_without_a_fault(self):
         self.ends("cut", "the node program ended with status 0\n")

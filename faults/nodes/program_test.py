@@ -154,11 +154,11 @@ class Disk(Program):
             frames = command(b"SET", b"a", b"x" * 1000)
             length = self.node.log.stat().st_size
             status, written, said = self.node.run(frames, preexec_fn=small_files(length + room))
-            self.assertEqual((status, written, said), (1, b"", f"casd: {text}\n"), room)
+            self.assertEqual((status, written, said), (3, b"", f"casd: {text}\n"), room)
             self.assertEqual(self.node.answers(command(b"GET", b"a"), cut=room - start), [b"$1\r\n1\r\n"])
 
     def test_no_room_for_the_start(self):
-        self.fails(1, "cannot write the log: File too large (os error 27)", preexec_fn=small_files(10))
+        self.fails(3, "cannot write the log: File too large (os error 27)", preexec_fn=small_files(10))
         self.assertEqual(self.node.answers(PING, cut=10), [b"+PONG\r\n"])
 
 

@@ -144,7 +144,7 @@ class Rewriting(unittest.TestCase):
             self.reset()
             found = self.start(place + 1, "fail")
             text = "casd: cannot exchange the log: Input/output error (os error 5)\n"
-            self.assertEqual(found, (1, b"", text), CALLS[place])
+            self.assertEqual(found, (3, b"", text), CALLS[place])
             self.values_are_there(CALLS[place])
             self.is_short(CALLS[place])
 
