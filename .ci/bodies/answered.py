@@ -13,9 +13,18 @@ HEAD = "# Written by .ci/wrong-bodies: for each crate the wrong bodies that an a
 HEAD_OF_GOALS = "# Written by .ci/wrong-bodies: the goals that a wrong body leaves open, where there are several.\n"
 
 
+def still_there(noted, crate_with_edits):
+    """What was noted of the edits that a crate still has."""
+    _, edits = crate_with_edits
+    names = {it.name for it in edits}
+    return {name: goals for name, goals in noted.items() if name in names}
+
+
 class ByAnswer:
-    def __init__(self, path):
-        self.path, self.names = path, {}
+    """What the file says. Where the answers are not to be taken, a trial leaves out those that refused an edit."""
+
+    def __init__(self, path, are_taken=True):
+        self.path, self.names, self.are_taken = path, {}, are_taken
         if os.path.isfile(path):
             with open(path, encoding="utf-8") as file:
                 rows = [line.split() for line in file if line.strip() and not line.startswith("#")]
@@ -30,19 +39,26 @@ class ByAnswer:
     def of(self, crate):
         return self.names.get(crate.name, {})
 
+    def taken_of(self, crate):
+        return self.of(crate) if self.are_taken else {}
+
+    def left_out_of(self, crate):
+        return {} if self.are_taken else self.of(crate)
+
     def enter(self, crate, results):
         """Notes of each edit that was tried whether an answer refused it, and for which goals."""
         tried = {it.edit.name for it in results}
         kept = {name: goals for name, goals in self.of(crate).items() if name not in tried}
         self.names[crate.name] = kept | {it.edit.name: it.answers for it in results if it.by_answer}
 
-    def write(self, crates):
-        """Writes the lines of the crates that have wrong bodies, in the order of their names."""
+    def write(self, with_edits):
+        """Writes a line for each crate, with those of its edits that are still there, in the order of their names."""
         with open(self.path, "w", encoding="utf-8") as file:
             file.write(HEAD)
-            for crate in sorted(it for it in crates if self.names.get(it)):
-                words = [":".join([name, ",".join(goals)] if goals else [name]) for name, goals in sorted(self.names[crate].items())]
-                file.write(f"{' '.join([crate, *words])}\n")
+            for crate in sorted(with_edits):
+                known = sorted(still_there(self.names.get(crate, {}), with_edits[crate]).items())
+                words = [":".join([name, ",".join(goals)] if goals else [name]) for name, goals in known]
+                file.writelines([f"{' '.join([crate, *words])}\n"] if words else [])
 
 
 class OpenGoals:
@@ -69,9 +85,10 @@ class OpenGoals:
         kept = {edit: goals for edit, goals in self.of(crate).items() if edit not in tried}
         self.goals[crate.name] = kept | {it.edit.name: it.goals for it in results if it.is_refused() and len(it.goals) > 1}
 
-    def write(self, crates):
-        """Writes the lines of the crates that have wrong bodies, in the order of their names."""
+    def write(self, with_edits):
+        """Writes the lines of the edits that are still there, in the order of the names of crates and edits."""
         with open(self.path, "w", encoding="utf-8") as file:
             file.write(HEAD_OF_GOALS)
-            rows = [(it, *edit) for it in sorted(crates) for edit in sorted(self.goals.get(it, {}).items())]
-            file.writelines(f"{crate} {edit} {' '.join(goals)}\n" for crate, edit, goals in rows)
+            for crate in sorted(with_edits):
+                known = still_there(self.goals.get(crate, {}), with_edits[crate])
+                file.writelines(f"{crate} {edit} {' '.join(goals)}\n" for edit, goals in sorted(known.items()))

@@ -5,7 +5,7 @@ import tempfile
 from dataclasses import dataclass, replace
 
 from copies import Copy, can_go_without_search, copies_of, copy_proofs, is_bare, leave_goals_open, leave_open
-from copies import without_bodies, without_search
+from copies import leave_out_answers, without_bodies, without_search
 from edits import edited_texts, read
 from joint import Joint
 from kit import rtlib, run_prover, start_above, words_above
@@ -56,6 +56,7 @@ class Trial:
         self.joint, self.is_first = joint or Joint([crate.name]), True
         self.by_answer = set(by_answer)  # the names of the edits that were refused so when they were last tried
         self.goals = dict(goals)  # by an edit's name the goals that were open then, if there were several
+        self.without_answers = {}  # by an edit's name the goals of its function for which a search is made, and no answer taken
         self.seconds, self.checks = 0.0, 0
         self.kept = None
 
@@ -75,6 +76,9 @@ class Trial:
             leave_open(room, self.crate.name, function)
         for edit in (it for it in edits if it not in unsearched and self.leaves_out(it)):
             leave_goals_open(room, self.crate.name, edit.functions[0], self.goals[edit.name][1:])
+        for edit in (it for it in edits if it.name in self.without_answers and not is_bare(it)):
+            for function in edit.functions:
+                leave_out_answers(room, function, self.without_answers[edit.name])
 
     def without_edit(self, edits):
         edited = {function for edit in edits for function in edit.functions}

@@ -112,6 +112,23 @@ def leave_goals_open(room, crate, function, goals):
         file.writelines(f"\npub {it} : goal.{it}\n{it} = ?\n" for it in goals)
 
 
+def leave_out_answers(room, function, goals):
+    """Takes away what was written by hand for the proofs of these goals of a function: from the line of each one's type up
+    to its last line."""
+    path = f"{room}/{function.proofs()}/Answers.antt"
+    if os.path.isfile(path):
+        with open(path, encoding="utf-8") as file:
+            items = re.split(r"\n(?=\S)", file.read())
+        kept, left = [], ""
+        for item in items:
+            name = re.match(r"(?:pub )?(\S*)", item)[1]
+            left = name if item.startswith("pub ") and name in goals else "" if name in goals else left
+            if not left and name not in goals:
+                kept.append(item)
+        with open(path, "w", encoding="utf-8") as file:
+            file.write("\n".join(kept).rstrip("\n") + "\n")
+
+
 def leave_open(room, crate, function):
     """Leaves a hole for a function's proof."""
     folder = f"{room}/{function.proofs()}"
