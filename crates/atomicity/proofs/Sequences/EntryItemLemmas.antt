@@ -51,36 +51,31 @@ pub record IsItemOf (entries : List Entry) (tags : ℕ → Option Tag) (x : Item
   pub kept : IsKept x
   pub answered : x.reads ≡ 1 → (step : ℕ) × (x.entry.answered ≡ Some step)
 
+-- the item of an entry with this tag and value: of an answered read (1), or of a write (0)
+abbrev pub item_at : (index : ℕ) → Entry → (reads : ℕ) → (value : List ℕ) → Tag → Item
+item_at index entry reads value tag = record {
+  number = suc index;
+  tag = tag;
+  reads = reads;
+  called = entry.called;
+  value = value;
+  entry = entry;
+}
+
 -- the item of an entry, if it has one
 abbrev pub choose : (index : ℕ) → Entry → Operation → Option ℕ → Option (List ℕ) → Option Tag → Option Item
-choose index entry operation.Read (Some step) (Some value) (Some tag) = Some (record {
-  number = suc index;
-  tag = tag;
-  reads = 1;
-  called = entry.called;
-  value = value;
-  entry = entry;
-})
-choose index entry operation.Write answered (Some value) (Some tag) = Some (record {
-  number = suc index;
-  tag = tag;
-  reads = 0;
-  called = entry.called;
-  value = value;
-  entry = entry;
-})
+choose index entry operation.Read (Some step) (Some value) (Some tag) = Some (item_at index entry 1 value tag)
+choose index entry operation.Write answered (Some value) (Some tag) = Some (item_at index entry 0 value tag)
 choose index entry _ _ _ _ = None
 
 pub choose_read : (index : ℕ) (entry : Entry) (kind : Operation) (answered : Option ℕ) (returned : Option (List ℕ)) (tag : Option Tag)
     (step : ℕ) (value : List ℕ) (t : Tag) → kind ≡ operation.Read → answered ≡ Some step → returned ≡ Some value → tag ≡ Some t →
-    choose index entry kind answered returned tag
-    ≡ Some (record { number = suc index; tag = t; reads = 1; called = entry.called; value = value; entry = entry })
+    choose index entry kind answered returned tag ≡ Some (item_at index entry 1 value t)
 choose_read index entry kind answered returned tag step value t k a v e = rw (k, a, v, e) refl
 
 pub choose_write : (index : ℕ) (entry : Entry) (kind : Operation) (answered : Option ℕ) (written : Option (List ℕ)) (tag : Option Tag)
     (value : List ℕ) (t : Tag) → kind ≡ operation.Write → written ≡ Some value → tag ≡ Some t →
-    choose index entry kind answered written tag
-    ≡ Some (record { number = suc index; tag = t; reads = 0; called = entry.called; value = value; entry = entry })
+    choose index entry kind answered written tag ≡ Some (item_at index entry 0 value t)
 choose_write index entry kind answered written tag value t k v e = rw (k, v, e) refl
 
 abbrev pub item_of : (ℕ → Option Tag) → ℕ → Entry → Option Item
