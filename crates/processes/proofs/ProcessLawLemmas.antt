@@ -2,6 +2,8 @@
 use Rattle.std.proofs.Common.{◌≡◌, inl, inr, ℕ, List, [], ◌∷◌, slice_get, Some, refl, sym, subst, ap, eq-eqb, cond, arith}
 use Rattle.std.proofs.lemmas.List.{take_all}
 use Rattle.encoder.specs.Fragment.{fragment}
+use Rattle.layout.specs.Layout.{IsLawful}
+use Rattle.cluster_file.proofs.DigestLemmas.{placed_again}
 use Rattle.deeds.specs.Deeds.{Notice}
 use Rattle.deeds.specs.Kept.{FileOfNames, new_node}
 use Rattle.recoveries.specs.Copies.{IsRecorded}
@@ -138,7 +140,7 @@ has_cluster law processes reached =
       reached = record {
         files = λ number. names;
         one = λ number. refl;
-        lawful = reached.lawful;
+        lawful = λ name. subst (λ n. IsLawful (n.first name)) reached.same (placed_again reached.file name reached.lawful);
         events = made.0;
         may = made.1;
         result = made.2;

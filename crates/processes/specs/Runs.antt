@@ -1,7 +1,8 @@
 -- What processes reach by events that may happen.
-use Rattle.std.specs.Prelude.{◌≡◌, ⊤, ℕ, List, [], ◌∷◌}
-use Rattle.layout.specs.Layout.{IsLawful}
+use Rattle.std.specs.Prelude.{◌≡◌, ⊤, List, [], ◌∷◌}
+use Rattle.cluster_file.specs.File.{FileContents, IsLawfulFile}
 use Rattle.deeds.specs.Kept.{FileOfNames}
+use Rattle.node_keeper.specs.Keeping.{names_of}
 use Rattle.processes.specs.Events.{MayHappenTo, ProcessEvent, processes_after}
 use Rattle.processes.specs.Processes.{Processes, new_processes}
 
@@ -16,11 +17,13 @@ MayAllHappenTo names [] processes = ⊤
 MayAllHappenTo names (event ∷ events) processes =
     MayHappenTo names processes event × MayAllHappenTo names events (processes_after processes event)
 
--- the processes of a cluster have come this far, from before the first start, by events that may happen; all cluster
--- files have the same settings, which give each name a lawful layout
+-- the processes of a cluster have come this far, from before the first start, by events that may happen; the cluster
+-- files of all nodes have the settings of one lawful file
 pub record AreReached (processes : Processes) : Type 0 where
+  pub file : FileContents
+  pub lawful : IsLawfulFile file
   pub names : FileOfNames
-  pub lawful : (name : List ℕ) → IsLawful (names.first name)
+  pub same : names_of file ≡ names
   pub events : List ProcessEvent
   pub may : MayAllHappenTo names events new_processes
   pub result : processes_run events new_processes ≡ processes
