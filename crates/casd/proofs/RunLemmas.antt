@@ -2,6 +2,7 @@
 use Rattle.std.proofs.Common.{◌≡◌, ℕ, None, Some, Result, Ok, Err, refl, inl, inr}
 use Rattle.deeds.specs.Kept.{FileOfNames}
 use Rattle.node.specs.declared.node.Node.{Node}
+use Rattle.node_store.specs.declared.end.LogEnd.{LogEnd}
 use Rattle.casd.specs.Opening.{HasStarted, IsFailedStart}
 use Rattle.casd.specs.Program.{HasRun, HasServed}
 use Rattle.casd.specs.declared.fault.Fault.{Fault}
@@ -26,14 +27,14 @@ pub only_started : (T : Type 0) (names : FileOfNames) (number : ℕ) (found kept
 only_started T names number found kept input held new chain keeps start = inl (chain, start, refl)
 
 -- a start, and a session behind it
-pub ran : (T : Type 0) (names : FileOfNames) (number : ℕ) (found before input held : Known) (started new : Node) (chain : ℕ)
-    (kept left keeps holds : Known) (r : Result T Fault) → HasStarted names number found started chain kept →
-    HasServed (at chain started input kept held) new left keeps holds r →
+pub ran : (T : Type 0) (names : FileOfNames) (number : ℕ) (found before input held : Known) (started new : Node) (end : LogEnd)
+    (kept left keeps holds : Known) (r : Result T Fault) → HasStarted names number found started end.chain.state kept →
+    HasServed (at end started input kept held) new left keeps holds r →
     HasRun names number found before input held new keeps holds r
-ran T names number found before input held started new chain kept left keeps holds (Ok done) start served =
-    (started, chain, kept, left, start, served)
-ran T names number found before input held started new chain kept left keeps holds (Err (faults.Ended error)) start served =
-    (started, chain, kept, left, start, served)
-ran T names number found before input held started new chain kept left keeps holds (Err (faults.NotExchanged error)) start
-    served = inl (started, chain, kept, left, start, served)
-ran T names number found before input held started new chain kept left keeps holds (Err _) start served = absurd served
+ran T names number found before input held started new end kept left keeps holds (Ok done) start served =
+    (started, end.length, end.chain.state, kept, left, start, served)
+ran T names number found before input held started new end kept left keeps holds (Err (faults.Ended error)) start served =
+    (started, end.length, end.chain.state, kept, left, start, served)
+ran T names number found before input held started new end kept left keeps holds (Err (faults.NotExchanged error)) start
+    served = inl (started, end.length, end.chain.state, kept, left, start, served)
+ran T names number found before input held started new end kept left keeps holds (Err _) start served = absurd served

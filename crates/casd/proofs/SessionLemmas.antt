@@ -7,7 +7,7 @@ use Rattle.node_store.specs.Rounds.{BetweenRounds, ServesInRounds}
 use Rattle.node_store.specs.declared.end.LogEnd.{LogEnd}
 use Rattle.node_store.specs.Serving.{StopsServing}
 use Rattle.node_store.specs.declared.stop.ServeError.{ServeError}
-use Rattle.node_store.proofs.RoundLemmas.{stops_idle}
+use Rattle.node_store.proofs.RoundLemmas.{not_grown, stops_idle}
 use Rattle.processes.specs.Programs.{IsPerhapsRewritten}
 use Rattle.processes.specs.Sessions.{GoesOn}
 use Rattle.casd.specs.Opening.{HasWrittenAnew}
@@ -22,9 +22,9 @@ goes_then n (suc m) a b c first (between, served, gone, rounds, renewal) =
     let rest = goes_then n m a b between first gone in (suc rest.0, (between, served, rest.1, rounds, renewal))
 
 -- the loop, with this between two rounds
-abbrev pub at : (chain : ℕ) → Node → (left kept held : Known) → BetweenRounds Node
-at chain machine left kept held =
-    record { chain = chain; machine = machine; left = left; kept = kept; held = held }
+abbrev pub at : LogEnd → Node → (left kept held : Known) → BetweenRounds Node
+at end machine left kept held =
+    record { length = end.length; chain = end.chain.state; machine = machine; left = left; kept = kept; held = held }
 
 -- rounds, and behind them the log that is perhaps written anew
 pub served_on : (first : BetweenRounds Node) (new : Node) (left kept keeps held : Known) (now then : LogEnd) →
@@ -32,14 +32,16 @@ pub served_on : (first : BetweenRounds Node) (new : Node) (left kept keeps held 
     IsPerhapsRewritten new kept now keeps then → HasServedOnce first new left keeps held (Ok (Some then))
 served_on first new left kept keeps held now then rounds anew = (
   first,
-  at now.chain.state new left kept held,
+  at now new left kept held,
   refl,
   rounds,
   record {
     end = now;
     then = then;
+    long = refl;
     ends = refl;
     rewritten = anew;
+    lengthened = refl;
     chained = refl;
     machine = refl;
     left = refl;
@@ -52,7 +54,7 @@ half_served : (T : Type 0) (first : BetweenRounds Node) (new : Node) (left kept 
     (fault : Fault) → ServesInRounds HandlesFrame NotesLength first new left kept held (Ok (Some now)) →
     HasWrittenAnew new kept now keeps (Err fault) → HasServed {T = T} first new left keeps held (Err fault)
 half_served T first new left kept keeps held now (faults.NotExchanged error) rounds half =
-    (0, first, at now.chain.state new left kept held, refl, rounds, refl, refl, half)
+    (0, first, at now new left kept held, refl, rounds, refl, refl, half)
 half_served T first new left kept keeps held now _ rounds half = absurd half
 
 pub served_half : (first : BetweenRounds Node) (new : Node) (left kept keeps held : Known) (now : LogEnd)
@@ -78,9 +80,9 @@ abbrev pub HasGoneOn : (first now : BetweenRounds Node) → Type 0
 HasGoneOn first now = (count : ℕ) × GoesOn count first now
 
 pub gone_on : (first now : BetweenRounds Node) (new : Node) (left keeps held : Known) (then : LogEnd) → HasGoneOn first now →
-    HasServedOnce now new left keeps held (Ok (Some then)) → HasGoneOn first (at then.chain.state new left keeps held)
+    HasServedOnce now new left keeps held (Ok (Some then)) → HasGoneOn first (at then new left keeps held)
 gone_on first now new left keeps held then (count, gone) once =
-    goes_then count 1 first now (at then.chain.state new left keeps held) gone once
+    goes_then count 1 first now (at then new left keeps held) gone once
 
 pub ended : (T : Type 0) (done : T) (first now : BetweenRounds Node) (new : Node) (left keeps held : Known) →
     HasGoneOn first now → HasServedOnce now new left keeps held (Ok None) → HasServed first new left keeps held (Ok done)
@@ -99,17 +101,16 @@ broken T first now new left keeps held (faults.NotExchanged error) (count, gone)
 broken T first now new left keeps held _ gone once = absurd once
 
 -- the loop has gone on too often
-pub tired : (T : Type 0) (first : BetweenRounds Node) (chain : ℕ) (new : Node) (left keeps held : Known) (error : ServeError) →
-    HasGoneOn first (at chain new left keeps held) → ((bytes : List ℕ) → StopsServing error bytes) →
+pub tired : (T : Type 0) (first : BetweenRounds Node) (end : LogEnd) (new : Node) (left keeps held : Known) (error : ServeError) →
+    HasGoneOn first (at end new left keeps held) → ((bytes : List ℕ) → StopsServing error bytes) →
     HasServed {T = T} first new left keeps held (Err (faults.Ended error))
-tired T first chain new left keeps held error (count, gone) any = (
+tired T first end new left keeps held error (count, gone) any = (
   count,
-  at chain new left keeps held,
+  at end new left keeps held,
   gone,
   (
-    0,
-    at chain new left keeps held,
-    refl,
-    stops_idle HandlesFrame NotesLength chain new left keeps held error any,
+    at end new left keeps held,
+    (0, refl, not_grown end.length),
+    stops_idle HandlesFrame NotesLength end.chain.state new left keeps held error any,
   ),
 )

@@ -23,7 +23,14 @@ HasServed first new left keeps holds (Err _) = ⊥
 abbrev pub HasServedOnce : BetweenRounds Node → Node → (left keeps holds : Option (List ℕ))
     → Result (Option LogEnd) Fault → Type 0
 HasServedOnce first new left keeps holds (Ok (Some then)) = GoesOn 1 first
-    (record { chain = then.chain.state; machine = new; left = left; kept = keeps; held = holds })
+    (record {
+      length = then.length;
+      chain = then.chain.state;
+      machine = new;
+      left = left;
+      kept = keeps;
+      held = holds;
+    })
 HasServedOnce first new left keeps holds (Ok None) = ServesToEnd first new left keeps holds
 HasServedOnce first new left keeps holds (Err fault) = HasServed {T = Unit {0}} first new left keeps holds (Err fault)
 
@@ -31,8 +38,16 @@ HasServedOnce first new left keeps holds (Err fault) = HasServed {T = Unit {0}} 
 abbrev pub HasStartedAndServed : {T : Type 0} → FileOfNames → (number : ℕ) → (found : Option (List ℕ))
     → (input held : Option (List ℕ)) → Node → (keeps holds : Option (List ℕ)) → Result T Fault → Type 0
 HasStartedAndServed names number found input held new keeps holds result =
-    (started : Node) × (chain : ℕ) × (kept left : Option (List ℕ)) × HasStarted names number found started chain kept
-    × HasServed (record { chain = chain; machine = started; left = input; kept = kept; held = held })
+    (started : Node) × (length chain : ℕ) × (kept left : Option (List ℕ))
+    × HasStarted names number found started chain kept
+    × HasServed (record {
+      length = length;
+      chain = chain;
+      machine = started;
+      left = input;
+      kept = kept;
+      held = held;
+    })
     new left keeps holds result
 
 -- the program started, and then there was no memory for its input, of which it read nothing

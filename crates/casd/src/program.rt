@@ -181,6 +181,7 @@ fn serve<L: RewritableLog, I: Read + Drop, O: Write, E: Write>(
     requires { L.kept log.old ≡ L.written log.old }
     ensures { HasServed
         (record {
+          length = end.length;
           chain = end.chain.state;
           machine = node.old;
           left = reader_remaining I.remaining input.old;
@@ -214,6 +215,7 @@ fn serve_once<L: RewritableLog, I: Read + Drop, O: Write, E: Write>(
     requires { L.kept log.old ≡ L.written log.old }
     ensures serves { HasServedOnce
         (record {
+          length = end.length;
           chain = end.chain.state;
           machine = node.old;
           left = reader_remaining I.remaining input.old;

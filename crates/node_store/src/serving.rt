@@ -8,7 +8,7 @@ ghost use Rattle.node_log.specs.Reading.{HadLeft};
 ghost use Rattle.node_effects.specs.declared.error.NodeError.TheVariants.{NoMemory};
 ghost use Rattle.node_effects.specs.declared.output.Output.{Output};
 ghost use Rattle.node_store.specs.Outputs.{HasGathered};
-ghost use Rattle.node_store.specs.Rewriting.{HasGrown, HasLengthened};
+ghost use Rattle.node_store.specs.Rewriting.{HasLengthened};
 ghost use Rattle.node_store.specs.Rounds.{ServesInRounds};
 ghost use Rattle.node_store.specs.Serving.{HandlesArrived, IsFrameHandled, IsInputEnd, IsWriteLost};
 ghost use Rattle.node_store.specs.Serving.{ServesSome, ServesUntil};
@@ -39,7 +39,8 @@ pub(crate) const MOST_AT_ONCE: u16 = 1024;
 /// that ends within a frame counts as ended there. After 2^64 - 1 rounds the error is `NoInput` with `TimedOut`.
 ///
 /// The clause `rounds` says what `serves` says, and that the loop goes in rounds: each one reads frames first, and then
-/// writes all that is wanted for them.
+/// writes all that is wanted for them. A round begins only as long as the log has not grown as `has_grown` says. So the
+/// loop returns once the log has grown so, and where the log ends is returned only then.
 ///
 /// The clause `stopped` says what `Stopped` means: the machine cannot handle the next frame, or memory was refused.
 ///
@@ -59,6 +60,7 @@ pub fn serve_frames<M: Machine, I: Read + Drop, O: Write, L: Log, E: Write>(
         (L.kept log.old) (L.kept log.new) (O.contents output.old) (O.contents output.new) result }
     ensures rounds { ServesInRounds M.handles M.notes
         (record {
+          length = end.length;
           chain = end.chain.state;
           machine = machine.old;
           left = reader_remaining I.remaining input.old;
@@ -69,7 +71,6 @@ pub fn serve_frames<M: Machine, I: Read + Drop, O: Write, L: Log, E: Write>(
     ensures stopped { IfErr result
         (StopsAtFrame M.handles M.notes M.fails machine.old (reader_remaining I.remaining input.old)) }
     ensures synced { OnOk result (L.kept log.new ≡ L.written log.new) }
-    ensures grown { IfOk result (λ now. MatchOption now ⊤ (λ now. HasGrown end.length now.length)) }
     ensures lengthened { IfOk result (λ now. MatchOption now ⊤
         (λ now. HasLengthened (L.kept log.old) (L.kept log.new) end.length now.length)) }
 {

@@ -81,17 +81,17 @@ among_weaker names number from done AreRead P Q weaker goes others are may bring
 pub rounds_leave : (first : BetweenRounds Node) (new : Node) (left keeps holds : Known)
     (result : Result (Option LogEnd) ServeError) → ServesInRounds HandlesFrame NotesLength first new left keeps holds result →
     LeavesEvents first new left keeps holds result
-rounds_leave first new left keeps holds (Ok None) (count, last, went, then, serves) names number processes input known rests =
-    among names number processes first input known rests _ _ _ last (round_steps count first last went) (then, serves)
+rounds_leave first new left keeps holds (Ok None) (last, (count, went, short), then, serves) names number processes input known rests =
+    among names number processes first input known rests _ _ _ last (round_steps first.length count first last went) (then, serves)
     (λ done at. among_weaker names number processes done _ (HasEnded first.held new keeps holds)
     (IsLeftBehind first.held holds keeps)
     (λ written process ended. rests_left first.held holds keeps new ended.1.0 written process ended.0 ended.1.1)
     (ends_among names number processes first input known rests last then new left keeps holds serves done at))
-rounds_leave first new left keeps holds (Ok (Some end)) (count, went) names number processes input known rests =
+rounds_leave first new left keeps holds (Ok (Some end)) (grown, count, went) names number processes input known rests =
     let last : BetweenRounds Node =
-    record { chain = end.chain.state; machine = new; left = left; kept = keeps; held = holds } in
-    among names number processes first input known rests _ _ _ last (round_steps count first last went) refl
+    record { length = end.length; chain = end.chain.state; machine = new; left = left; kept = keeps; held = holds } in
+    among names number processes first input known rests _ _ _ last (round_steps first.length count first last went) refl
     (rests_among names number processes first.held last)
-rounds_leave first new left keeps holds (Err error) (count, last, went, stops) names number processes input known rests =
-    among names number processes first input known rests _ _ _ last (round_steps count first last went) stops
+rounds_leave first new left keeps holds (Err error) (last, (count, went, short), stops) names number processes input known rests =
+    among names number processes first input known rests _ _ _ last (round_steps first.length count first last went) stops
     (stops_among names number processes first input known rests last keeps holds error stops)

@@ -183,27 +183,27 @@ module _ (names : FileOfNames) (number : ℕ) (from : Processes) (first : Betwee
 
 -- all steps, in sessions of rounds
 all_steps : (count rounds : ℕ) (first last end : BetweenRounds Node) → GoesOn count first last →
-    GoesRounds HandlesFrame NotesLength rounds last end → HasSteps first end
+    GoesRounds HandlesFrame NotesLength last.length rounds last end → HasSteps first end
 all_steps count rounds first last end gone went =
-    steps_then first last end (session_steps count first last gone) (round_steps rounds last end went)
+    steps_then first last end (session_steps count first last gone) (round_steps last.length rounds last end went)
 
 pub sessions_are_events : SessionsAreEvents
 sessions_are_events names number processes first input new left keeps holds known rests
-    (count, last, gone, (rounds, end, went, then, serves)) =
+    (count, last, gone, (end, (rounds, went, short), then, serves)) =
     among names number processes first input known rests _ _ _ end
     (all_steps count rounds first last end gone went) (then, serves)
     (ends_among names number processes first input known rests end then new left keeps holds serves)
 
 pub stopped_sessions_are_events : StoppedSessionsAreEvents
 stopped_sessions_are_events names number processes first input new left keeps holds error known rests
-    (count, last, gone, (rounds, end, went, stops)) =
+    (count, last, gone, (end, (rounds, went, short), stops)) =
     among names number processes first input known rests _ _ _ end
     (all_steps count rounds first last end gone went) stops
     (stops_among names number processes first input known rests end keeps holds error stops)
 
 pub unexchanged_sessions_are_events : UnexchangedSessionsAreEvents
 unexchanged_sessions_are_events names number processes first input left keeps holds known rests
-    (count, last, served, gone, (rounds, went), is_left, is_held, half) =
+    (count, last, served, gone, (grown, rounds, went), is_left, is_held, half) =
     among names number processes first input known rests _ _ _ served
     (all_steps count rounds first last served gone went) (is_left, is_held, half)
     (breaks_among names number processes first input known rests served keeps holds is_held half)

@@ -38,17 +38,18 @@ HasSteps old new = (steps : List SessionStep) × TakesSteps old steps new
 pub steps_then : (first between last : BetweenRounds Node) → HasSteps first between → HasSteps between last → HasSteps first last
 steps_then first between last (xs, taken) (ys, more) = (xs ++ ys, takes_then xs ys first between last taken more)
 
-pub round_steps : (count : ℕ) (old new : BetweenRounds Node) → GoesRounds HandlesFrame NotesLength count old new →
+pub round_steps : (begin count : ℕ) (old new : BetweenRounds Node) → GoesRounds HandlesFrame NotesLength begin count old new →
     HasSteps old new
-round_steps zero old new same = ([], same)
-round_steps (suc count) old new (between, gone, round) =
-    steps_then old between new (round_steps count old between gone) (SessionStep.Serves new ∷ [], (round, refl))
+round_steps begin zero old new same = ([], same)
+round_steps begin (suc count) old new (between, gone, short, round) =
+    steps_then old between new (round_steps begin count old between gone) (SessionStep.Serves new ∷ [], (round, refl))
 
 pub session_steps : (count : ℕ) (first last : BetweenRounds Node) → GoesOn count first last → HasSteps first last
 session_steps zero first last same = ([], same)
 session_steps (suc count) first last (between, served, gone, rounds, renewal) =
     steps_then first served last
-    (steps_then first between served (session_steps count first between gone) (round_steps rounds.0 between served rounds.1))
+    (steps_then first between served (session_steps count first between gone)
+    (round_steps between.length rounds.1 between served rounds.2))
     (SessionStep.Renews last ∷ [], (renewal, refl))
 
 -- A rewriting
@@ -117,7 +118,7 @@ module _ (names : FileOfNames) (number : ℕ) (from : Processes) (held : Known) 
         let all = done ++ others in
         let here = as_among names number from held now done others are may at.is in
         let round = subst (λ (left : Known). ServesSome HandlesFrame NotesLength now.chain new.chain now.machine new.machine left
-        new.left now.kept new.kept now.held new.held (Ok true)) at.known taken.0 in
+        new.left now.kept new.kept now.held new.held (Ok true)) at.known taken.0.0 in
         let rest = left_known at.input new.left (flat_map read_by round.0) round.2 in
         let have = rounds_are_events names number (processes_run all from) now.chain new.chain now.machine new.machine at.input
         new.left now.kept new.kept now.held new.held true here.rests round

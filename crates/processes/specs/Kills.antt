@@ -20,7 +20,14 @@ abbrev pub EndsInRound : BetweenRounds Node → Node → (left keeps holds : Opt
 EndsInRound last new left keeps holds (Ok None) = (then : ℕ) × ServesSome HandlesFrame NotesLength last.chain then
     last.machine new last.left left last.kept keeps last.held holds (Ok false)
 EndsInRound last new left keeps holds (Ok (Some end)) =
-    last ≡ record { chain = end.chain.state; machine = new; left = left; kept = keeps; held = holds }
+    last ≡ record {
+      length = end.length;
+      chain = end.chain.state;
+      machine = new;
+      left = left;
+      kept = keeps;
+      held = holds;
+    }
 EndsInRound last new left keeps holds (Err error) =
     StopsEarly HandlesFrame NotesLength last.chain last.machine last.left last.kept keeps last.held holds error
 

@@ -4,21 +4,25 @@ use Rattle.std.specs.Prelude.{◌≡◌, ℕ, zero, suc, List, Option, None, Ok,
 use Rattle.node.specs.Handles.{Handles as HandlesFrame}
 use Rattle.node.specs.Recovering.{Notes as NotesLength}
 use Rattle.node.specs.declared.node.Node.{Node}
+use Rattle.node_store.specs.Rewriting.{HasGrown}
 use Rattle.node_store.specs.Rounds.{BetweenRounds, GoesRounds, ServesInRounds}
 use Rattle.node_store.specs.declared.end.LogEnd.{LogEnd}
 use Rattle.node_store.specs.declared.stop.ServeError.{ServeError}
 use Rattle.processes.specs.Programs.{IsHalfRewritten, IsPerhapsRewritten}
 
--- the loop went from the one to the other in rounds
+-- the loop went from the one to the other in rounds, until its log had grown much
 abbrev pub IsInRounds : (old new : BetweenRounds Node) → Type 0
-IsInRounds old new = (count : ℕ) × GoesRounds HandlesFrame NotesLength count old new
+IsInRounds old new = HasGrown old.length new.length
+    × (count : ℕ) × GoesRounds HandlesFrame NotesLength old.length count old new
 
 -- the log was perhaps written anew between two rounds, and nothing else happened
 pub record IsRenewal (old new : BetweenRounds Node) : Type 0 where
   pub end : LogEnd
   pub then : LogEnd
+  pub long : end.length ≡ old.length
   pub ends : end.chain.state ≡ old.chain
   pub rewritten : IsPerhapsRewritten old.machine old.kept end new.kept then
+  pub lengthened : new.length ≡ then.length
   pub chained : new.chain ≡ then.chain.state
   pub machine : new.machine ≡ old.machine
   pub left : new.left ≡ old.left

@@ -27,6 +27,7 @@ pub fn killed_rounds_are_events<I: Read + Drop, O: Write, L: Log, E: Write>(
     requires { L.kept log.old.log ≡ L.written log.old.log }
     ensures { LeavesEvents
         (record {
+          length = end.length;
           chain = end.chain.state;
           machine = node.old;
           left = reader_remaining I.remaining input.old;

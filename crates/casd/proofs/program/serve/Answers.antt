@@ -7,9 +7,9 @@ pub returns-in-Ok-None : goal.returns-in-Ok-None
 returns-in-Ok-None g c =
     let known = reader_remaining g.I.Read.remaining in
     ended (Unit {0}) tt
-    (at c.args.end.chain.state c.args.node.now (known c.args.input.now) (g.L.Log.kept c.args.log.now)
+    (at c.args.end c.args.node.now (known c.args.input.now) (g.L.Log.kept c.args.log.now)
     (g.O.Write.contents c.args.output.now))
-    (at c.loop.end.chain.state c.loop.node (known c.loop.input) (g.L.Log.kept c.loop.log) (g.O.Write.contents c.loop.output))
+    (at c.loop.end c.loop.node (known c.loop.input) (g.L.Log.kept c.loop.log) (g.O.Write.contents c.loop.output))
     c.serve_once.new.node (known c.serve_once.new.input) (g.L.Log.kept c.serve_once.new.log)
     (g.O.Write.contents c.serve_once.new.output)
     c.loop.invariant.0 (rw c.in-Ok-None.field-0-is at c.in-Ok-None.ensures.serves)
@@ -18,9 +18,9 @@ pub returns-in-Err : goal.returns-in-Err
 returns-in-Err g c =
     let known = reader_remaining g.I.Read.remaining in
     broken (Unit {0})
-    (at c.args.end.chain.state c.args.node.now (known c.args.input.now) (g.L.Log.kept c.args.log.now)
+    (at c.args.end c.args.node.now (known c.args.input.now) (g.L.Log.kept c.args.log.now)
     (g.O.Write.contents c.args.output.now))
-    (at c.loop.end.chain.state c.loop.node (known c.loop.input) (g.L.Log.kept c.loop.log) (g.O.Write.contents c.loop.output))
+    (at c.loop.end c.loop.node (known c.loop.input) (g.L.Log.kept c.loop.log) (g.O.Write.contents c.loop.output))
     c.serve_once.new.node (known c.serve_once.new.input) (g.L.Log.kept c.serve_once.new.log)
     (g.O.Write.contents c.serve_once.new.output)
     c.in-Err.fault c.loop.invariant.0 c.in-Err.ensures.serves
@@ -29,9 +29,9 @@ pub loop-preserved : goal.loop-preserved
 loop-preserved g c =
     let known = reader_remaining g.I.Read.remaining in (
       gone_on
-          (at c.args.end.chain.state c.args.node.now (known c.args.input.now) (g.L.Log.kept c.args.log.now)
+          (at c.args.end c.args.node.now (known c.args.input.now) (g.L.Log.kept c.args.log.now)
           (g.O.Write.contents c.args.output.now))
-          (at c.loop.end.chain.state c.loop.node (known c.loop.input) (g.L.Log.kept c.loop.log) (g.O.Write.contents c.loop.output))
+          (at c.loop.end c.loop.node (known c.loop.input) (g.L.Log.kept c.loop.log) (g.O.Write.contents c.loop.output))
           c.serve_once.new.node (known c.serve_once.new.input) (g.L.Log.kept c.serve_once.new.log)
           (g.O.Write.contents c.serve_once.new.output)
           c.in-Ok-Some.now c.loop.invariant.0 (rw c.in-Ok-Some.field-0-is at c.in-Ok-Some.ensures.serves),
@@ -42,7 +42,7 @@ pub returns : goal.returns
 returns g c =
     let known = reader_remaining g.I.Read.remaining in
     tired (Unit {0})
-    (at c.args.end.chain.state c.args.node.now (known c.args.input.now) (g.L.Log.kept c.args.log.now)
+    (at c.args.end c.args.node.now (known c.args.input.now) (g.L.Log.kept c.args.log.now)
     (g.O.Write.contents c.args.output.now))
-    c.loop.end.chain.state c.loop.node (known c.loop.input) (g.L.Log.kept c.loop.log) (g.O.Write.contents c.loop.output)
+    c.loop.end c.loop.node (known c.loop.input) (g.L.Log.kept c.loop.log) (g.O.Write.contents c.loop.output)
     (NoInput c.from.result) c.loop.invariant.0 (λ bytes. tt)

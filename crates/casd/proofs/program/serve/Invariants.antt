@@ -7,8 +7,8 @@ use Rattle.casd.proofs.program.serve.Given as goal
 abbrev pub invariant-loop : goal.invariant-loop
 invariant-loop g l =
     HasGoneOn
-    (at l.fn.end.chain.state l.fn.node (reader_remaining g.I.Read.remaining l.fn.input) (g.L.Log.kept l.fn.log)
+    (at l.fn.end l.fn.node (reader_remaining g.I.Read.remaining l.fn.input) (g.L.Log.kept l.fn.log)
     (g.O.Write.contents l.fn.output))
-    (at l.end.chain.state l.node (reader_remaining g.I.Read.remaining l.input) (g.L.Log.kept l.log)
+    (at l.end l.node (reader_remaining g.I.Read.remaining l.input) (g.L.Log.kept l.log)
     (g.O.Write.contents l.output))
     × (g.L.Log.kept l.log ≡ g.L.Log.written l.log)

@@ -7,7 +7,7 @@ pub returns-in-Ok-clause-serves : goal.returns-in-Ok-clause-serves
 returns-in-Ok-clause-serves g c =
     let known = reader_remaining g.I.Read.remaining in
     served_on
-    (at c.args.end.chain.state c.args.node.now (known c.args.input.now) (g.L.Log.kept c.args.log.now)
+    (at c.args.end c.args.node.now (known c.args.input.now) (g.L.Log.kept c.args.log.now)
     (g.O.Write.contents c.args.output.now))
     c.serve_frames.new.machine (known c.serve_frames.new.input) (g.L.Log.kept c.serve_frames.new.log)
     (g.L.Log.kept c.write_anew.new.log) (g.O.Write.contents c.serve_frames.new.output) c.in-Ok-Some.now c.in-Ok.then
@@ -17,7 +17,7 @@ pub returns-in-Err-write_anew-clause-serves : goal.returns-in-Err-write_anew-cla
 returns-in-Err-write_anew-clause-serves g c =
     let known = reader_remaining g.I.Read.remaining in
     served_half
-    (at c.args.end.chain.state c.args.node.now (known c.args.input.now) (g.L.Log.kept c.args.log.now)
+    (at c.args.end c.args.node.now (known c.args.input.now) (g.L.Log.kept c.args.log.now)
     (g.O.Write.contents c.args.output.now))
     c.serve_frames.new.machine (known c.serve_frames.new.input) (g.L.Log.kept c.serve_frames.new.log)
     (g.L.Log.kept c.write_anew.new.log) (g.O.Write.contents c.serve_frames.new.output) c.in-Ok-Some.now
@@ -28,7 +28,7 @@ pub returns-in-Ok-None-clause-serves : goal.returns-in-Ok-None-clause-serves
 returns-in-Ok-None-clause-serves g c =
     let known = reader_remaining g.I.Read.remaining in
     served_last
-    (at c.args.end.chain.state c.args.node.now (known c.args.input.now) (g.L.Log.kept c.args.log.now)
+    (at c.args.end c.args.node.now (known c.args.input.now) (g.L.Log.kept c.args.log.now)
     (g.O.Write.contents c.args.output.now))
     c.serve_frames.new.machine (known c.serve_frames.new.input) (g.L.Log.kept c.serve_frames.new.log)
     (g.O.Write.contents c.serve_frames.new.output) (rw c.in-Ok-None.field-0-is at c.in-Ok-None.ensures.rounds)
@@ -37,7 +37,7 @@ pub returns-in-Err-clause-serves : goal.returns-in-Err-clause-serves
 returns-in-Err-clause-serves g c =
     let known = reader_remaining g.I.Read.remaining in
     served_badly
-    (at c.args.end.chain.state c.args.node.now (known c.args.input.now) (g.L.Log.kept c.args.log.now)
+    (at c.args.end c.args.node.now (known c.args.input.now) (g.L.Log.kept c.args.log.now)
     (g.O.Write.contents c.args.output.now))
     c.serve_frames.new.machine (known c.serve_frames.new.input) (g.L.Log.kept c.serve_frames.new.log)
     (g.O.Write.contents c.serve_frames.new.output) c.in-Err.error c.in-Err.ensures.rounds

@@ -13,9 +13,9 @@ returns-in-Ok-with_capacity g c = λ names number is_new.
     let kept = g.L.Log.kept c.start_with.new.log in
     let held = g.O.Write.contents c.args.output.now in
     ran _ names number _ _ (g.I.Read.remaining c.args.input) held c.start_with.new.node c.serve.new.node
-    c.in-Ok.end.chain.state kept (reader_remaining g.I.Read.remaining c.serve.new.input)
+    c.in-Ok.end kept (reader_remaining g.I.Read.remaining c.serve.new.input)
     (g.L.Log.kept c.serve.new.log) (g.O.Write.contents c.serve.new.output) c.serve.result
     (c.in-Ok.ensures.starts names number is_new)
-    (subst (λ left. HasServed (at c.in-Ok.end.chain.state c.start_with.new.node left kept held) c.serve.new.node
+    (subst (λ left. HasServed (at c.in-Ok.end c.start_with.new.node left kept held) c.serve.new.node
     (reader_remaining g.I.Read.remaining c.serve.new.input) (g.L.Log.kept c.serve.new.log)
     (g.O.Write.contents c.serve.new.output) c.serve.result) read c.serve.ensures)

@@ -3,7 +3,7 @@ use Rattle.std.specs.Io.Buffered.{reader_remaining}
 use Rattle.std.proofs.lemmas.Result.{err_from_is_err_and}
 use Rattle.node_store.specs.declared.stop.ServeError.TheVariants.{NoInput}
 use Rattle.node_store.proofs.GrowthLemmas.{lengthened_none, lengthened_then}
-use Rattle.node_store.proofs.RoundLemmas.{between, gone_none, gone_on, round_noted, stops_idle}
+use Rattle.node_store.proofs.RoundLemmas.{between, comes_first, comes_on, gone_on, round_noted, stops_idle}
 use Rattle.node_store.proofs.ServingLemmas.{serves_none, serves_behind, serves_more, serves_as, serves_idle, going, stopped}
 use Rattle.node_store.proofs.StoppingLemmas.{stopped_so, stops_noted, stops_then}
 use Rattle.node_store.proofs.serving.serve_frames.Goals as goal
@@ -65,16 +65,18 @@ loop-preserved g c =
           c.in_ok-serve_arrived.ensures.serves)),
       c.in_ok-serve_arrived.ensures.synced,
       c.clear.ensures.empty,
-      gone_on g.M.Machine.handles g.M.Machine.notes (between c.args.end.chain.state c.args.machine.now (known c.args.input.now)
-          (kept c.args.log.now) (held c.args.output.now)) c.loop.batch.chain.state c.serve_arrived.new.batch.chain.state
-          c.clear.new.self.chain.state c.loop.machine c.begin_round-report.new.self c.serve_arrived.new.machine c.loop.length
-          (known c.loop.input) (known c.serve_arrived.new.input) (kept c.loop.log) (kept c.serve_arrived.new.log)
-          (held c.loop.output) (held c.serve_arrived.new.output) c.loop.invariant.3 c.begin_round-report.ensures.noted
+      comes_on g.M.Machine.handles g.M.Machine.notes (between c.args.end.length c.args.end.chain.state c.args.machine.now
+          (known c.args.input.now) (kept c.args.log.now) (held c.args.output.now)) c.loop.length _
+          c.loop.batch.chain.state c.serve_arrived.new.batch.chain.state c.clear.new.self.chain.state c.loop.machine
+          c.begin_round-report.new.self c.serve_arrived.new.machine c.loop.length (known c.loop.input)
+          (known c.serve_arrived.new.input) (kept c.loop.log) (kept c.serve_arrived.new.log) (held c.loop.output)
+          (held c.serve_arrived.new.output) c.loop.invariant.3 c.begin_round-report.ensures.noted
           (serves_as g.M.Machine.handles g.M.Machine.notes c.loop.batch.chain.state
           c.serve_arrived.new.batch.chain.state c.begin_round-report.new.self c.serve_arrived.new.machine
           (known c.loop.input) (known c.serve_arrived.new.input) (kept c.loop.log) (kept c.serve_arrived.new.log)
           (held c.loop.output) (held c.serve_arrived.new.output) c.in_ok-serve_arrived.field-0 true (search rules)
-          c.in_ok-serve_arrived.ensures.serves) (sym c.clear.ensures.chain),
+          c.in_ok-serve_arrived.ensures.serves) (_, c.in_ok-serve_arrived.ensures.appended, search rules)
+          (sym c.clear.ensures.chain) (search rules),
       lengthened_then (kept c.args.log.now) (kept c.loop.log) (kept c.serve_arrived.new.log) c.args.end.length c.loop.length _ _
           c.loop.invariant.4 c.in_ok-serve_arrived.ensures.appended (search rules),
     )
@@ -129,39 +131,38 @@ loop-init g c =
           (kept c.args.log.now) (held c.args.output.now)),
       c.requires,
       c.new-batch.ensures.empty,
-      gone_none g.M.Machine.handles g.M.Machine.notes c.args.end.chain.state c.new-batch.result.chain.state c.args.machine.now
-          (known c.args.input.now) (kept c.args.log.now) (held c.args.output.now) c.new-batch.ensures.chain,
+      comes_first g.M.Machine.handles g.M.Machine.notes c.args.end.length c.args.end.chain.state
+          c.new-batch.result.chain.state c.args.machine.now (known c.args.input.now) (kept c.args.log.now)
+          (held c.args.output.now) c.new-batch.ensures.chain,
       lengthened_none (kept c.args.log.now) c.args.end.length (search rules),
     )
-
-pub returns-then-has_grown-clause-grown : goal.returns-then-has_grown-clause-grown
-returns-then-has_grown-clause-grown g c = search rules
 
 pub returns-then-has_grown-clause-rounds : goal.returns-then-has_grown-clause-rounds
 returns-then-has_grown-clause-rounds g c =
     let known = reader_remaining g.I.Read.remaining in
     let kept = g.L.Log.kept in
     let held = g.O.Write.contents in
-    let first = between c.args.end.chain.state c.args.machine.now (known c.args.input.now) (kept c.args.log.now)
-    (held c.args.output.now) in
-    gone_on g.M.Machine.handles g.M.Machine.notes first c.loop.batch.chain.state c.serve_arrived.new.batch.chain.state
-    c.clear.new.self.chain.state c.loop.machine c.begin_round-report.new.self c.serve_arrived.new.machine c.loop.length
-    (known c.loop.input) (known c.serve_arrived.new.input) (kept c.loop.log) (kept c.serve_arrived.new.log)
-    (held c.loop.output) (held c.serve_arrived.new.output) c.loop.invariant.3 c.begin_round-report.ensures.noted
+    let first = between c.args.end.length c.args.end.chain.state c.args.machine.now (known c.args.input.now)
+    (kept c.args.log.now) (held c.args.output.now) in
+    let went = gone_on g.M.Machine.handles g.M.Machine.notes first c.loop.length _ c.loop.batch.chain.state
+    c.serve_arrived.new.batch.chain.state c.clear.new.self.chain.state c.loop.machine c.begin_round-report.new.self
+    c.serve_arrived.new.machine c.loop.length (known c.loop.input) (known c.serve_arrived.new.input) (kept c.loop.log)
+    (kept c.serve_arrived.new.log) (held c.loop.output) (held c.serve_arrived.new.output) c.loop.invariant.3
+    c.begin_round-report.ensures.noted
     (serves_as g.M.Machine.handles g.M.Machine.notes c.loop.batch.chain.state
     c.serve_arrived.new.batch.chain.state c.begin_round-report.new.self c.serve_arrived.new.machine
     (known c.loop.input) (known c.serve_arrived.new.input) (kept c.loop.log) (kept c.serve_arrived.new.log)
     (held c.loop.output) (held c.serve_arrived.new.output) c.in_ok-serve_arrived.field-0 true (search rules)
-    c.in_ok-serve_arrived.ensures.serves) (sym c.clear.ensures.chain)
+    c.in_ok-serve_arrived.ensures.serves) (_, c.in_ok-serve_arrived.ensures.appended, search rules)
+    (sym c.clear.ensures.chain) in (search rules, went.0, went.1)
 
 pub returns-then-not-branch-clause-rounds : goal.returns-then-not-branch-clause-rounds
 returns-then-not-branch-clause-rounds g c =
     let known = reader_remaining g.I.Read.remaining in
     let kept = g.L.Log.kept in
     let held = g.O.Write.contents in (
-      c.loop.invariant.3.0,
-      between c.loop.batch.chain.state c.loop.machine (known c.loop.input) (kept c.loop.log) (held c.loop.output),
-      c.loop.invariant.3.1,
+      between c.loop.length c.loop.batch.chain.state c.loop.machine (known c.loop.input) (kept c.loop.log) (held c.loop.output),
+      c.loop.invariant.3,
       c.serve_arrived.new.batch.chain.state,
       round_noted g.M.Machine.handles g.M.Machine.notes c.loop.batch.chain.state c.serve_arrived.new.batch.chain.state
           c.loop.machine c.begin_round-report.new.self c.serve_arrived.new.machine c.loop.length
@@ -181,9 +182,8 @@ returns-in_err-serve_arrived-clause-rounds g c =
     let kept = g.L.Log.kept in
     let held = g.O.Write.contents in
     rw (p.1, p.2) (
-      c.loop.invariant.3.0,
-      between c.loop.batch.chain.state c.loop.machine (known c.loop.input) (kept c.loop.log) (held c.loop.output),
-      c.loop.invariant.3.1,
+      between c.loop.length c.loop.batch.chain.state c.loop.machine (known c.loop.input) (kept c.loop.log) (held c.loop.output),
+      c.loop.invariant.3,
       round_noted g.M.Machine.handles g.M.Machine.notes c.loop.batch.chain.state c.serve_arrived.new.batch.chain.state
           c.loop.machine c.begin_round-report.new.self c.serve_arrived.new.machine c.loop.length
           (known c.loop.input) (known c.serve_arrived.new.input) (kept c.loop.log) (kept c.serve_arrived.new.log)
@@ -196,9 +196,8 @@ returns-clause-rounds g c =
     let known = reader_remaining g.I.Read.remaining in
     let kept = g.L.Log.kept in
     let held = g.O.Write.contents in (
-      c.loop.invariant.3.0,
-      between c.loop.batch.chain.state c.loop.machine (known c.loop.input) (kept c.loop.log) (held c.loop.output),
-      c.loop.invariant.3.1,
+      between c.loop.length c.loop.batch.chain.state c.loop.machine (known c.loop.input) (kept c.loop.log) (held c.loop.output),
+      c.loop.invariant.3,
       stops_idle g.M.Machine.handles g.M.Machine.notes c.loop.batch.chain.state c.loop.machine (known c.loop.input)
           (kept c.loop.log) (held c.loop.output) (NoInput c.from.result) (λ (bytes : List ℕ). tt),
     )

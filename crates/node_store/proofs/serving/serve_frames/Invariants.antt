@@ -1,9 +1,9 @@
 -- The frames so far were handled, what the machine wanted done for them is done, and the log is as long as is said.
-use Rattle.std.proofs.Common.{◌≡◌, ℕ, [], true, Ok}
+use Rattle.std.proofs.Common.{◌≡◌, [], true, Ok}
 use Rattle.std.specs.Io.Buffered.{reader_remaining}
 use Rattle.node_store.specs.Outputs.{HasGathered}
 use Rattle.node_store.specs.Rewriting.{HasLengthened}
-use Rattle.node_store.specs.Rounds.{BetweenRounds, GoesRounds}
+use Rattle.node_store.specs.Rounds.{ComesToRound}
 use Rattle.node_store.specs.Serving.{ServesSome}
 use Rattle.node_store.proofs.serving.serve_frames.Given as goal
 
@@ -12,8 +12,9 @@ invariant-loop g l = ServesSome g.M.Machine.handles g.M.Machine.notes l.fn.end.c
     l.machine (reader_remaining g.I.Read.remaining l.fn.input) (reader_remaining g.I.Read.remaining l.input)
     (g.L.Log.kept l.fn.log) (g.L.Log.kept l.log) (g.O.Write.contents l.fn.output) (g.O.Write.contents l.output) (Ok true)
     × (g.L.Log.kept l.log ≡ g.L.Log.written l.log) × HasGathered l.batch.chain.state l.batch []
-    × ((count : ℕ) × GoesRounds g.M.Machine.handles g.M.Machine.notes count
+    × ComesToRound g.M.Machine.handles g.M.Machine.notes
     (record {
+      length = l.fn.end.length;
       chain = l.fn.end.chain.state;
       machine = l.fn.machine;
       left = reader_remaining g.I.Read.remaining l.fn.input;
@@ -21,10 +22,11 @@ invariant-loop g l = ServesSome g.M.Machine.handles g.M.Machine.notes l.fn.end.c
       held = g.O.Write.contents l.fn.output;
     })
     (record {
+      length = l.length;
       chain = l.batch.chain.state;
       machine = l.machine;
       left = reader_remaining g.I.Read.remaining l.input;
       kept = g.L.Log.kept l.log;
       held = g.O.Write.contents l.output;
-    }))
+    })
     × HasLengthened (g.L.Log.kept l.fn.log) (g.L.Log.kept l.log) l.fn.end.length l.length
