@@ -16,6 +16,11 @@ IsFrontOf count (Some bytes) new = new ≡ Some (take count bytes)
 abbrev pub LosesEnd : (count : ℕ) → Option (List ℕ) → Option (List ℕ) → Type 0
 LosesEnd count old new = (most : ℕ) × (count ≤ most) × IsFrontOf most old new
 
+-- if bytes are known, and are at least so many, those left are known too, and are the first ones: at least so many
+abbrev pub LeavesFront : (count : ℕ) → Option (List ℕ) → Option (List ℕ) → Type 0
+LeavesFront count None new = ⊤
+LeavesFront count (Some bytes) new = count ≤ length bytes → LosesEnd count (Some bytes) new
+
 -- what a start finds after the machine stops: what the open file keeps, or, if its name leads elsewhere, other bytes
 abbrev pub found_after_stop : (other : Option (Option (List ℕ))) → (kept : Option (List ℕ)) → Option (List ℕ)
 found_after_stop None kept = kept

@@ -11,7 +11,7 @@ pub trait DiskFile {
     ghost use Rattle.std.specs.Io.KnownBytes.{Keeps};
     ghost use Rattle.frames.specs.Writing.{Writes};
     ghost use Rattle.node_store.specs.Logs.{Grows, IsKeptBehind};
-    ghost use Rattle.node_store.specs.Disk.{IsCutTo, LosesEnd};
+    ghost use Rattle.node_store.specs.Disk.{IsCutTo, LeavesFront, LosesEnd};
 
     // The bytes that a reader of the file gets while the machine runs, where they are known.
     ghost written: { Self → Option (List ℕ) } = { λ _. None };
@@ -40,10 +40,11 @@ pub trait DiskFile {
     fn length(&self) -> io::Result<u64>
         ensures { IfOk result (λ count. IfSome (written self.now) (λ bytes. count ≡ length bytes)) };
 
-    /// Cuts the file behind so many bytes, where the next byte is then written. Of what the file keeps, the bytes
-    /// behind these may be gone, also where this fails.
+    /// Cuts the file behind so many bytes, where the next byte is then written. Of what was written, and of what the
+    /// file keeps, the bytes behind these may be gone, also where this fails.
     fn cut(&mut self, count: u64) -> io::Result<()>
         ensures written { OnOk result (IsCutTo count (written self.old) (written self.new)) }
+        ensures left { LeavesFront count (written self.old) (written self.new) }
         ensures kept { LosesEnd count (kept self.old) (kept self.new) };
 }
 

@@ -21,6 +21,7 @@ pub use serving::serve_frames;
 pub use stop::ServeError;
 pub use stopping::{StoppingLog, StoppingWriter};
 pub use stored::StoredLog;
+pub use surviving::SurvivingLog;
 pub use writing::{append_bytes, append_entries, push_entries};
 
 mod batch;
@@ -39,4 +40,5 @@ mod serving;
 mod stop;
 mod stopping;
 mod stored;
+mod surviving;
 mod writing;

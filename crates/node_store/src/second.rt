@@ -21,12 +21,14 @@ pub trait RewritableLog: Log {
         ensures written { Self.written self.new ≡ Self.written self.old }
         ensures kept { Self.kept self.new ≡ Self.kept self.old };
 
-    /// Puts the second log in the place of this one, for good. Where this fails, the machine may stop and then have
-    /// either of the two.
+    /// Puts the second log in the place of this one, for good. Where this fails, this log is either of the two, and
+    /// the machine may stop and then have either of them.
     fn put_second(&mut self, second: Self::Second) -> io::Result<()>
         requires { Self.Second.kept second ≡ Self.Second.written second }
         ensures written { OnOk result (Becomes (Self.written self.old) (Self.written self.new)
             (Self.Second.written second)) }
+        ensures either { KeepsOrBecomes (Self.written self.old) (Self.written self.new)
+            (Self.Second.written second) }
         ensures kept { KeepsOrBecomes (Self.kept self.old) (Self.kept self.new) (Self.Second.kept second) }
         ensures all { OnOk result (Self.kept self.new ≡ Self.written self.new) };
 }

@@ -127,6 +127,7 @@ impl<L: RewritableLog> RewritableLog for StoppingLog<L> {
         requires { L.Second.kept second ≡ L.Second.written second }
         ensures written { OnOk result (Becomes (L.written self.old.log) (L.written self.new.log)
             (L.Second.written second)) }
+        ensures either { KeepsOrBecomes (L.written self.old.log) (L.written self.new.log) (L.Second.written second) }
         ensures kept { KeepsOrBecomes (L.kept self.old.log) (L.kept self.new.log) (L.Second.kept second) }
         ensures all { OnOk result (L.kept self.new.log ≡ L.written self.new.log) }
         ensures stopped { FailsIfNoneLeft self.old.left self.old self.new result }
@@ -148,6 +149,7 @@ impl<L: StoredLog> StoredLog for StoppingLog<L> {
 
     fn cut(&mut self, count: u64) -> io::Result<u64>
         ensures written { OnOk result (IsFrontOf count (L.written self.old.log) (L.written self.new.log)) }
+        ensures left { LosesEnd count (L.written self.old.log) (L.written self.new.log) }
         ensures kept { LosesEnd count (L.kept self.old.log) (L.kept self.new.log) }
         ensures lost { IfOk result (λ lost.
             IfSome (L.written self.old.log) (λ bytes. lost ≡ length bytes - count)) }

@@ -16,10 +16,11 @@ pub trait StoredLog: RewritableLog {
     fn read(&self) -> io::Result<Self::Reader>
         ensures { IfOk result (λ reader. Keeps (Self.written self.now) (Self.Reader.remaining reader)) };
 
-    /// Cuts the log behind so many bytes, and returns how many it cut off. Of what the log keeps, the bytes behind
-    /// these may be gone, also where this fails.
+    /// Cuts the log behind so many bytes, and returns how many it cut off. Of what was written, and of what the log
+    /// keeps, the bytes behind these may be gone, also where this fails.
     fn cut(&mut self, count: u64) -> io::Result<u64>
         ensures written { OnOk result (IsFrontOf count (Self.written self.old) (Self.written self.new)) }
+        ensures left { LosesEnd count (Self.written self.old) (Self.written self.new) }
         ensures kept { LosesEnd count (Self.kept self.old) (Self.kept self.new) }
         ensures lost { IfOk result (λ lost. IfSome (Self.written self.old) (λ bytes. lost ≡ length bytes - count)) };
 }

@@ -1,6 +1,9 @@
-//! The log in a folder, over a folder in memory; and a log and a writer that stop after so many calls.
+//! The log in a folder, over a folder in memory; a log of a machine that goes on; and a log and a writer that stop after
+//! so many calls.
 use crate::memory::MemoryFolder;
-use node_store::{FolderLog, Log, RewritableLog, StoppingLog, StoppingWriter, StoredLog};
+use node_store::{
+    FolderLog, Log, RewritableLog, StoppingLog, StoppingWriter, StoredLog, SurvivingLog,
+};
 use std::alloc::Global;
 use std::io::{Read, Write};
 use std::process::Abort;
@@ -50,6 +53,30 @@ fn exchange<R: Abort>(rt: &R, alloc: Global, keeps_renames: bool) {
 fn exchanges(rt: HostRuntime) {
     exchange(&rt, rt.alloc(), false);
     exchange(&rt, rt.alloc(), true);
+}
+
+#[test]
+fn a_log_survives(rt: HostRuntime) {
+    let mut log = SurvivingLog {
+        log: opened(&rt, rt.alloc(), b"one, two", false),
+    };
+    assert_eq!(&rt; log.cut(5).expect(&rt, "memory"), 3);
+    log.append(b"three").expect(&rt, "memory");
+    log.sync().expect(&rt, "memory");
+    has(&rt, rt.alloc(), &log.log, b"one, three");
+}
+
+#[test]
+fn a_log_survives_an_exchange(rt: HostRuntime) {
+    let mut log = SurvivingLog {
+        log: opened(&rt, rt.alloc(), b"old", false),
+    };
+    let mut second = log.begin_second().expect(&rt, "memory");
+    second.append(b"new").expect(&rt, "memory");
+    second.sync().expect(&rt, "memory");
+    log.put_second(second).expect(&rt, "memory");
+    log.remove_second().expect(&rt, "memory");
+    has(&rt, rt.alloc(), &log.log, b"new");
 }
 
 // A log that carries out so many calls, of two appends, a sync and a cut.

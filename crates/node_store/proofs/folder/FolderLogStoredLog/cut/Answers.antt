@@ -14,3 +14,9 @@ returns-in_err-cut-clause-kept g c =
 pub returns-clause-kept : goal.returns-clause-kept
 returns-clause-kept g c =
     rw (← c.self.view_is) (loses_found _ (g.D.DiskFolder.other c.self.inside.folder) _ _ c.cut.ensures.kept)
+
+pub returns-in_err-length-clause-left : goal.returns-in_err-length-clause-left
+returns-in_err-length-clause-left g c = loses_nothing _ _
+
+pub returns-then-length-count-clause-left : goal.returns-then-length-count-clause-left
+returns-then-length-count-clause-left g c = loses_nothing _ _
