@@ -15,8 +15,8 @@ use crate::stored::StoredLog;
 use std::io;
 
 /// A log of a machine that goes on: all that was written counts as kept. Each call is passed on, and has the result of
-/// the log in it. The second log stays as it is: nothing of it counts before it is put in the place of the log, and then
-/// it is synced.
+/// the log in it. The second log stays as it is: nothing of it counts before it is put in the place of the log, and
+/// then it is synced.
 #[derive(Drop)]
 pub struct SurvivingLog<L> {
     /// The log to which calls are passed on.

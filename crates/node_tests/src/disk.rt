@@ -1,5 +1,5 @@
-//! The log in a folder, over a folder in memory; a log of a machine that goes on; and a log and a writer that stop after
-//! so many calls.
+//! The log in a folder, over a folder in memory; a log of a machine that goes on; and a log and a writer that stop
+//! after so many calls.
 use crate::memory::MemoryFolder;
 use node_store::{
     FolderLog, Log, RewritableLog, StoppingLog, StoppingWriter, StoredLog, SurvivingLog,
