@@ -1,6 +1,7 @@
-pub mod CurrentPhaseLemmas
 pub mod HeldTagLemmas
+pub mod MadePhaseLemmas
 pub mod MemberMeetingLemmas
 pub mod ToldCallLemmas
 pub mod ToldEntryLemmas
 pub mod ToldValueLemmas
+pub mod WriteTagLemmas

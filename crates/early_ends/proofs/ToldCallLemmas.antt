@@ -1,27 +1,24 @@
 -- A call whose answer may be told has a tag as an answered call has one, and has put it.
-use Rattle.std.proofs.Common.{◌≡◌, ℕ, suc, ◌⊎◌, false, Option, Some, IsSome, sym, subst, ap}
+use Rattle.std.proofs.Common.{◌≡◌, ℕ, suc, ◌⊎◌, false, Some, sym, subst, ap}
 use Rattle.std.proofs.Common.{inl, inr, arith, le_refl}
 use Rattle.tag.specs.declared.tag.Tag.{Tag}
-use Rattle.tag.specs.Tag.{tag_lt}
-use Rattle.bank.specs.Knowledge.{HasFinalized}
-use Rattle.mail.specs.declared.phase.Taken.{Taken}
+use Rattle.bank.specs.Knowledge.{finalized_at}
 use Rattle.mail.specs.Phase.{Phase}
 use Rattle.record.specs.declared.call.CallKind.{CallKind}
 use Rattle.record.specs.declared.stage.Stage.{Stage}
 use Rattle.record.specs.declared.stage.Stage.TheVariants.{ReadNext}
 use Rattle.record.specs.Fragments.{Code}
-use Rattle.record.specs.Legal.{is_move, source_of, stage_of, IsLegal}
-use Rattle.record.specs.PhaseOrder.{due}
+use Rattle.record.specs.Legal.{is_move, source_of, IsLegal}
 use Rattle.record.specs.Records.{Call, Object, bank_at}
 use Rattle.record.proofs.TagOrderLemmas.{IsAtMost, tag_lt-false}
+use Rattle.soundness.proofs.Quorums.ReplyTruthLemmas.{all_at, came_by_later}
 use Rattle.atomicity.proofs.Sequences.AnsweredTagLemmas.{tag_facts}
 use Rattle.atomicity.proofs.Sequences.SeenCallLemmas.{HasEnded}
-use Rattle.atomicity.proofs.Stages.CallFactLemmas.{call_at_end}
 use Rattle.atomicity.proofs.Stages.StageFactLemmas.{Facts, Found, HasTag, Reached, reached_later}
-use Rattle.atomicity.proofs.Stages.StoredTagLemmas.{Stored, reply_knows}
+use Rattle.atomicity.proofs.Stages.StoredTagLemmas.{Stored}
 use Rattle.early_ends.specs.Held.{IsHeld}
-use Rattle.early_ends.specs.Told.{IsHeldCall, IsTold, IsToldRead, Told, last_of}
-use Rattle.early_ends.proofs.CurrentPhaseLemmas.{AtCurrent, current_facts}
+use Rattle.early_ends.specs.Told.{HasNoGreater, IsHeldCall, IsTold, IsToldRead, Told, last_of}
+use Rattle.early_ends.proofs.MadePhaseLemmas.{AtPhase, phase_facts}
 use Rattle.early_ends.proofs.HeldTagLemmas.{held_put, held_since, held_unpointed}
 
 -- Calls that fetch or finalize a tag which is held
@@ -40,13 +37,6 @@ read_reaches : (object : Object) (kind : CallKind) (from number called now posit
     Facts object kind from number called now (ReadNext position finalized) → Reached object position now
 read_reaches object kind from number called now position finalized facts = facts.0
 
-asks_next : (phase : Phase) (position finalized : ℕ) → due (ReadNext position finalized) ≡ Some (phase.kind, phase.position) →
-    position ≡ phase.position
-asks_next phase position finalized e = grind arith
-
-some_end : (o : Option ℕ) → IsSome o → (end : ℕ) × (o ≡ Some end)
-some_end o some = grind arith
-
 told_found : (fragment : Code) (object : Object) → IsLegal object → (told : Told) (call : Call) (tag : Tag) →
     (read : IsToldRead fragment object told call tag) →
     Found object call.called read.position (suc read.position) tag
@@ -59,22 +49,20 @@ told_found fragment object legal told call tag read = record {
   unpointed = λ pointed.
       held_unpointed object read.position tag read.phase.start told.step call.called legal.layouts read.held at.since pointed;
   answers = λ j low high other stored.
-      let same : j ≡ read.phase.position = (let e = asks_next read.phase read.position read.position at.is_due in omega arith) in
+      let same : j ≡ read.position = omega arith in
       finds other (subst (λ q. Stored object q other read.phase.start) same stored);
 }
   where
-    at : AtCurrent object call.kind (source_of object told.index) call.id call.called (ReadNext read.position read.position) read.phase
-    at = current_facts object legal told.index call (ReadNext read.position read.position) read.phase read.current
+    at : AtPhase object call.kind (source_of object told.index) call.id call.called (ReadNext read.position read.position) read.phase
+    at = phase_facts object legal told.index call (ReadNext read.position read.position) read.phase read.made
 
-    Knows : Taken → Type 0
-    Knows reply = (other : Tag) → HasFinalized (bank_at object read.phase.position reply.member) other reply.reply.step →
-        tag_lt tag other ≡ false
-
-    finds : (other : Tag) → Stored object read.phase.position other read.phase.start → IsAtMost other tag
+    finds : (other : Tag) → Stored object read.position other read.phase.start → IsAtMost other tag
     finds other stored =
-        let end = some_end read.phase.end read.complete in
-        let met = reply_knows object read.phase end.0 Knows at.truth end.1 read.greatest other stored in
-        tag_lt-false tag other (met.1.1 other met.2)
+        let met = stored.meets read.greatest.members read.greatest.quorum in
+        let there = all_at (λ i. HasNoGreater (bank_at object read.position i) tag read.phase.start) read.greatest.members met.0
+        read.greatest.each met.1 in
+        tag_lt-false tag other (there.none other
+        (came_by_later (finalized_at (bank_at object read.position met.0) other) read.phase.start there.step there.from met.2))
 
 -- Both
 
@@ -86,7 +74,7 @@ told_reads fragment object legal told may = go may.held
     go : IsHeldCall fragment object told may.call may.tag ⊎ IsToldRead fragment object told may.call may.tag →
         is_move may.call.kind ≡ false
     go (inl held) =
-        let at = current_facts object legal told.index may.call held.stage held.phase held.current in
+        let at = phase_facts object legal told.index may.call held.stage held.phase held.made in
         last_reads object may.call.kind (source_of object told.index) may.call.id may.call.called held.phase.start held.stage held.last
         held.has_last at.facts
     go (inr read) = ap is_move read.reads
@@ -99,9 +87,9 @@ told_tag fragment object legal told may = go may.held
     go : IsHeldCall fragment object told may.call may.tag ⊎ IsToldRead fragment object told may.call may.tag →
         HasTag object may.call.kind may.call.id may.call.called may.tag
     go (inl held) =
-        let end = call_at_end object legal told.index may.call held.current.at in
-        tag_facts object may.call.kind (source_of object told.index) may.call.id may.call.called end.now
-        (stage_of object told.index may.call) may.tag held.tagged (told_reads fragment object legal told may) end.facts
+        let at = phase_facts object legal told.index may.call held.stage held.phase held.made in
+        tag_facts object may.call.kind (source_of object told.index) may.call.id may.call.called held.phase.start held.stage may.tag
+        held.tagged (told_reads fragment object legal told may) at.facts
     go (inr read) =
         subst (λ kind. HasTag object kind may.call.id may.call.called may.tag) (sym read.reads)
         (read.position, told_found fragment object legal told may.call may.tag read)
@@ -112,7 +100,7 @@ pub told_ended : (fragment : Code) (object : Object) → IsLegal object → (tol
 told_ended fragment object legal told may = go may.held
   where
     ended : (stage : Stage) (phase : Phase) (last : ℕ) →
-        AtCurrent object may.call.kind (source_of object told.index) may.call.id may.call.called stage phase →
+        AtPhase object may.call.kind (source_of object told.index) may.call.id may.call.called stage phase →
         IsHeld object last may.tag phase.start told.step → Reached object last phase.start →
         HasEnded object may.call.called told.step may.tag
     ended stage phase last at held reached =
@@ -126,12 +114,12 @@ told_ended fragment object legal told may = go may.held
     go : IsHeldCall fragment object told may.call may.tag ⊎ IsToldRead fragment object told may.call may.tag →
         HasEnded object may.call.called told.step may.tag
     go (inl held) =
-        let at = current_facts object legal told.index may.call held.stage held.phase held.current in
+        let at = phase_facts object legal told.index may.call held.stage held.phase held.made in
         ended held.stage held.phase held.last at held.held
         (fetches_or_puts object may.call.kind (source_of object told.index) may.call.id may.call.called held.phase.start held.stage
         held.last held.has_last (told_reads fragment object legal told may) at.facts)
     go (inr read) =
-        let at = current_facts object legal told.index may.call (ReadNext read.position read.position) read.phase read.current in
+        let at = phase_facts object legal told.index may.call (ReadNext read.position read.position) read.phase read.made in
         ended (ReadNext read.position read.position) read.phase read.position at read.held
         (read_reaches object may.call.kind (source_of object told.index) may.call.id may.call.called read.phase.start read.position
         read.position at.facts)

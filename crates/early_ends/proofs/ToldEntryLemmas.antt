@@ -18,6 +18,7 @@ use Rattle.atomicity.proofs.Sequences.SeenCallLemmas.{AreSeen, HasEnded, IsSeen,
 use Rattle.atomicity.specs.Atomic.{IsAtomic}
 use Rattle.early_ends.specs.Told.{IsHeldCall, IsTold, IsToldRead, Told, as_told, answer_to, told_entries, told_from}
 use Rattle.early_ends.proofs.ToldCallLemmas.{told_ended, told_tag}
+use Rattle.early_ends.proofs.WriteTagLemmas.{write_tag}
 use Rattle.early_ends.proofs.ToldValueLemmas.{told_value}
 
 -- Calls with such an answer
@@ -28,8 +29,8 @@ told_at fragment object told may = go may.held
   where
     go : IsHeldCall fragment object told may.call may.tag ⊎ IsToldRead fragment object told may.call may.tag →
         slice_get object.calls told.index ≡ Some may.call
-    go (inl held) = held.current.at
-    go (inr read) = read.current.at
+    go (inl held) = held.made.at
+    go (inr read) = read.made.at
 
 -- a call with an answer that may be told
 told_seen : (fragment : Code) (object : Object) (step : ℕ) → Determines fragment → IsSound fragment object step →
@@ -59,7 +60,7 @@ told_seen fragment object step determines sound told may = record {
     go : (value : List ℕ) → may.call.kind ≡ Write value →
         IsHeldCall fragment object told may.call may.tag ⊎ IsToldRead fragment object told may.call may.tag →
         tag_of object told.index may.call ≡ Some may.tag
-    go value k (inl held) = held.tagged
+    go value k (inl held) = write_tag object told.index may.call held.stage held.phase held.made value k may.tag held.tagged
     go value k (inr read) = absurd (let clash : Read ≡ Write value = sym read.reads ∙ k in cc)
 
 -- The answers by index

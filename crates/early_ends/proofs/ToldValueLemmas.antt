@@ -1,6 +1,5 @@
 -- A read whose answer may be told returned the journal's value of its tag.
 use Rattle.std.proofs.Common.{nat_eq, ◌≡◌, ℕ, ◌≤◌, ◌⊎◌, List, [], ◌∷◌, length, Some, refl, sym, subst, ap, ◌∙◌, inl, inr, arith}
-use Rattle.std.proofs.lemmas.Option.{same_Some}
 use Rattle.std.specs.List.{AllByRecursion, IsDistinct}
 use Rattle.tag.specs.declared.tag.Tag.{Tag}
 use Rattle.tag.specs.declared.limits.TheConstants.{MOST_MEMBERS}
@@ -11,9 +10,9 @@ use Rattle.record.specs.Journals.{IsJournaled}
 use Rattle.record.specs.Records.{Object, layout_at}
 use Rattle.soundness.specs.Sound.{IsSound}
 use Rattle.soundness.proofs.ListLemmas.{all_map}
-use Rattle.soundness.proofs.Values.ReadValueLemmas.{journal_bytes, journal_unique, settled_journaled, settled_tag}
-use Rattle.early_ends.specs.Told.{HasToldPiece, HasToldPieces, IsHeldCall, IsTold, IsToldRead, Told}
-use Rattle.early_ends.proofs.HeldTagLemmas.{held_lawful}
+use Rattle.soundness.proofs.Quorums.QuorumMeetingLemmas.{lawful_at}
+use Rattle.soundness.proofs.Values.ReadValueLemmas.{journal_bytes, journal_unique}
+use Rattle.early_ends.specs.Told.{HasToldPiece, HasToldPieces, IsHeldCall, IsTold, IsToldRead, ReturnsTold, Told}
 
 -- k fragments of a value that are also fragments of the journal's value of a tag
 told_pieces_journaled : (fragment : Code) (object : Object) (step : ℕ) → Determines fragment → IsSound fragment object step →
@@ -49,22 +48,16 @@ pub told_value : (fragment : Code) (object : Object) (step : ℕ) → Determines
     (value : List ℕ) × (told.value ≡ Some value) × IsJournaled object may.tag value
 told_value fragment object step determines sound told may reads = go may.held
   where
+    returned_value : ReturnsTold fragment object told may.tag →
+        (value : List ℕ) × (told.value ≡ Some value) × IsJournaled object may.tag value
+    returned_value returns = (
+      returns.value,
+      returns.returned,
+      told_pieces_journaled fragment object step determines sound returns.position may.tag returns.value
+          (lawful_at object returns.position sound.legal.layouts returns.pieces.placed) returns.is_value returns.pieces,
+    )
+
     go : IsHeldCall fragment object told may.call may.tag ⊎ IsToldRead fragment object told may.call may.tag →
         (value : List ℕ) × (told.value ≡ Some value) × IsJournaled object may.tag value
-    go (inl held) =
-        let has = held.returns reads in
-        let settled = has.2 in
-        let tag = settled_tag fragment object sound.legal told.index may.call held.current.at has.0 settled in
-        let same : settled.fetch.0 ≡ may.tag = same_Some settled.fetch.0 may.tag (sym tag ∙ held.tagged) in (
-          has.0,
-          has.1,
-          subst (λ t. IsJournaled object t has.0) same
-              (settled_journaled fragment object determines sound.legal sound.values sound.coded told.index may.call held.current.at
-              has.0 has.3 settled),
-        )
-    go (inr read) = (
-      read.value,
-      read.returned,
-      told_pieces_journaled fragment object step determines sound read.position may.tag read.value
-          (held_lawful object read.position may.tag read.phase.start told.step sound.legal.layouts read.held) read.is_value read.pieces,
-    )
+    go (inl held) = returned_value (held.returns reads)
+    go (inr read) = returned_value read.returns

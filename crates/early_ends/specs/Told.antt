@@ -1,11 +1,13 @@
 -- The contracts that docs/trusted.md lists do not depend on this file; other contracts and proofs do.
--- Answers that clients were told for calls that the record leaves open, when such an answer may be told, and the
+-- Answers that clients were told early, whatever the calls did afterwards, when such an answer may be told, and the
 -- history with these answers in place.
 use Rattle.std.specs.Prelude.{◌≡◌, ℕ, suc, ◌<◌, ◌≤◌, ◌⊎◌, ◌==◌, nat_eq, false, if◌then◌else◌}
-use Rattle.std.specs.Prelude.{List, [], ◌∷◌, ◌++◌, length, Option, Some, None, slice_get, IsSome}
+use Rattle.std.specs.Prelude.{List, [], ◌∷◌, ◌++◌, length, Option, Some, None, slice_get}
 use Rattle.std.specs.List.{AllByRecursion, IsDistinct}
 use Rattle.tag.specs.declared.tag.Tag.{Tag}
 use Rattle.tag.specs.Tag.{tag_lt}
+use Rattle.layout.specs.Quorum.{IsQuorum}
+use Rattle.bank.specs.Bank.{Bank}
 use Rattle.bank.specs.Knowledge.{HasFinalized}
 use Rattle.mail.specs.Phase.{Phase}
 use Rattle.piece.specs.declared.piece.Piece.{Piece}
@@ -13,8 +15,8 @@ use Rattle.record.specs.declared.call.CallKind.TheVariants.{Read}
 use Rattle.record.specs.declared.call.Entry.{Entry}
 use Rattle.record.specs.declared.stage.Stage.{Stage}
 use Rattle.record.specs.declared.stage.Stage.TheVariants.{ReadNext, FetchAt, FinalizeAt}
-use Rattle.record.specs.Fragments.{Code, IsCoded, IsFragment, IsSettled, IsValue}
-use Rattle.record.specs.Journals.{entry_of, tag_of}
+use Rattle.record.specs.Fragments.{Code, IsCoded, IsFragment, IsValue}
+use Rattle.record.specs.Journals.{entry_of, stage_tag}
 use Rattle.record.specs.Legal.{first_stage, source_of}
 use Rattle.record.specs.PhaseOrder.{begun_at, stage_after}
 use Rattle.record.specs.Records.{Call, Object, layout_at, bank_at}
@@ -50,12 +52,12 @@ told_entries object told = told_from told 0 object.calls
 
 -- When an answer may be told
 
--- the call at this index is not answered in the record, and this is its current phase, which was due at this stage
-pub record IsCurrent (object : Object) (index : ℕ) (call : Call) (stage : Stage) (phase : Phase) : Type 0 where
+-- the call at this index made this phase, which was due at this stage; the call may have gone on since
+pub record HasPhase (object : Object) (index : ℕ) (call : Call) (stage : Stage) (phase : Phase) : Type 0 where
   pub at : slice_get object.calls index ≡ Some call
-  pub unanswered : call.answered ≡ None
   pub earlier : List Phase
-  pub phases : call.phases ≡ earlier ++ phase ∷ []
+  pub later : List Phase
+  pub phases : call.phases ≡ earlier ++ phase ∷ later
   pub due_at : stage
       ≡ begun_at (stage_after call.kind call.id (first_stage call.kind (source_of object index)) earlier)
       phase.position
@@ -66,19 +68,6 @@ last_of (FetchAt shown_at last tag) = Some last
 last_of (FinalizeAt last tag) = Some last
 last_of _ = None
 
--- the call fetches or finalizes its tag, complete or not, and the tag is held at its last position; a read returns what
--- k pieces of its latest fetch give
-pub record IsHeldCall (fragment : Code) (object : Object) (told : Told) (call : Call) (tag : Tag) : Type 0 where
-  pub stage : Stage
-  pub phase : Phase
-  pub current : IsCurrent object told.index call stage phase
-  pub last : ℕ
-  pub has_last : last_of stage ≡ Some last
-  pub tagged : tag_of object told.index call ≡ Some tag
-  pub held : IsHeld object last tag phase.start told.step
-  pub returns : call.kind ≡ Read →
-      (value : List ℕ) × (told.value ≡ Some value) × IsSettled fragment object call value × IsValue value
-
 -- the member told a piece of the tag, which is its fragment of the journal's value of the tag, and of this value
 pub record HasToldPiece (fragment : Code) (object : Object) (position : ℕ) (tag : Tag) (value : List ℕ)
     (member : ℕ) : Type 0 where
@@ -87,35 +76,59 @@ pub record HasToldPiece (fragment : Code) (object : Object) (position : ℕ) (ta
   pub coded : IsCoded fragment object position member tag (Some piece)
   pub fits : IsFragment fragment (layout_at object position) member value piece
 
--- at least k members told pieces of the tag, which are their fragments of this value
+-- at least k members of a position told pieces of the tag, which are their fragments of this value
 pub record HasToldPieces (fragment : Code) (object : Object) (position : ℕ) (tag : Tag) (value : List ℕ) : Type 0 where
+  pub placed : position < length object.layouts
   pub members : List ℕ
   pub distinct : IsDistinct nat_eq members
   pub enough : (layout_at object position).k ≤ length members
   pub pieces : AllByRecursion (HasToldPiece fragment object position tag value) members
 
--- no member that replied to the phase had finalized a greater tag just after the step of its reply
-abbrev pub IsGreatestTold : Object → Phase → Tag → Type 0
-IsGreatestTold object phase tag = AllByRecursion (λ reply. (other : Tag) →
-    HasFinalized (bank_at object phase.position reply.member) other reply.reply.step → tag_lt tag other ≡ false)
-    phase.replies
-
--- a read asked the first position that counts, a quorum replied, and each reply also told its greatest finalized tag:
--- the greatest of these is held there since the phase began, and k pieces of it that were told give the value returned
-pub record IsToldRead (fragment : Code) (object : Object) (told : Told) (call : Call) (tag : Tag) : Type 0 where
+-- the answer returns what k pieces of the tag give that members of a position told
+pub record ReturnsTold (fragment : Code) (object : Object) (told : Told) (tag : Tag) : Type 0 where
   pub position : ℕ
-  pub phase : Phase
-  pub current : IsCurrent object told.index call (ReadNext position position) phase
-  pub reads : call.kind ≡ Read
-  pub complete : IsSome phase.end
-  pub greatest : IsGreatestTold object phase tag
-  pub held : IsHeld object position tag phase.start told.step
   pub value : List ℕ
   pub returned : told.value ≡ Some value
   pub is_value : IsValue value
   pub pieces : HasToldPieces fragment object position tag value
 
--- the answer may be told: the tag of its call is held, or it is a told read of a tag that is held
+-- the call fetched or finalized its tag, complete or not, and the tag was held at its last position since then; a read
+-- returns what k pieces give
+pub record IsHeldCall (fragment : Code) (object : Object) (told : Told) (call : Call) (tag : Tag) : Type 0 where
+  pub stage : Stage
+  pub phase : Phase
+  pub made : HasPhase object told.index call stage phase
+  pub last : ℕ
+  pub has_last : last_of stage ≡ Some last
+  pub tagged : stage_tag stage ≡ Some tag
+  pub held : IsHeld object last tag phase.start told.step
+  pub returns : call.kind ≡ Read → ReturnsTold fragment object told tag
+
+-- just after some step from `since` on, the bank had finalized no tag greater than this one
+pub record HasNoGreater (bank : Bank) (tag : Tag) (since : ℕ) : Type 0 where
+  pub step : ℕ
+  pub from : since ≤ step
+  pub none : (other : Tag) → HasFinalized bank other step → tag_lt tag other ≡ false
+
+-- a quorum of members told its greatest finalized tags, each just after some step from `since` on, and none of these is
+-- greater than this tag
+pub record IsGreatestTold (object : Object) (position : ℕ) (tag : Tag) (since : ℕ) : Type 0 where
+  pub members : List ℕ
+  pub quorum : IsQuorum (layout_at object position) members
+  pub each : AllByRecursion (λ member. HasNoGreater (bank_at object position member) tag since) members
+
+-- a read asked the first position that counts, and each of a quorum told its greatest finalized tag: the greatest of
+-- these was held there since the phase began, and k pieces of it that were told give the value returned
+pub record IsToldRead (fragment : Code) (object : Object) (told : Told) (call : Call) (tag : Tag) : Type 0 where
+  pub position : ℕ
+  pub phase : Phase
+  pub made : HasPhase object told.index call (ReadNext position position) phase
+  pub reads : call.kind ≡ Read
+  pub greatest : IsGreatestTold object position tag phase.start
+  pub held : IsHeld object position tag phase.start told.step
+  pub returns : ReturnsTold fragment object told tag
+
+-- the answer may be told: the tag of its call was held, or it is a told read of a tag that was held
 pub record IsTold (fragment : Code) (object : Object) (told : Told) : Type 0 where
   pub call : Call
   pub tag : Tag

@@ -1,4 +1,4 @@
-//! Calls of separate nodes that end early: answers that clients are told while the record leaves the calls open.
+//! Calls of separate nodes that end early: answers that clients are told before the record makes a step that answers.
 //!
 //! The definitions, which a reader has to believe, are in `specs/`. Each law is the contract of a function with an
 //! empty body.

@@ -9,14 +9,14 @@ use Rattle.record.specs.declared.call.CallKind.TheVariants.{Write}
 use Rattle.record.specs.declared.call.Entry.{Entry}
 use Rattle.record.specs.declared.call.Operation.TheVariants as operation
 use Rattle.record.specs.declared.stage.Stage.{Stage}
-use Rattle.record.specs.Journals.{tag_of}
+use Rattle.record.specs.Journals.{stage_tag}
 use Rattle.record.specs.Records.{Call, Object, layout_at, bank_at}
 use Rattle.record.specs.Steps.{Step, opened_object}
 use Rattle.record.specs.Steps.Step.{CallRead, CallWrite, CallMove, Advance, Supply, Settle, AnswerCall}
 use Rattle.record.specs.Steps.Step.{Serve, Take, Lose}
 use Rattle.tag.specs.declared.tag.Tag.{Tag}
 use Rattle.early_ends.specs.Held.{HasHeld}
-use Rattle.early_ends.specs.Told.{IsCurrent, Told, last_of}
+use Rattle.early_ends.specs.Told.{HasPhase, Told, last_of}
 use Rattle.example_tests.specs.RecordExamples.{other_member}
 
 -- a layout whose members are the servers 0, 1 and 2
@@ -69,10 +69,10 @@ pub record IsHeldByQuorum (object : Object) (told : Told) (tag : Tag) : Type 0 w
   pub writes : call.kind ≡ Write value
   pub stage : Stage
   pub phase : Phase
-  pub current : IsCurrent object told.index call stage phase
+  pub made : HasPhase object told.index call stage phase
   pub last : ℕ
   pub has_last : last_of stage ≡ Some last
-  pub tagged : tag_of object told.index call ≡ Some tag
+  pub tagged : stage_tag stage ≡ Some tag
   pub members : List ℕ
   pub quorum : IsQuorum (layout_at object last) members
   pub each : AllByRecursion (λ member. HasHeld (bank_at object last member) tag phase.start told.step) members

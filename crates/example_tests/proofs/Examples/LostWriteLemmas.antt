@@ -192,10 +192,10 @@ held_at_end = record {
   writes = refl;
   stage = FinalizeAt 0 lost_tag;
   phase = finalize;
-  current = record {
+  made = record {
     at = refl;
-    unanswered = refl;
     earlier = take 3 write_call.phases;
+    later = [];
     phases = last_of_four write_call.phases refl;
     due_at = refl;
   };
