@@ -1,0 +1,13 @@
+pub mod CarriedCallLemmas
+pub mod EarlyEndLemmas
+pub mod EarlyHistoryLemmas
+pub mod EarlyValueLemmas
+pub mod FetchedPieceLemmas
+pub mod GrownPhaseLemmas
+pub mod KeptPastLemmas
+pub mod KeptStepLemmas
+pub mod PastBankLemmas
+pub mod ServedMessageLemmas
+pub mod ShownMemberLemmas
+pub mod ToldTagLemmas
+pub mod TracedRunLemmas
