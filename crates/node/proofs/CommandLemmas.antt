@@ -70,7 +70,6 @@ command_served ticks delta a b c client next (Service.Passes name ended other re
 command_served ticks delta a b c client next (Service.Ages id) taken done = absurd done
 command_served ticks delta a b c client next (Service.GivesUp id told) taken done = absurd done
 command_served ticks delta a b c client next (Service.Releases id told) taken done = absurd done
-command_served ticks delta a b c client next Service.Drops taken done = absurd done
 
 -- what is done with a command of a client is of this client, and follows up
 pub command_is : (old new : Desk) (client : ℕ) (next : Next) (service : Service) →
@@ -85,7 +84,6 @@ command_is old new client next (Service.Passes name ended other rest) done = abs
 command_is old new client next (Service.Ages id) done = absurd done
 command_is old new client next (Service.GivesUp id told) done = absurd done
 command_is old new client next (Service.Releases id told) done = absurd done
-command_is old new client next Service.Drops done = absurd done
 
 -- an idle connection on which a command waits gives a next command
 no_first : (connection : Option Connection) (next : Next) (waiting : List Next) → has_next connection ≡ false →

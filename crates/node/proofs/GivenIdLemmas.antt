@@ -46,7 +46,6 @@ uses_node before after (Service.Passes name ended client rest) same = ap (λ (i 
 uses_node before after (Service.Ages id) same = ap (λ (i : CallIds). i.node) same
 uses_node before after (Service.GivesUp id told) same = ap (λ (i : CallIds). i.node) same
 uses_node before after (Service.Releases id told) same = ap (λ (i : CallIds). i.node) same
-uses_node before after Service.Drops same = ap (λ (i : CallIds). i.node) same
 
 -- Services, one after another
 
@@ -69,7 +68,6 @@ ending_uses before after (Service.Quits client) ending same = absurd ending
 ending_uses before after (Service.Ages id) ending same = absurd ending
 ending_uses before after (Service.GivesUp id told) ending same = absurd ending
 ending_uses before after (Service.Releases id told) ending same = absurd ending
-ending_uses before after Service.Drops ending same = absurd ending
 
 -- Answers
 

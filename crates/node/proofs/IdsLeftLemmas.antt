@@ -53,7 +53,6 @@ one_used before after (Service.Passes name ended client rest) within same = none
 one_used before after (Service.Ages id) within same = none_used before after within same
 one_used before after (Service.GivesUp id told) within same = none_used before after within same
 one_used before after (Service.Releases id told) within same = none_used before after within same
-one_used before after Service.Drops within same = none_used before after within same
 
 pub all_used : (before after : CallIds) (services : List Service) → HasRanges before → UseIds before services after →
     UsesMany (ids_used services) before after

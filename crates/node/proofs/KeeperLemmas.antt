@@ -1,5 +1,5 @@
 -- Calls that begin at what a node keeps, and letters that come, as what the node does for its clients.
-use Rattle.std.proofs.Common.{◌≡◌, inl, inr, ℕ, Bool, true, false, [], ◌∷◌, ◌++◌, None, Some, OnOk, Result, Ok, Err}
+use Rattle.std.proofs.Common.{◌≡◌, inl, inr, ℕ, not, Bool, true, false, [], ◌∷◌, ◌++◌, None, Some, Ok}
 use Rattle.std.proofs.Common.{refl, sym, subst, ap, ◌∙◌}
 use Rattle.std.proofs.lemmas.List.{append-nil}
 use Rattle.tag.specs.declared.refusal.Refusal.{Refusal}
@@ -20,7 +20,7 @@ use Rattle.node_clients.specs.Served.{IsServiceDone, call_begun}
 use Rattle.node_clients.specs.Services.{Service, begun_notices, service_dues, service_frames}
 use Rattle.node_clients.proofs.EndLemmas.{EndsAs, IsEnding}
 use Rattle.node_keeper.specs.Beginning.{Beginning, BeginsCall}
-use Rattle.node_keeper.specs.Delivering.{DeliversLetter, DeliversAs}
+use Rattle.node_keeper.specs.Delivering.{DeliversLetter, DeliversAs, told_by, was_dropped}
 use Rattle.node_keeper.specs.Keeping.{heeds, kept_of}
 use Rattle.node_keeper.specs.declared.delivered.Begun.{Begun}
 use Rattle.node_keeper.specs.declared.delivered.Begun.TheVariants as begun
@@ -38,12 +38,6 @@ use Rattle.node.specs.Serving.{FollowsUp, IsAwaited, ServesCommand, ServesMore}
 use Rattle.node.specs.declared.node.Node.{Node}
 use Rattle.node.proofs.GivenIdLemmas.{ending_uses}
 use Rattle.node.proofs.ServingLemmas.{more_none, more_one, serves_none, serves_one}
-
--- what follows from three things that hold of the same result
-pub of_three : {T E P Q R S : Type 0} (result : Result T E) → (P → Q → R → S) → OnOk result P → OnOk result Q →
-    OnOk result R → OnOk result S
-of_three (Ok x) f p q r = f p q r
-of_three (Err e) f p q r = tt
 
 begins_file : (call : Beginning) (old new : Keeper) (u v : Work) (begun : Begun) → BeginsCall call old u new v begun →
     new.file ≡ old.file
@@ -124,6 +118,19 @@ delivers_ids false asks asker it old new u v result is = ap (λ (k : Keeper). k.
 delivers_ids true true asker it old new u v result is = is.1.rest.ids
 delivers_ids true false asker it old new u v result is = is.2.rest.ids
 
+delivers_heeded : (heeded asks : Bool) (asker : ℕ) (it : NamedLetter) (old new : Keeper) (u v : Work) (result : Delivered) →
+    DeliversAs heeded asks asker it old u new v result → not (was_dropped result) ≡ heeded
+delivers_heeded false asks asker it old new u v result is = ap (λ r. not (was_dropped r)) is.0
+delivers_heeded true true asker it old new u v result is = ap (λ r. not (was_dropped r)) is.0
+delivers_heeded true false asker it old new u v result (None, same, taken) = ap (λ r. not (was_dropped r)) same
+delivers_heeded true false asker it old new u v result (Some ended, same, taken) = ap (λ r. not (was_dropped r)) same
+
+-- a letter is dropped exactly if the node does not heed it
+pub is_heeded : (asker : ℕ) (it : NamedLetter) (old new : Keeper) (u v : Work) (result : Delivered) →
+    DeliversLetter asker it old u new v result → not (was_dropped result) ≡ heeds (kept_of old) (named_of it)
+is_heeded asker it old new u v result is =
+    delivers_heeded (heeds (kept_of old) (named_of it)) (is_request it.letter.message.body) asker it old new u v result is
+
 module _ (asker : ℕ) (it : NamedLetter) (old new : Node) (u v : Work) where
   file_after : (result : Delivered) → DeliversLetter asker it old.keeper u new.keeper v result → new.keeper.file ≡ old.keeper.file
   file_after result is =
@@ -135,24 +142,14 @@ module _ (asker : ℕ) (it : NamedLetter) (old new : Node) (u v : Work) where
       delivers_ids (heeds (kept_of old.keeper) (named_of it)) (is_request it.letter.message.body) asker it old.keeper new.keeper
       u v result is
 
-  -- a letter was dropped
-  pub dropped_served : DeliversLetter asker it old.keeper u new.keeper v delivered.Dropped →
-      IsServiceDone old.keeper.file.ticks old.keeper.file.fixed.delta old.desk Service.Drops new.desk → ServesMore old u new v
-  dropped_served is dropped =
-      let clients = delivers_leaves asker it old.keeper new.keeper u v delivered.Dropped is in
-      more_one old new u v Service.Drops tt
-      (serves_one old new u v Service.Drops dropped (clients.to_clients ∙ sym (append-nil u.to_clients.items))
-      (clients.due ∙ sym (append-nil u.due.items)) (delivers_seen asker it old.keeper new.keeper u v delivered.Dropped is) tt
-      (file_after delivered.Dropped is) (ids_after delivered.Dropped is))
-
-  -- a letter was handled, and no call ended
-  pub handled_served : DeliversLetter asker it old.keeper u new.keeper v delivered.Handled → new.desk ≡ old.desk →
-      ServesMore old u new v
-  handled_served is same =
-      let clients = delivers_leaves asker it old.keeper new.keeper u v delivered.Handled is in
+  -- a letter came with which no call ended
+  pub none_ended_served : (result : Delivered) → DeliversLetter asker it old.keeper u new.keeper v result →
+      told_by it.name result ≡ [] → new.desk ≡ old.desk → ServesMore old u new v
+  none_ended_served result is none same =
+      let clients = delivers_leaves asker it old.keeper new.keeper u v result is in
       more_none old new u v (serves_none old new u v same clients.to_clients clients.due
-      (delivers_seen asker it old.keeper new.keeper u v delivered.Handled is ∙ append-nil u.notices.items)
-      (file_after delivered.Handled is) (ids_after delivered.Handled is))
+      (delivers_seen asker it old.keeper new.keeper u v result is ∙ ap (λ ns. u.notices.items ++ ns) none
+      ∙ append-nil u.notices.items) (file_after result is) (ids_after result is))
 
   -- what was done for the client of a call that ended follows up, and is right
   ending_follows : (service : Service) → IsEnding service → FollowsUp service × IsRight old.keeper.ids.node old.keeper.file service
@@ -166,7 +163,6 @@ module _ (asker : ℕ) (it : NamedLetter) (old new : Node) (u v : Work) where
   ending_follows (Service.Ages id) ending = absurd ending
   ending_follows (Service.GivesUp id told) ending = absurd ending
   ending_follows (Service.Releases id told) ending = absurd ending
-  ending_follows Service.Drops ending = absurd ending
 
   -- a letter was taken, and a call ended
   pub ended_served : (ended : Ended) (w : Work) → DeliversLetter asker it old.keeper u new.keeper v (delivered.Ended ended) →

@@ -63,7 +63,6 @@ follows_none (Service.Passes name ended client rest) follows = tt
 follows_none (Service.Ages id) follows = tt
 follows_none (Service.GivesUp id told) follows = tt
 follows_none (Service.Releases id told) follows = tt
-follows_none Service.Drops follows = tt
 
 pub more_waits : (a b : Node) (u v : Work) → ServesMore a u b v → NoneWaits a.desk.clients u.due.items →
     NoneWaits b.desk.clients v.due.items
@@ -81,7 +80,6 @@ tick_none id (Service.Passes name ended client rest) tick = tt
 tick_none id (Service.Ages other) tick = tt
 tick_none id (Service.GivesUp other told) tick = tt
 tick_none id (Service.Releases other told) tick = tt
-tick_none id Service.Drops tick = tt
 
 ticks_none : (ids : List ℕ) (services : List Service) → AreTicksOf ids services → AllByRecursion IsNoArrival services
 ticks_none [] [] ticks = tt

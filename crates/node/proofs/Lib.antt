@@ -1,6 +1,7 @@
 pub mod FailureLemmas
 pub mod TellLemmas
 pub mod PeerLemmas
+pub mod DropLemmas
 pub mod ReadyLemmas
 pub mod ShownLemmas
 pub mod SilenceLemmas

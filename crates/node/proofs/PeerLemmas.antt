@@ -1,16 +1,22 @@
 -- Each node with another cluster file is told of once.
-use Rattle.std.proofs.Common.{◌≡◌, ◌&&◌, ℕ, Bool, true, false, not, cond, List, [], ◌∷◌, ◌++◌, length, nat_lt}
+use Rattle.std.proofs.Common.{◌≡◌, ◌&&◌, ◌||◌, ℕ, Bool, true, false, not, cond, List, [], ◌∷◌, ◌++◌, length, nat_lt}
 use Rattle.std.proofs.Common.{None, Some, Result, Ok, Err, refl, sym, subst, ap, ◌∙◌}
+use Rattle.std.specs.Str.{bytes_eq}
 use Rattle.std.proofs.lemmas.Bool.{and_parts}
 use Rattle.std.proofs.lemmas.List.{append-nil, append_assoc}
 use Rattle.node_effects.specs.declared.report.Report.{Report}
+use Rattle.node_effects.specs.Seen.{named_of}
+use Rattle.node_keeper.specs.Keeping.{heeds, kept_of}
 use Rattle.node_keeper.specs.declared.keeper.Keeper.{Keeper}
+use Rattle.layout.specs.Quorum.{has}
+use Rattle.node_messages.specs.Limits.{has_low_tags}
 use Rattle.node_messages.specs.Reading.{message_from}
 use Rattle.node_messages.specs.declared.error.Fault.{Fault}
 use Rattle.node_messages.specs.declared.message.NodeMessage.{NodeMessage}
 use Rattle.node_strings.specs.declared.arrival.Arrival.TheVariants as arrived
-use Rattle.node.specs.Frames.{is_admitted}
-use Rattle.node.specs.Peers.{AreDistinctAfter, HasNotedIf, IsChangedIfRead, OthersAreToldOnce, after_message, is_foreign, is_known}
+use Rattle.node.specs.Frames.{is_admitted, is_from_cluster}
+use Rattle.node.specs.Peers.{AreDistinctAfter, HasNotedIf, IsChangedByMessage, IsChangedIfRead, OthersAreToldOnce, after_letter}
+use Rattle.node.specs.Peers.{after_message, is_foreign, is_known}
 use Rattle.node.specs.Peers.{report_of, with_other}
 use Rattle.node.specs.declared.peers.Peers.{Peers}
 use Rattle.node.specs.declared.peers.TheConstants.{MOST_OTHERS}
@@ -40,20 +46,44 @@ with_once others other are = go (nat_lt (length others) MOST_OTHERS && not (is_k
     go false e = are
 
 -- a message of the same cluster file changes no others
-others_stay : (admitted : Bool) (peers : Peers) → (after_message admitted peers).others ≡ peers.others
-others_stay true peers = refl
-others_stay false peers = refl
+others_stay : (admitted heeded : Bool) (peers : Peers) → (after_message admitted heeded peers).others ≡ peers.others
+others_stay true heeded peers = refl
+others_stay false heeded peers = refl
 
-noted_once : (b : Bool) (other : Report) (admitted : Bool) (old new : Peers) → HasNotedIf b other admitted old new →
+-- a message that is admitted is of the same cluster file
+pub admitted_is_own : (keeper : Keeper) (sender : ℕ) (message : NodeMessage) → is_admitted keeper sender message ≡ true →
+    is_foreign keeper message ≡ false
+admitted_is_own keeper sender message is =
+    let from = is_from_cluster keeper sender message in
+    let is_from = (and_parts from (has_low_tags message.named.letter.message.body) is).0 in
+    let known = has keeper.file.fixed.nodes sender || has keeper.file.later sender in
+    ap not (and_parts known (bytes_eq message.digest keeper.digest) is_from).1
+
+-- what a message that is admitted changes
+pub admitted_changes : (keeper : Keeper) (sender : ℕ) (message : NodeMessage) (old new : Peers) →
+    is_admitted keeper sender message ≡ true → new ≡ after_letter (heeds (kept_of keeper) (named_of message.named)) old →
+    IsChangedByMessage keeper sender message old new
+admitted_changes keeper sender message old new is changed =
+    let heeded = heeds (kept_of keeper) (named_of message.named) in
+    let other = report_of keeper sender message in
+    subst (λ b. HasNotedIf b other (after_message (is_admitted keeper sender message) heeded old) old new)
+    (sym (admitted_is_own keeper sender message is))
+    (subst (λ b. new ≡ after_message b heeded old) (sym is) changed)
+
+noted_once : (b : Bool) (other : Report) (after old new : Peers) → after.others ≡ old.others → HasNotedIf b other after old new →
     AreDistinctAfter [] old.others.items → AreDistinctAfter [] new.others.items
-noted_once true other admitted old new noted are = subst (AreDistinctAfter []) (sym noted.others) (with_once old.others.items other are)
-noted_once false other admitted old new same are =
-    subst (λ xs. AreDistinctAfter [] xs.items) (sym (ap (λ (peers : Peers). peers.others) same ∙ others_stay admitted old)) are
+noted_once true other after old new stay noted are =
+    subst (AreDistinctAfter []) (sym noted.others) (with_once old.others.items other are)
+noted_once false other after old new stay same are =
+    subst (λ xs. AreDistinctAfter [] xs.items) (sym (ap (λ (peers : Peers). peers.others) same ∙ stay)) are
 
 read_once : (keeper : Keeper) (sender : ℕ) (r : Result NodeMessage Fault) (old new : Peers) →
     IsChangedIfRead keeper sender r old new → AreDistinctAfter [] old.others.items → AreDistinctAfter [] new.others.items
 read_once keeper sender (Ok message) old new changed are =
-    noted_once (is_foreign keeper message) (report_of keeper sender message) (is_admitted keeper sender message) old new changed are
+    let admitted = is_admitted keeper sender message in
+    let heeded = heeds (kept_of keeper) (named_of message.named) in
+    noted_once (is_foreign keeper message) (report_of keeper sender message) (after_message admitted heeded old) old new
+    (others_stay admitted heeded old) changed are
 read_once keeper sender (Err fault) old new same are =
     subst (λ (peers : Peers). AreDistinctAfter [] peers.others.items) (sym same) are
 

@@ -93,18 +93,22 @@ unsent_one old new work service served frames dues notices right same none =
     right (ap (λ (k : Keeper). k.file) same)
     (subst (λ (k : Keeper). UsesIds old.keeper.ids service k.ids) (sym same) none)
 
--- a frame is dropped
-pub drops_one : (old new : Node) (work : Work) →
-    IsServiceDone old.keeper.file.ticks old.keeper.file.fixed.delta old.desk Service.Drops new.desk →
-    new.keeper ≡ old.keeper → ServesClients old work (Service.Drops ∷ []) new work
-drops_one old new work served same = unsent_one old new work Service.Drops served refl refl refl tt same refl
-
-pub drops_more : (old new : Node) (work : Work) →
-    IsServiceDone old.keeper.file.ticks old.keeper.file.fixed.delta old.desk Service.Drops new.desk →
-    new.keeper ≡ old.keeper → ServesMore old work new work
-drops_more old new work served same = more_one old new work work Service.Drops tt (drops_one old new work served same)
-
 -- services do not depend on what the node knows of the other nodes
 pub serves_beside : (old new : Node) (peers : Peers) (u v : Work) (services : List Service) →
     ServesClients (record old { peers = peers }) u services new v → ServesClients old u services new v
 serves_beside old new peers u v services s = record { has = s.has; right = s.right; ids = s.ids; file = s.file; number = s.number }
+
+-- where nothing changes but what the node knows of the other nodes, nothing is done for clients
+pub peers_alone : (node : Node) (peers : Peers) (work : Work) → ServesClients node work [] (record node { peers = peers }) work
+peers_alone node peers work = serves_none node (record node { peers = peers }) work work refl refl refl refl refl refl
+
+pub more_beside : (old new : Node) (peers : Peers) (u v : Work) → ServesMore old u new v →
+    ServesMore old u (record new { peers = peers }) v
+more_beside old new peers u v m =
+    let s = m.serves in
+    let serves : ServesClients old u m.services (record new { peers = peers }) v =
+    record { has = s.has; right = s.right; ids = s.ids; file = s.file; number = s.number } in
+    record { services = m.services; serves = serves; follows = m.follows }
+
+pub peers_more : (node : Node) (peers : Peers) (work : Work) → ServesMore node work (record node { peers = peers }) work
+peers_more node peers work = more_none node (record node { peers = peers }) work work (peers_alone node peers work)

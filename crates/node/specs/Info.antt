@@ -16,6 +16,7 @@ use Rattle.node_clients.specs.declared.counts.Counts.{Counts}
 use Rattle.node_clients.specs.declared.open_call.OpenCall.{OpenCall}
 use Rattle.node_keeper.specs.declared.keeper.Keeper.{Keeper}
 use Rattle.node.specs.Moves.{hears}
+use Rattle.node.specs.Peers.{frames_dropped}
 use Rattle.node.specs.Shown.{node_word}
 use Rattle.node.specs.declared.drops.Drops.{Drops}
 use Rattle.node.specs.declared.peers.Peers.{Peers}
@@ -72,20 +73,21 @@ abbrev pub kept_lines : (banks tags : ℕ) → List ℕ
 kept_lines banks tags = concat (
     codes "cluster_open_banks:" ∷ decimal banks ∷ codes "\r\ncluster_tags:" ∷ decimal tags ∷ codes "\r\n" ∷ [])
 
--- the lines of that section with what was given up and dropped; `foreign` is the number of messages of nodes with
--- another cluster file
-abbrev pub lost_lines : Counts → (foreign : ℕ) → List ℕ
-lost_lines counts foreign = concat (
+-- the lines of that section with what was given up and dropped; `dropped` is the number of all frames that were
+-- dropped, and `foreign` that of messages of nodes with another cluster file
+abbrev pub lost_lines : Counts → (dropped foreign : ℕ) → List ℕ
+lost_lines counts dropped foreign = concat (
     codes "cluster_calls_given_up:" ∷ decimal counts.given_up
-    ∷ codes "\r\ncluster_frames_dropped:" ∷ decimal counts.dropped
+    ∷ codes "\r\ncluster_frames_dropped:" ∷ decimal dropped
     ∷ codes "\r\ncluster_frames_of_other_clusters:" ∷ decimal foreign ∷ codes "\r\n" ∷ [])
 
--- the lines of that section with the frames that were dropped for other causes
+-- the lines of that section with the frames that were dropped for each other cause
 abbrev pub drop_lines : Drops → List ℕ
 drop_lines drops = concat (
     codes "cluster_frames_malformed:" ∷ decimal drops.malformed
     ∷ codes "\r\ncluster_frames_unreadable:" ∷ decimal drops.unreadable
-    ∷ codes "\r\ncluster_frames_not_admitted:" ∷ decimal drops.not_admitted ∷ codes "\r\n" ∷ [])
+    ∷ codes "\r\ncluster_frames_not_admitted:" ∷ decimal drops.not_admitted
+    ∷ codes "\r\ncluster_frames_not_heeded:" ∷ decimal drops.not_heeded ∷ codes "\r\n" ∷ [])
 
 -- the line that says whether a node is heard: 1 or 0
 abbrev pub heard_line : (heard : Bool) → (node : ℕ) → List ℕ
@@ -127,11 +129,11 @@ size_lines objects bytes clients calls = concat (
     codes "objects:" ∷ decimal objects ∷ codes "\r\nbytes_stored:" ∷ decimal bytes
     ∷ codes "\r\nclients:" ∷ decimal clients ∷ codes "\r\ncalls_open:" ∷ decimal calls ∷ codes "\r\n" ∷ [])
 
--- the lines with what a node has counted; `foreign` is the number of messages of nodes with another cluster file
-abbrev pub count_lines : Counts → (foreign : ℕ) → List ℕ
-count_lines counts foreign = concat (
+-- the lines with what a node has counted; `dropped` and `foreign` are as in `lost_lines`
+abbrev pub count_lines : Counts → (dropped foreign : ℕ) → List ℕ
+count_lines counts dropped foreign = concat (
     codes "commands_answered:" ∷ decimal counts.answered ∷ codes "\r\ncalls_given_up:" ∷ decimal counts.given_up
-    ∷ codes "\r\nframes_dropped:" ∷ decimal counts.dropped ∷ codes "\r\nframes_of_other_clusters:" ∷ decimal foreign
+    ∷ codes "\r\nframes_dropped:" ∷ decimal dropped ∷ codes "\r\nframes_of_other_clusters:" ∷ decimal foreign
     ∷ codes "\r\nbytes_of_the_log:" ∷ decimal counts.log_bytes ∷ codes "\r\n" ∷ [])
 
 -- the lines with the nodes of the cluster file, each behind a space, and an empty line
@@ -198,7 +200,7 @@ about_cluster keeper peers calls moves counts =
     cluster_lines (is_ready fixed heard) (length fixed.nodes + length later)
     (heard + count_heard keeper peers later) calls moves
     ++ (kept_lines (kept_banks keeper) (kept_tags keeper)
-    ++ (lost_lines counts peers.foreign ++ drop_lines peers.drops))
+    ++ (lost_lines counts (frames_dropped peers) peers.foreign ++ drop_lines peers.drops))
 
 -- what that section tells of these nodes one by one
 abbrev pub about_nodes : Keeper → Peers → List ℕ → List ℕ
@@ -216,7 +218,7 @@ abbrev pub about_node : Keeper → Peers → (clients calls : ℕ) → Counts �
 about_node keeper peers clients calls counts =
     name_lines keeper.ids.node keeper.file.fixed.mover keeper.digest keeper.ids.epoch
     ++ (size_lines (length (heard_names keeper.objects)) (stored_bytes keeper) clients calls
-    ++ count_lines counts peers.foreign)
+    ++ count_lines counts (frames_dropped peers) peers.foreign)
 
 -- the section with the node's own lines
 abbrev pub node_section : Keeper → Peers → (clients calls : ℕ) → Counts → List ℕ

@@ -6,6 +6,8 @@ use Rattle.std.specs.List.{list_any}
 use Rattle.std.specs.Str.{bytes_eq}
 use Rattle.node_clients.specs.Desk.{one_more_counted}
 use Rattle.node_effects.specs.declared.report.Report.{Report}
+use Rattle.node_effects.specs.Seen.{named_of}
+use Rattle.node_keeper.specs.Keeping.{heeds, kept_of}
 use Rattle.node_keeper.specs.declared.keeper.Keeper.{Keeper}
 use Rattle.node_messages.specs.Reading.{message_from}
 use Rattle.node_messages.specs.declared.error.Fault.{Fault}
@@ -38,7 +40,7 @@ silences_after heard node (silence ∷ more) =
 
 -- none was dropped
 abbrev pub none_dropped : Drops
-none_dropped = record { malformed = 0; unreadable = 0; not_admitted = 0 }
+none_dropped = record { malformed = 0; unreadable = 0; not_admitted = 0; not_heeded = 0 }
 
 -- one more frame that no host sends
 abbrev pub with_malformed : Drops → Drops
@@ -51,6 +53,17 @@ with_unreadable drops = record drops { unreadable = one_more_counted drops.unrea
 -- one more message that is not admitted
 abbrev pub with_not_admitted : Drops → Drops
 with_not_admitted drops = record drops { not_admitted = one_more_counted drops.not_admitted }
+
+-- one more message that is admitted, if the node does not heed its letter
+abbrev pub with_letter : (heeded : Bool) → Drops → Drops
+with_letter heeded drops =
+    if heeded then drops else record drops { not_heeded = one_more_counted drops.not_heeded }
+
+-- how many frames were dropped, for all causes together, or 2^64 - 1 if these are more
+abbrev pub frames_dropped : Peers → ℕ
+frames_dropped peers =
+    let drops = peers.drops in
+    min (drops.malformed + drops.unreadable + drops.not_admitted + drops.not_heeded + peers.foreign) (2 ^ 64 - 1)
 
 -- nothing is known before a frame has come
 pub record KnowsNothing (peers : Peers) : Type 0 where
@@ -104,19 +117,26 @@ pub record HasNoted (other : Report) (old new : Peers) : Type 0 where
   pub others : new.others.items ≡ with_other old.others.items other
   pub told : new.told ≡ old.told
 
--- what a message of a node with the same cluster file changes: it is counted unless it is admitted
-abbrev pub after_message : (admitted : Bool) → Peers → Peers
-after_message admitted peers = if admitted then peers else record peers { drops = with_not_admitted peers.drops }
+-- what the letter of a message that is admitted changes: the message is counted unless the node heeds the letter
+abbrev pub after_letter : (heeded : Bool) → Peers → Peers
+after_letter heeded peers = record peers { drops = with_letter heeded peers.drops }
 
--- what a message changes: one of a node with another cluster file was noted
-abbrev pub HasNotedIf : (foreign : Bool) → (other : Report) → (admitted : Bool) → (old new : Peers) → Type 0
-HasNotedIf true other admitted old new = HasNoted other old new
-HasNotedIf false other admitted old new = new ≡ after_message admitted old
+-- what a message of a node with the same cluster file changes: it is counted unless it is admitted and its letter is
+-- heeded
+abbrev pub after_message : (admitted heeded : Bool) → Peers → Peers
+after_message admitted heeded peers =
+    if admitted then after_letter heeded peers else record peers { drops = with_not_admitted peers.drops }
+
+-- what a message changes: one of a node with another cluster file was noted; with any other, these are the peers after
+abbrev pub HasNotedIf : (foreign : Bool) → (other : Report) → (after old new : Peers) → Type 0
+HasNotedIf true other after old new = HasNoted other old new
+HasNotedIf false other after old new = new ≡ after
 
 -- what a message changes
 abbrev pub IsChangedByMessage : Keeper → (sender : ℕ) → NodeMessage → (old new : Peers) → Type 0
 IsChangedByMessage keeper sender message old new =
-    HasNotedIf (is_foreign keeper message) (report_of keeper sender message) (is_admitted keeper sender message) old new
+    HasNotedIf (is_foreign keeper message) (report_of keeper sender message)
+    (after_message (is_admitted keeper sender message) (heeds (kept_of keeper) (named_of message.named)) old) old new
 
 -- what a frame of a node changes: if it was read, what the message changes; otherwise it is counted
 abbrev pub IsChangedIfRead : Keeper → (sender : ℕ) → Result NodeMessage Fault → (old new : Peers) → Type 0
@@ -125,7 +145,7 @@ IsChangedIfRead keeper sender (Err fault) old new = new ≡ record old { drops =
 
 -- What changes with what has come: at a tick, the nodes that the host hears, and the silences; with a message of a node
 -- that has another cluster file, the count of these messages, and the nodes of which is told; with any other frame that
--- is dropped before its letter is looked at, the count for its cause. Nothing changes with anything else.
+-- is dropped, the count for its cause. So each frame that is dropped counts once. Nothing changes with anything else.
 abbrev pub IsChangedBy : Option Arrival → Keeper → (old new : Peers) → Type 0
 IsChangedBy (Some (came.Tick heard)) keeper old new = new ≡ with_tick heard old
 IsChangedBy (Some (came.Message sender frame)) keeper old new =
@@ -133,6 +153,24 @@ IsChangedBy (Some (came.Message sender frame)) keeper old new =
 IsChangedBy (Some (came.Command client frame)) keeper old new = new ≡ old
 IsChangedBy (Some (came.Left client)) keeper old new = new ≡ old
 IsChangedBy None keeper old new = new ≡ record old { drops = with_malformed old.drops }
+
+-- whether a frame of the node of this number is dropped, by what was read of it
+abbrev pub is_dropped_if_read : Keeper → (sender : ℕ) → Result NodeMessage Fault → Bool
+is_dropped_if_read keeper sender (Ok message) =
+    not (is_admitted keeper sender message && heeds (kept_of keeper) (named_of message.named))
+is_dropped_if_read keeper sender (Err fault) = true
+
+-- whether the node drops what has come
+abbrev pub is_dropped : Keeper → Option Arrival → Bool
+is_dropped keeper None = true
+is_dropped keeper (Some (came.Message sender frame)) = is_dropped_if_read keeper sender (message_from frame)
+is_dropped keeper (Some arrival) = false
+
+-- whatever comes, the sum of the counts grows by one, as far as 2^64 - 1, if the node drops it, and else stays the same
+abbrev pub DroppedFramesCountOnce : Type 0
+DroppedFramesCountOnce = (arrival : Option Arrival) (keeper : Keeper) (old new : Peers) →
+    IsChangedBy arrival keeper old new → frames_dropped new ≡
+    (if is_dropped keeper arrival then one_more_counted (frames_dropped old) else frames_dropped old)
 
 -- Reports
 

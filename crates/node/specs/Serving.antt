@@ -31,14 +31,13 @@ use Rattle.node.specs.Replies.{IsRight}
 use Rattle.node.specs.declared.node.Node.{Node}
 
 -- what a node does for its clients after it has done what has come: it carries out the next commands of connections,
--- calls are answered, and it drops letters that it does not heed
+-- and calls are answered
 abbrev pub FollowsUp : Service → Type 0
 FollowsUp (Service.Begins client command id) = ⊤
 FollowsUp (Service.Replies client command answer) = ⊤
 FollowsUp (Service.Quits client) = ⊤
 FollowsUp (Service.Ends name ended answer told) = ⊤
 FollowsUp (Service.Passes name ended client rest) = ⊤
-FollowsUp Service.Drops = ⊤
 FollowsUp service = ⊥
 
 -- the service makes the call of this id older by a tick
@@ -55,10 +54,10 @@ AreTicksOf [] (service ∷ services) = ⊥
 AreTicksOf (id ∷ ids) [] = ⊥
 AreTicksOf (id ∷ ids) (service ∷ services) = IsTickOf id service × AreTicksOf ids services
 
--- the services for what has come: a command, the end of a connection, a tick for each open call, or something that is
--- dropped; a message of another node that is not dropped needs none
+-- the services for what has come: a command, the end of a connection, or a tick for each open call; a message of
+-- another node and a frame that no host sends need none
 abbrev pub IsComing : Desk → Option Arrival → List Service → Type 0
-IsComing desk None services = services ≡ Service.Drops ∷ []
+IsComing desk None services = services ≡ []
 IsComing desk (Some (came.Command client command)) services = services ≡ Service.Arrives client command ∷ []
 IsComing desk (Some (came.Left client)) services = services ≡ Service.Leaves client ∷ []
 IsComing desk (Some (came.Message sender frame)) services = services ≡ []

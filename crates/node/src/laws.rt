@@ -7,7 +7,7 @@ ghost use Rattle.node.specs.Anew.{StartingNodesHaveOwn};
 ghost use Rattle.node.specs.IdsLeft.{HandledFramesUseIds, IdsAreLeft, NodesRunOutOfIds};
 ghost use Rattle.node.specs.Info.{ReadyNodesHearQuorums};
 ghost use Rattle.node.specs.OpenMoves.{DesksHaveTheOpenMoves, StartedDesksHaveTheOpenMoves};
-ghost use Rattle.node.specs.Peers.{OthersAreToldOnce};
+ghost use Rattle.node.specs.Peers.{DroppedFramesCountOnce, OthersAreToldOnce};
 
 /// A law: what a new node has from the entries that `Node::entries_anew` returns is a copy of the node.
 pub fn anew_gives_copies()
@@ -50,6 +50,11 @@ pub fn own_calls_are_distinct()
 /// cluster file of which is told. So each is told of once for each digest.
 pub fn others_are_told_once()
     ensures { OthersAreToldOnce }
+{}
+
+/// A law: whatever comes, it counts once among the frames that were dropped if the node drops it, and otherwise not.
+pub fn dropped_frames_count_once()
+    ensures { DroppedFramesCountOnce }
 {}
 
 /// A law: a node that is ready, as `INFO` says it by `cluster_state:ok`, hears a quorum of the layout that any name has

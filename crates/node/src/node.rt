@@ -146,7 +146,6 @@ impl Node {
         match read_arrival(frame) {
             Some(arrival) => self.take_arrival(arrival, work),
             None => {
-                self.desk.drop_frame();
                 self.peers.drops.count_malformed();
                 Ok(())
             }

@@ -3,7 +3,7 @@ ghost use Rattle.std.specs.Prelude.{◌≡◌, ◌≤◌, None, IfErr, OnOk, get
 ghost use Rattle.std.specs.List.{count_by};
 ghost use Rattle.node_effects.specs.declared.error.NodeError.TheVariants.{NoMemory};
 ghost use Rattle.node.specs.Info.{hears_now};
-ghost use Rattle.node.specs.Peers.{HasNoted, KnowsNothing, heard_at, is_known, is_same_report};
+ghost use Rattle.node.specs.Peers.{HasNoted, KnowsNothing, frames_dropped, heard_at, is_known, is_same_report};
 ghost use Rattle.node.specs.Peers.{next_report, with_next_told, with_tick};
 
 use crate::drops::Drops;
@@ -24,7 +24,7 @@ pub struct Peers {
     pub silences: [Option<u32>; NUMBERS],
     /// How many messages of nodes with another cluster file have come. The count stops at 2^64 - 1.
     pub foreign: u64,
-    /// How many frames were dropped for some other causes.
+    /// How many frames were dropped for each other cause.
     pub drops: Drops,
     /// Nodes with another cluster file, in the order in which they were first heard. A node stands here once for each
     /// digest of its file.
@@ -112,6 +112,18 @@ impl Peers {
             self.others.push(other)?;
         }
         Ok(())
+    }
+
+    /// Returns how many frames were dropped, for all causes together, or 2^64 - 1 if these are more.
+    pub(crate) fn frames_dropped(&self) -> u64
+        ensures { result ≡ frames_dropped self.now }
+    {
+        self.drops
+            .malformed
+            .saturating_add(self.drops.unreadable)
+            .saturating_add(self.drops.not_admitted)
+            .saturating_add(self.drops.not_heeded)
+            .saturating_add(self.foreign)
     }
 
     /// Returns the first node with another cluster file of which nobody was told yet, if there is one. From then on it

@@ -131,7 +131,6 @@ command_waits ticks delta a b client (Service.Passes name ended other rest) due 
 command_waits ticks delta a b client (Service.Ages id) due of done waits = absurd of
 command_waits ticks delta a b client (Service.GivesUp id told) due of done waits = absurd of
 command_waits ticks delta a b client (Service.Releases id told) due of done waits = absurd of
-command_waits ticks delta a b client Service.Drops due of done waits = absurd of
 
 -- a command comes: its connection is due
 pub arrival_waits : (a b : Desk) (client : ℕ) (command : List (List ℕ)) (due : List ℕ) → IsArrived a client command b →
@@ -172,7 +171,6 @@ service_waits ticks delta a b (Service.Releases id told) due none done waits =
     subst (λ n. NoneWaits b.clients (due ++ told_clients n)) (sym done.4.who)
     (told_waits older b.clients (waiting_for older.calls id) due done.4.idle
     (subst (λ c. NoneWaits c due) (sym done.3.clients) waits))
-service_waits ticks delta a b Service.Drops due none done waits = same_waits a.clients b.clients due done.0 waits
 
 -- the same of several things, one after another
 pub services_wait : (ticks : ℕ) (delta : Option ℕ) (a b : Desk) (services : List Service) (due : List ℕ) →

@@ -85,7 +85,7 @@ one_more_counted count = min (count + 1) (2 ^ 64 - 1)
 
 -- nothing is counted yet
 abbrev pub none_counted : Counts
-none_counted = record { answered = 0; given_up = 0; dropped = 0; log_bytes = 0 }
+none_counted = record { answered = 0; given_up = 0; log_bytes = 0 }
 
 -- the counts, with one more answered command if one was answered
 abbrev pub with_told : (is_answered : Bool) → Counts → Counts
@@ -95,10 +95,6 @@ with_told is_answered counts =
 -- the counts, with one more call that was given up
 abbrev pub with_give_up : Counts → Counts
 with_give_up counts = record counts { given_up = one_more_counted counts.given_up }
-
--- the counts, with one more dropped frame
-abbrev pub with_drop : Counts → Counts
-with_drop counts = record counts { dropped = one_more_counted counts.dropped }
 
 -- the connection of a client is one of those that are due
 abbrev pub IsDue : (due : List ℕ) → (client : ℕ) → Type 0

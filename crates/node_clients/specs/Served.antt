@@ -14,7 +14,7 @@ use Rattle.node_effects.specs.declared.work.Work.{Work}
 use Rattle.node_clients.specs.Calls.{becomes_late, call_answer, call_under, is_move_open, older_call, rest_of}
 use Rattle.node_clients.specs.Calls.{waiting_for, with_nobody}
 use Rattle.node_clients.specs.Desk.{IsIdleAgain, IsIdleFor, IsPutBack, connection_of, has_listener, listener}
-use Rattle.node_clients.specs.Desk.{with_drop, with_give_up, with_told}
+use Rattle.node_clients.specs.Desk.{with_give_up, with_told}
 use Rattle.node_clients.specs.Services.{Service, all_dues, all_frames, all_notices}
 use Rattle.node_clients.specs.declared.desk.Desk.{Desk}
 use Rattle.node_clients.specs.declared.open_call.OpenCall.{OpenCall}
@@ -169,8 +169,6 @@ IsServiceDone ticks delta old (Service.GivesUp id told) new =
 IsServiceDone ticks delta old (Service.Releases id told) new =
     (becomes_late ticks (call_under old.calls id) ≡ true) × (is_move_open (call_under old.calls id) ≡ true)
     × (older : Desk) × IsOlder old id older × IsReleased older id told new
-IsServiceDone ticks delta old Service.Drops new =
-    (new.clients ≡ old.clients) × (new.calls ≡ old.calls) × (new.counts ≡ with_drop old.counts)
 
 -- how the desk changes with these services, one after another
 abbrev pub AreServicesDone : (ticks : ℕ) → (delta : Option ℕ) → (old : Desk) → List Service → (new : Desk) → Type 0

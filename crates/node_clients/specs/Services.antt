@@ -18,8 +18,8 @@ use Rattle.node_clients.specs.declared.next.Next.{Next}
 -- One thing that a node does for its clients. A command of a client comes, or a client's connection ends. The next
 -- command of a client begins the call with an id, or is answered at once, or is a QUIT. A call of the object of a name
 -- is answered; if it is a write of a DEL of which this is left, it passes: the client is told nothing, and what is left
--- is carried out next. A call gets older by a tick. A late call is given up, or its client no longer waits for it. A
--- frame is dropped. `told` is the client that is told, if one is.
+-- is carried out next. A call gets older by a tick. A late call is given up, or its client no longer waits for it.
+-- `told` is the client that is told, if one is.
 pub data Service : Type 0 where
   Arrives : (client : ℕ) → (command : Strings) → Service
   Leaves : (client : ℕ) → Service
@@ -31,7 +31,6 @@ pub data Service : Type 0 where
   Ages : (id : ℕ) → Service
   GivesUp : (id : ℕ) → (told : Option ℕ) → Service
   Releases : (id : ℕ) → (told : Option ℕ) → Service
-  Drops : Service
 
 -- the frame of an answer to the client that is told, if one is
 abbrev pub told_frames : (told : Option ℕ) → Answer → List Strings

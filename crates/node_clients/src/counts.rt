@@ -7,8 +7,6 @@ pub struct Counts {
     pub answered: u64,
     /// Reads and writes that were given up.
     pub given_up: u64,
-    /// Frames that came in and were dropped: malformed frames, and frames that no node of this cluster sent.
-    pub dropped: u64,
     /// The length of the log in bytes, as the node was last told.
     pub log_bytes: u64,
 }
@@ -17,7 +15,6 @@ impl Counts {
     pub const ZERO: Counts = Counts {
         answered: 0,
         given_up: 0,
-        dropped: 0,
         log_bytes: 0,
     };
 }

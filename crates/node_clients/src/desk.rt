@@ -6,7 +6,7 @@ ghost use Rattle.node_clients.specs.declared.connection.State.TheVariants.{Quit}
 ghost use Rattle.node_effects.specs.Work.{IsGrown};
 ghost use Rattle.node_effects.specs.declared.error.NodeError.TheVariants.{NoMemory};
 ghost use Rattle.node_clients.specs.Answers.{TellsClients, quit_growth};
-ghost use Rattle.node_clients.specs.Desk.{none_counted, with_drop};
+ghost use Rattle.node_clients.specs.Desk.{none_counted};
 
 use crate::connections::Connections;
 use crate::counts::Counts;
@@ -81,14 +81,5 @@ impl Desk {
         work.close(client)?;
         self.clients.quit(client);
         Ok(())
-    }
-
-    /// Counts a frame that the node dropped.
-    pub fn drop_frame(&mut self)
-        ensures clients { self.new.clients ≡ self.old.clients }
-        ensures calls { self.new.calls ≡ self.old.calls }
-        ensures counts { self.new.counts ≡ with_drop self.old.counts }
-    {
-        self.counts.dropped = self.counts.dropped.saturating_add(1);
     }
 }

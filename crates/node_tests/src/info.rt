@@ -8,13 +8,14 @@ static NODES: &[u8] = b"nodes 1 2 3\nn 3\nk 1\ndelta 8\nmover 1\nlater 4\nticks 
 static TICKS: [Step; 8] = [
     Step {
         words: "client 1|INFO|cluster",
-        answers: "[Frame { strings: [b\"client 1\", b\"$572\\r\\n\", b\"# Cluster\\r\\ncluster_enabled:0\\r\\n\
+        answers: "[Frame { strings: [b\"client 1\", b\"$601\\r\\n\", b\"# Cluster\\r\\ncluster_enabled:0\\r\\n\
             cluster_state:fail\\r\\ncluster_known_nodes:4\\r\\ncluster_nodes_heard:0\\r\\n\
             cluster_calls_open:0\\r\\ncluster_moves_open:0\\r\\ncluster_open_banks:0\\r\\n\
             cluster_tags:0\\r\\ncluster_calls_given_up:0\\r\\n\
             cluster_frames_dropped:0\\r\\ncluster_frames_of_other_clusters:0\\r\\n\
             cluster_frames_malformed:0\\r\\ncluster_frames_unreadable:0\\r\\n\
-            cluster_frames_not_admitted:0\\r\\ncluster_node_1_heard:0\\r\\ncluster_node_2_heard:0\\r\\n\
+            cluster_frames_not_admitted:0\\r\\ncluster_frames_not_heeded:0\\r\\n\
+            cluster_node_1_heard:0\\r\\ncluster_node_2_heard:0\\r\\n\
             cluster_node_3_heard:0\\r\\ncluster_node_2_ticks_since_heard:never\\r\\n\
             cluster_node_3_ticks_since_heard:never\\r\\ncluster_node_4_heard:0\\r\\n\
             cluster_node_4_ticks_since_heard:never\\r\\n\\r\\n\", b\"\\r\\n\"] }]",
@@ -27,13 +28,14 @@ static TICKS: [Step; 8] = [
     },
     Step {
         words: "client 1|INFO|Cluster",
-        answers: "[Frame { strings: [b\"client 1\", b\"$562\\r\\n\", b\"# Cluster\\r\\ncluster_enabled:0\\r\\n\
+        answers: "[Frame { strings: [b\"client 1\", b\"$591\\r\\n\", b\"# Cluster\\r\\ncluster_enabled:0\\r\\n\
             cluster_state:ok\\r\\ncluster_known_nodes:4\\r\\ncluster_nodes_heard:3\\r\\n\
             cluster_calls_open:0\\r\\ncluster_moves_open:0\\r\\ncluster_open_banks:0\\r\\n\
             cluster_tags:0\\r\\ncluster_calls_given_up:0\\r\\n\
             cluster_frames_dropped:0\\r\\ncluster_frames_of_other_clusters:0\\r\\n\
             cluster_frames_malformed:0\\r\\ncluster_frames_unreadable:0\\r\\n\
-            cluster_frames_not_admitted:0\\r\\ncluster_node_1_heard:1\\r\\ncluster_node_2_heard:1\\r\\n\
+            cluster_frames_not_admitted:0\\r\\ncluster_frames_not_heeded:0\\r\\n\
+            cluster_node_1_heard:1\\r\\ncluster_node_2_heard:1\\r\\n\
             cluster_node_3_heard:0\\r\\ncluster_node_2_ticks_since_heard:0\\r\\n\
             cluster_node_3_ticks_since_heard:never\\r\\ncluster_node_4_heard:1\\r\\n\
             cluster_node_4_ticks_since_heard:0\\r\\n\\r\\n\", b\"\\r\\n\"] }]",
@@ -51,13 +53,14 @@ static TICKS: [Step; 8] = [
     },
     Step {
         words: "client 1|INFO|CLUSTER",
-        answers: "[Frame { strings: [b\"client 1\", b\"$558\\r\\n\", b\"# Cluster\\r\\ncluster_enabled:0\\r\\n\
+        answers: "[Frame { strings: [b\"client 1\", b\"$587\\r\\n\", b\"# Cluster\\r\\ncluster_enabled:0\\r\\n\
             cluster_state:ok\\r\\ncluster_known_nodes:4\\r\\ncluster_nodes_heard:3\\r\\n\
             cluster_calls_open:0\\r\\ncluster_moves_open:0\\r\\ncluster_open_banks:0\\r\\n\
             cluster_tags:0\\r\\ncluster_calls_given_up:0\\r\\n\
             cluster_frames_dropped:0\\r\\ncluster_frames_of_other_clusters:0\\r\\n\
             cluster_frames_malformed:0\\r\\ncluster_frames_unreadable:0\\r\\n\
-            cluster_frames_not_admitted:0\\r\\ncluster_node_1_heard:1\\r\\ncluster_node_2_heard:1\\r\\n\
+            cluster_frames_not_admitted:0\\r\\ncluster_frames_not_heeded:0\\r\\n\
+            cluster_node_1_heard:1\\r\\ncluster_node_2_heard:1\\r\\n\
             cluster_node_3_heard:1\\r\\ncluster_node_2_ticks_since_heard:0\\r\\n\
             cluster_node_3_ticks_since_heard:0\\r\\ncluster_node_4_heard:0\\r\\n\
             cluster_node_4_ticks_since_heard:2\\r\\n\\r\\n\", b\"\\r\\n\"] }]",
@@ -70,13 +73,14 @@ static TICKS: [Step; 8] = [
     },
     Step {
         words: "client 1|INFO|cluster",
-        answers: "[Frame { strings: [b\"client 1\", b\"$560\\r\\n\", b\"# Cluster\\r\\ncluster_enabled:0\\r\\n\
+        answers: "[Frame { strings: [b\"client 1\", b\"$589\\r\\n\", b\"# Cluster\\r\\ncluster_enabled:0\\r\\n\
             cluster_state:fail\\r\\ncluster_known_nodes:4\\r\\ncluster_nodes_heard:0\\r\\n\
             cluster_calls_open:0\\r\\ncluster_moves_open:0\\r\\ncluster_open_banks:0\\r\\n\
             cluster_tags:0\\r\\ncluster_calls_given_up:0\\r\\n\
             cluster_frames_dropped:0\\r\\ncluster_frames_of_other_clusters:0\\r\\n\
             cluster_frames_malformed:0\\r\\ncluster_frames_unreadable:0\\r\\n\
-            cluster_frames_not_admitted:0\\r\\ncluster_node_1_heard:0\\r\\ncluster_node_2_heard:0\\r\\n\
+            cluster_frames_not_admitted:0\\r\\ncluster_frames_not_heeded:0\\r\\n\
+            cluster_node_1_heard:0\\r\\ncluster_node_2_heard:0\\r\\n\
             cluster_node_3_heard:0\\r\\ncluster_node_2_ticks_since_heard:1\\r\\n\
             cluster_node_3_ticks_since_heard:1\\r\\ncluster_node_4_heard:0\\r\\n\
             cluster_node_4_ticks_since_heard:3\\r\\n\\r\\n\", b\"\\r\\n\"] }]",
@@ -135,13 +139,14 @@ static SECTIONS: [Step; 8] = [
     },
     Step {
         words: "client 1|INFO|cluster",
-        answers: "[Frame { strings: [b\"client 1\", b\"$380\\r\\n\", b\"# Cluster\\r\\ncluster_enabled:0\\r\\n\
+        answers: "[Frame { strings: [b\"client 1\", b\"$409\\r\\n\", b\"# Cluster\\r\\ncluster_enabled:0\\r\\n\
             cluster_state:fail\\r\\ncluster_known_nodes:1\\r\\ncluster_nodes_heard:0\\r\\n\
             cluster_calls_open:0\\r\\ncluster_moves_open:0\\r\\ncluster_open_banks:1\\r\\n\
             cluster_tags:2\\r\\ncluster_calls_given_up:0\\r\\n\
             cluster_frames_dropped:2\\r\\ncluster_frames_of_other_clusters:0\\r\\n\
             cluster_frames_malformed:1\\r\\ncluster_frames_unreadable:1\\r\\n\
-            cluster_frames_not_admitted:0\\r\\ncluster_node_1_heard:0\\r\\n\\r\\n\", b\"\\r\\n\"] }]",
+            cluster_frames_not_admitted:0\\r\\ncluster_frames_not_heeded:0\\r\\n\
+            cluster_node_1_heard:0\\r\\n\\r\\n\", b\"\\r\\n\"] }]",
         outputs: Some(0),
     },
 ];

@@ -120,6 +120,7 @@ impl Node {
         };
         let counts = CountLines {
             counts: self.desk.counts,
+            dropped: self.peers.frames_dropped(),
             foreign: self.peers.foreign,
         };
         let own = format!(in self.alloc; "{name}{sizes}{counts}")?;

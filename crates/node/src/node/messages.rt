@@ -1,14 +1,14 @@
 //! What a node does with messages of other nodes and with its letters to itself.
-ghost use Rattle.std.specs.Prelude.{◌≡◌, IfErr, IfSome, OnOk};
+ghost use Rattle.std.specs.Prelude.{◌≡◌, IfErr, IfOk, IfSome, OnOk};
 ghost use Rattle.node_keeper.specs.Acts.{Acts};
 ghost use Rattle.node_messages.specs.Reading.{message_from};
 ghost use Rattle.node_effects.specs.Seen.{named_of};
-ghost use Rattle.node_keeper.specs.Keeping.{if_heeded, kept_of};
+ghost use Rattle.node_keeper.specs.Keeping.{heeds, if_heeded, kept_of};
 ghost use Rattle.node_keeper.specs.Sendings.{IsFrameOf};
 ghost use Rattle.node.specs.Failures.{FailsLetter, FailsMessage, FailsRead};
 ghost use Rattle.node.specs.Frames.{is_admitted, is_from_cluster, letter_from, letter_if_read};
 ghost use Rattle.node.specs.Hearing.{Hears, HearsIfRead, HearsMessage};
-ghost use Rattle.node.specs.Peers.{IsChangedByMessage, IsChangedIfRead};
+ghost use Rattle.node.specs.Peers.{IsChangedByMessage, IsChangedIfRead, after_letter};
 ghost use Rattle.node.specs.Serving.{ServesMore};
 
 use super::Node;
@@ -19,8 +19,9 @@ use node_keeper::Delivered;
 use node_messages::{MessageError, NodeMessage, has_low_tags, read_message};
 
 impl Node {
-    /// Handles a frame that another node sent. The node drops and counts a frame that is no message, that no node of
-    /// the cluster sent, that a node with another cluster file sent, or that has a tag above the limit.
+    /// Handles a frame that another node sent. The node drops a frame that is no message, that no node of the cluster
+    /// sent, that a node with another cluster file sent, that has a tag above the limit, or whose letter the node does
+    /// not heed. It counts each frame that it drops once, by its cause.
     pub(super) fn receive(
         &mut self,
         sender: u8,
@@ -40,7 +41,6 @@ impl Node {
             Ok(message) => self.admit(sender, message, frame, work),
             Err(MessageError::NoMemory) => Err(NodeError::NoMemory),
             Err(MessageError::Fault(_)) => {
-                self.desk.drop_frame();
                 self.peers.drops.count_unreadable();
                 Ok(())
             }
@@ -66,7 +66,6 @@ impl Node {
         ensures refused { IfErr result (FailsMessage sender message self.old) }
     {
         if message.digest != self.keeper.digest {
-            self.desk.drop_frame();
             return self.peers.note(Report {
                 node: sender,
                 digest: message.digest,
@@ -74,11 +73,34 @@ impl Node {
             });
         }
         if !self.is_admitted(sender, &message) {
-            self.desk.drop_frame();
             self.peers.drops.count_not_admitted();
             return Ok(());
         }
-        self.deliver(sender, message.named, Some(frame), work)
+        self.hear(sender, message.named, frame, work)
+    }
+
+    // The letter of an admitted message has come, in this frame. The frame is dropped if the node does not heed the
+    // letter.
+    fn hear(
+        &mut self,
+        sender: u8,
+        it: NamedLetter,
+        frame: Frame,
+        work: &mut Work,
+    ) -> Result<(), NodeError>
+        requires { IsFrameOf self.old.keeper.digest it frame }
+        ensures acts { OnOk result (Acts sender (if_heeded (kept_of self.old.keeper) (named_of it))
+            self.old.keeper work.old self.new.keeper work.new) }
+        ensures serves { OnOk result (ServesMore self.old work.old self.new work.new) }
+        ensures peers { OnOk result (self.new.peers
+            ≡ after_letter (heeds (kept_of self.old.keeper) (named_of it)) self.old.peers) }
+        ensures hears { OnOk result (Hears sender it self.old.keeper work.old.outputs.items
+            self.new.keeper work.new.outputs.items) }
+        ensures refused { IfErr result (FailsLetter sender it self.old) }
+    {
+        let heeded = self.deliver(sender, it, Some(frame), work)?;
+        self.peers.drops.count_letter(heeded);
+        Ok(())
     }
 
     // Whether a message comes from a node of this cluster, and has no tag above the limit. A tag near the greatest one
@@ -97,18 +119,19 @@ impl Node {
     }
 
     /// Handles a letter from the node with this number, which may be this node itself. `came` is its frame, if it came
-    /// in one.
+    /// in one. Returns whether the node heeds the letter.
     pub(super) fn deliver(
         &mut self,
         sender: u8,
         it: NamedLetter,
         came: Option<Frame>,
         work: &mut Work,
-    ) -> Result<(), NodeError>
+    ) -> Result<bool, NodeError>
         requires { IfSome came (IsFrameOf self.old.keeper.digest it) }
         ensures acts { OnOk result (Acts sender (if_heeded (kept_of self.old.keeper) (named_of it))
             self.old.keeper work.old self.new.keeper work.new) }
         ensures serves { OnOk result (ServesMore self.old work.old self.new work.new) }
+        ensures heeded { IfOk result (λ heeded. heeded ≡ heeds (kept_of self.old.keeper) (named_of it)) }
         ensures peers { self.new.peers ≡ self.old.peers }
         ensures hears { OnOk result (Hears sender it self.old.keeper work.old.outputs.items
             self.new.keeper work.new.outputs.items) }
@@ -116,12 +139,12 @@ impl Node {
     {
         let delta = self.keeper.file.delta();
         match self.keeper.deliver(sender, it, came, work)? {
-            Delivered::Dropped => {
-                self.desk.drop_frame();
-                Ok(())
+            Delivered::Dropped => Ok(false),
+            Delivered::Handled => Ok(true),
+            Delivered::Ended(ended) => {
+                self.desk.end(ended, delta, work)?;
+                Ok(true)
             }
-            Delivered::Handled => Ok(()),
-            Delivered::Ended(ended) => self.desk.end(ended, delta, work),
         }
     }
 }

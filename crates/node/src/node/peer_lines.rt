@@ -57,6 +57,7 @@ impl Node {
         };
         let lost = LostLines {
             counts: self.desk.counts,
+            dropped: self.peers.frames_dropped(),
             foreign: self.peers.foreign,
         };
         let drops = DropLines {

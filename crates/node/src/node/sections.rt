@@ -66,22 +66,23 @@ impl fmt::Display for KeptLines {
 #[derive(Clone, Copy)]
 pub(super) struct LostLines {
     pub counts: Counts,
+    pub dropped: u64,
     pub foreign: u64,
 }
 
 impl fmt::Display for LostLines {
-    ghost output = { λ it. Some (lost_lines it.counts it.foreign) };
+    ghost output = { λ it. Some (lost_lines it.counts it.dropped it.foreign) };
 
     fn fmt<W: fmt::Write>(&self, f: &mut fmt::Formatter<W>) -> fmt::Result {
         write!(
             f,
             "cluster_calls_given_up:{}\r\ncluster_frames_dropped:{}\r\ncluster_frames_of_other_clusters:{}\r\n",
-            self.counts.given_up, self.counts.dropped, self.foreign
+            self.counts.given_up, self.dropped, self.foreign
         )
     }
 }
 
-/// The lines of that section with the frames that were dropped for other causes.
+/// The lines of that section with the frames that were dropped for each other cause.
 #[derive(Clone, Copy)]
 pub(super) struct DropLines {
     pub drops: Drops,
@@ -93,8 +94,12 @@ impl fmt::Display for DropLines {
     fn fmt<W: fmt::Write>(&self, f: &mut fmt::Formatter<W>) -> fmt::Result {
         write!(
             f,
-            "cluster_frames_malformed:{}\r\ncluster_frames_unreadable:{}\r\ncluster_frames_not_admitted:{}\r\n",
-            self.drops.malformed, self.drops.unreadable, self.drops.not_admitted
+            "cluster_frames_malformed:{}\r\ncluster_frames_unreadable:{}\r\ncluster_frames_not_admitted:{}\r\n\
+            cluster_frames_not_heeded:{}\r\n",
+            self.drops.malformed,
+            self.drops.unreadable,
+            self.drops.not_admitted,
+            self.drops.not_heeded
         )
     }
 }
@@ -166,11 +171,12 @@ impl fmt::Display for SizeLines {
 #[derive(Clone, Copy)]
 pub(super) struct CountLines {
     pub counts: Counts,
+    pub dropped: u64,
     pub foreign: u64,
 }
 
 impl fmt::Display for CountLines {
-    ghost output = { λ it. Some (count_lines it.counts it.foreign) };
+    ghost output = { λ it. Some (count_lines it.counts it.dropped it.foreign) };
 
     fn fmt<W: fmt::Write>(&self, f: &mut fmt::Formatter<W>) -> fmt::Result {
         write!(
@@ -179,7 +185,7 @@ impl fmt::Display for CountLines {
             frames_of_other_clusters:{}\r\nbytes_of_the_log:{}\r\n",
             self.counts.answered,
             self.counts.given_up,
-            self.counts.dropped,
+            self.dropped,
             self.foreign,
             self.counts.log_bytes
         )

@@ -1,6 +1,5 @@
-use Rattle.std.proofs.Common.{[], ◌≡◌, ℕ, List, refl, sym, subst, ◌∙◌}
+use Rattle.std.proofs.Common.{[], ◌≡◌, ℕ, not, List, refl, sym, subst, ap, ◌∙◌}
 use Rattle.std.proofs.lemmas.List.{append-nil}
-use Rattle.std.proofs.lemmas.Result.{on_ok_weaker}
 use Rattle.node_effects.specs.Seen.{named_of}
 use Rattle.node_keeper.specs.Keeping.{if_heeded, kept_of}
 use Rattle.node_keeper.proofs.ActLemmas.{acts_more}
@@ -8,63 +7,77 @@ use Rattle.node.proofs.TellLemmas.{tells_acts}
 use Rattle.letter.specs.declared.letter.NamedLetter.{NamedLetter}
 use Rattle.node_effects.specs.declared.output.Output.{Output}
 use Rattle.node_effects.specs.declared.work.Work.{Work}
-use Rattle.node_keeper.specs.Delivering.{DeliversLetter}
+use Rattle.node_keeper.specs.Delivering.{DeliversLetter, was_dropped}
 use Rattle.node_keeper.specs.declared.delivered.Delivered.{Delivered}
+use Rattle.node_keeper.specs.declared.delivered.Delivered.TheVariants as delivered
 use Rattle.node_keeper.specs.declared.keeper.Keeper.{Keeper}
-use Rattle.node_effects.specs.Errors.{IsUnwritten}
 use Rattle.node_clients.specs.Answers.{CanBeSent}
-use Rattle.node.specs.Failures.{CanHear, FailsLetter}
-use Rattle.node.proofs.FailureLemmas.{if_err_weaker, unwritten_fails}
+use Rattle.node.specs.Failures.{CanHear}
+use Rattle.node.proofs.FailureLemmas.{same_error, unwritten_fails}
 use Rattle.node.specs.Hearing.{Hears}
 use Rattle.node.specs.declared.node.Node.{Node}
 use Rattle.node_clients.specs.Calls.{call_answer, call_under, rest_of, waiting_for}
 use Rattle.node_clients.proofs.EndLemmas.{EndsAs, concluded}
-use Rattle.node.proofs.KeeperLemmas.{dropped_served, ended_served, handled_served, of_three}
+use Rattle.node.proofs.KeeperLemmas.{ended_served, is_heeded, none_ended_served}
 use Rattle.node.proofs.node.Node.deliver.Goals as goal
 
-pub returns-in-Ended-clause-acts : goal.returns-in-Ended-clause-acts
-returns-in-Ended-clause-acts c =
+pub returns-in_ok-end-in-Ended-clause-acts : goal.returns-in_ok-end-in-Ended-clause-acts
+returns-in_ok-end-in-Ended-clause-acts c =
     let old = c.args.self.now.keeper in
     let new = c.deliver.new.self in
-    on_ok_weaker c.end.result
-    (λ tells. acts_more c.args.sender (if_heeded (kept_of old) (named_of c.args.it)) old new new c.args.work.now c.deliver.new.work
-    c.end.new.work c.in_ok-deliver.ensures.acts (tells_acts c.args.sender [] new c.deliver.new.work c.end.new.work tells))
-    c.end.ensures.tells
+    acts_more c.args.sender (if_heeded (kept_of old) (named_of c.args.it)) old new new c.args.work.now c.deliver.new.work
+    c.end.new.work c.in_ok-deliver.ensures.acts
+    (tells_acts c.args.sender [] new c.deliver.new.work c.end.new.work c.in_ok-end-in-Ended.ensures.tells)
 
 pub returns-in-Dropped-clause-serves : goal.returns-in-Dropped-clause-serves
 returns-in-Dropped-clause-serves c =
     let old = c.args.self.now in
-    let new : Node = record old { keeper = c.deliver.new.self; desk = c.drop_frame.new.self } in
-    dropped_served c.args.sender c.args.it old new c.args.work.now c.deliver.new.work
+    let new : Node = record old { keeper = c.deliver.new.self } in
+    none_ended_served c.args.sender c.args.it old new c.args.work.now c.deliver.new.work delivered.Dropped
     (subst (λ result. DeliversLetter c.args.sender c.args.it old.keeper c.args.work.now c.deliver.new.self c.deliver.new.work result)
-    c.in-Dropped.is c.in_ok-deliver.ensures.delivers)
-    (c.drop_frame.ensures.clients, c.drop_frame.ensures.calls, c.drop_frame.ensures.counts)
+    c.in-Dropped.is c.in_ok-deliver.ensures.delivers) refl refl
 
 pub returns-in-Handled-clause-serves : goal.returns-in-Handled-clause-serves
 returns-in-Handled-clause-serves c =
     let old = c.args.self.now in
     let new : Node = record old { keeper = c.deliver.new.self } in
-    handled_served c.args.sender c.args.it old new c.args.work.now c.deliver.new.work
+    none_ended_served c.args.sender c.args.it old new c.args.work.now c.deliver.new.work delivered.Handled
     (subst (λ result. DeliversLetter c.args.sender c.args.it old.keeper c.args.work.now c.deliver.new.self c.deliver.new.work result)
-    c.in-Handled.is c.in_ok-deliver.ensures.delivers) refl
+    c.in-Handled.is c.in_ok-deliver.ensures.delivers) refl refl
 
-pub returns-in-Ended-clause-serves : goal.returns-in-Ended-clause-serves
-returns-in-Ended-clause-serves c =
+pub returns-in_ok-end-in-Ended-clause-serves : goal.returns-in_ok-end-in-Ended-clause-serves
+returns-in_ok-end-in-Ended-clause-serves c =
     let old = c.args.self.now in
     let new : Node = record old { keeper = c.deliver.new.self; desk = c.end.new.self } in
     let ended = c.in-Ended.ended in
     let delta = c.delta-delta.result in
-    of_three c.end.result
-    (λ told idle counts. ended_served c.args.sender c.args.it old new c.args.work.now c.deliver.new.work
-    ended c.end.new.work
+    let is = c.in_ok-end-in-Ended.ensures in
+    ended_served c.args.sender c.args.it old new c.args.work.now c.deliver.new.work ended c.end.new.work
     (subst (λ result. DeliversLetter c.args.sender c.args.it old.keeper c.args.work.now c.deliver.new.self c.deliver.new.work result)
     c.in-Ended.is c.in_ok-deliver.ensures.delivers)
     (subst (λ d. EndsAs old.keeper.file.ticks d c.args.it.name ended old.desk c.deliver.new.work c.end.new.self c.end.new.work)
     c.delta-delta.ensures
     (concluded old.keeper.file.ticks delta c.args.it.name ended old.desk c.end.new.self c.deliver.new.work c.end.new.work
-    (waiting_for old.desk.calls ended.id) refl (rest_of delta (call_under old.desk.calls ended.id)) refl told
-    (record { gone = c.end.ensures.gone; others = c.end.ensures.others; idle = idle; counts = counts }))))
-    c.end.ensures.told c.end.ensures.idle c.end.ensures.counts
+    (waiting_for old.desk.calls ended.id) refl (rest_of delta (call_under old.desk.calls ended.id)) refl is.told
+    (record { gone = c.end.ensures.gone; others = c.end.ensures.others; idle = is.idle; counts = is.counts })))
+
+pub returns-in-Dropped-clause-heeded : goal.returns-in-Dropped-clause-heeded
+returns-in-Dropped-clause-heeded c =
+    ap (λ result. not (was_dropped result)) (sym c.in-Dropped.is)
+    ∙ is_heeded c.args.sender c.args.it c.args.self.now.keeper c.deliver.new.self c.args.work.now c.deliver.new.work _
+    c.in_ok-deliver.ensures.delivers
+
+pub returns-in-Handled-clause-heeded : goal.returns-in-Handled-clause-heeded
+returns-in-Handled-clause-heeded c =
+    ap (λ result. not (was_dropped result)) (sym c.in-Handled.is)
+    ∙ is_heeded c.args.sender c.args.it c.args.self.now.keeper c.deliver.new.self c.args.work.now c.deliver.new.work _
+    c.in_ok-deliver.ensures.delivers
+
+pub returns-in_ok-end-in-Ended-clause-heeded : goal.returns-in_ok-end-in-Ended-clause-heeded
+returns-in_ok-end-in-Ended-clause-heeded c =
+    ap (λ result. not (was_dropped result)) (sym c.in-Ended.is)
+    ∙ is_heeded c.args.sender c.args.it c.args.self.now.keeper c.deliver.new.self c.args.work.now c.deliver.new.work _
+    c.in_ok-deliver.ensures.delivers
 
 -- what was delivered was heard
 heard : (sender : ℕ) (it : NamedLetter) (old new : Keeper) (before after : Work) (result : Delivered) (outputs : List Output) →
@@ -89,23 +102,23 @@ returns-in-Handled-clause-hears c =
     heard c.args.sender c.args.it c.args.self.now.keeper c.deliver.new.self c.args.work.now c.deliver.new.work _
     c.deliver.new.work.outputs.items c.in_ok-deliver.ensures.delivers refl
 
-pub returns-in-Ended-clause-hears : goal.returns-in-Ended-clause-hears
-returns-in-Ended-clause-hears c =
-    on_ok_weaker c.end.result
-    (λ tells. heard c.args.sender c.args.it c.args.self.now.keeper c.deliver.new.self c.args.work.now c.deliver.new.work _
+pub returns-in_ok-end-in-Ended-clause-hears : goal.returns-in_ok-end-in-Ended-clause-hears
+returns-in_ok-end-in-Ended-clause-hears c =
+    heard c.args.sender c.args.it c.args.self.now.keeper c.deliver.new.self c.args.work.now c.deliver.new.work _
     c.end.new.work.outputs.items c.in_ok-deliver.ensures.delivers
-    (sym (tells.grown.outputs ∙ append-nil c.deliver.new.work.outputs.items))) c.end.ensures.tells
+    (sym (c.in_ok-end-in-Ended.ensures.tells.grown.outputs ∙ append-nil c.deliver.new.work.outputs.items))
 
-pub returns-in-Ended-clause-refused : goal.returns-in-Ended-clause-refused
-returns-in-Ended-clause-refused c =
+pub returns-in_err-end-in-Ended-clause-refused : goal.returns-in_err-end-in-Ended-clause-refused
+returns-in_err-end-in-Ended-clause-refused c =
     let old = c.args.self.now in
     let sender = c.args.sender in
     let it = c.args.it in
     let ended = c.in-Ended.ended in
     let new = c.deliver.new in
     let fits = CanBeSent (call_answer (call_under old.desk.calls ended.id) ended) in
-    if_err_weaker (IsUnwritten fits) (FailsLetter sender it old) c.end.result
+    let error = c.in_err-end-in-Ended.field-0.0 in
+    same_error _ c.from_residual-in_err-end-in-Ended.result error c.from_residual-in_err-end-in-Ended.ensures.1
     (unwritten_fails ⊥ fits (CanHear sender it old)
     (λ can. can.1 c.args.work.now new.work new.self ended
     (subst (λ result. DeliversLetter sender it old.keeper c.args.work.now new.self new.work result) c.in-Ended.is
-    c.in_ok-deliver.ensures.delivers))) c.end.ensures.refused
+    c.in_ok-deliver.ensures.delivers)) error c.in_err-end-in-Ended.ensures.refused)

@@ -2,15 +2,17 @@ use Rattle.std.proofs.Common.{ℕ, List, length, ◌++◌, ◌∙◌, ap}
 use Rattle.indexmap.specs.IndexMap.{index_map_len}
 use Rattle.node_keeper.specs.Objects.{heard_names}
 use Rattle.node.specs.Info.{count_lines, name_lines, size_lines, stored_bytes}
+use Rattle.node.specs.Peers.{frames_dropped}
 use Rattle.node.proofs.node.Node.push_own_lines.Goals as goal
 
 pub returns : goal.returns
 returns c =
     let keeper = c.args.self.now.keeper in
     let desk = c.args.self.now.desk in
-    let text : (node mover epoch objects bytes clients calls : ℕ) → List ℕ = λ node mover epoch objects bytes clients calls.
+    let text : (node mover epoch objects bytes clients calls dropped : ℕ) → List ℕ =
+    λ node mover epoch objects bytes clients calls dropped.
     name_lines node mover keeper.digest epoch ++ (size_lines objects bytes clients calls
-    ++ count_lines desk.counts c.args.self.now.peers.foreign) in
+    ++ count_lines desk.counts dropped c.args.self.now.peers.foreign) in
     let node = keeper.ids.node in
     let mover = keeper.file.fixed.mover in
     let epoch = keeper.ids.epoch in
@@ -24,11 +26,14 @@ returns c =
     let b = c.bytes_stored.result in
     let there = c.count-2.result in
     let open_calls = c.len.result in
+    let calls : ℕ = index_map_len desk.calls in
+    let d = c.frames_dropped.result in
     c.in_ok-extend_from_slice.ensures.items ∙ ap (λ t. c.args.text.now.items ++ t) (c.as_bytes.ensures.value ∙ c.in_ok-own.ensures.ok
-    ∙ ap (λ x. text x m e o b there open_calls) c.number.ensures.number
-    ∙ ap (λ x. text node x e o b there open_calls) c.mover.ensures
-    ∙ ap (λ x. text node mover x o b there open_calls) c.epoch.ensures
-    ∙ ap (λ x. text node mover epoch x b there open_calls) c.count.ensures.count
-    ∙ ap (λ x. text node mover epoch objects x there open_calls) c.bytes_stored.ensures
-    ∙ ap (λ x. text node mover epoch objects bytes x open_calls) c.count-2.ensures
-    ∙ ap (λ x. text node mover epoch objects bytes clients x) c.len.ensures.len)
+    ∙ ap (λ x. text x m e o b there open_calls d) c.number.ensures.number
+    ∙ ap (λ x. text node x e o b there open_calls d) c.mover.ensures
+    ∙ ap (λ x. text node mover x o b there open_calls d) c.epoch.ensures
+    ∙ ap (λ x. text node mover epoch x b there open_calls d) c.count.ensures.count
+    ∙ ap (λ x. text node mover epoch objects x there open_calls d) c.bytes_stored.ensures
+    ∙ ap (λ x. text node mover epoch objects bytes x open_calls d) c.count-2.ensures
+    ∙ ap (λ x. text node mover epoch objects bytes clients x d) c.len.ensures.len
+    ∙ ap (λ x. text node mover epoch objects bytes clients calls x) c.frames_dropped.ensures)

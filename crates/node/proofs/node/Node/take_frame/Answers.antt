@@ -1,13 +1,11 @@
-use Rattle.std.proofs.Common.{OnOk, [], ◌∷◌, refl, subst, sym, ap}
+use Rattle.std.proofs.Common.{OnOk, [], refl, subst, ap}
 use Rattle.node_strings.specs.Arrival.{arrival_at}
 use Rattle.node_keeper.specs.Acts.{Acts}
-use Rattle.node_clients.specs.Services.{Service}
 use Rattle.node.specs.Frames.{letter_if_any, letters_in, sender_or}
 use Rattle.node.specs.Serving.{ServesArrival}
 use Rattle.node.proofs.ArrivalLemmas.{arrival_alone}
-use Rattle.node.proofs.ServingLemmas.{drops_one}
+use Rattle.node.proofs.ServingLemmas.{peers_alone}
 use Rattle.node.proofs.TellLemmas.{idle}
-use Rattle.node_clients.specs.Desk.{NoneWaits}
 use Rattle.node.specs.Peers.{IsChangedBy}
 use Rattle.node.specs.declared.drops.Drops.{Drops}
 use Rattle.node.specs.declared.node.Node.{Node}
@@ -34,15 +32,11 @@ returns-in-None-clause-acts c =
 pub returns-in-None-clause-serves : goal.returns-in-None-clause-serves
 returns-in-None-clause-serves c =
     let old = c.args.self.now in
-    let new : Node = record old { desk = c.drop_frame.new.self; peers = record old.peers { drops = c.count_malformed.new.self } } in
+    let peers : Peers = record old.peers { drops = c.count_malformed.new.self } in
+    let new : Node = record old { peers = peers } in
     let work = c.args.work.now in
     subst (λ came. ServesArrival came old work new work) c.in-None.ensures.exact
-    (arrival_alone _ old new work work (Service.Drops ∷ []) refl tt
-    (drops_one old new work (c.drop_frame.ensures.clients, c.drop_frame.ensures.calls, c.drop_frame.ensures.counts) refl))
-
-pub returns-in-None-clause-waits : goal.returns-in-None-clause-waits
-returns-in-None-clause-waits c =
-    λ waits. subst (λ clients. NoneWaits clients c.args.work.now.due.items) (sym c.drop_frame.ensures.clients) waits
+    (arrival_alone _ old new work work [] refl tt (peers_alone old peers work))
 
 pub returns-in-Some-clause-again : goal.returns-in-Some-clause-again
 returns-in-Some-clause-again c =
@@ -53,7 +47,7 @@ pub returns-in-None-clause-again : goal.returns-in-None-clause-again
 returns-in-None-clause-again c =
     let old = c.args.self.now in
     let outputs = c.args.work.now.outputs.items in
-    let new : Node = record old { desk = c.drop_frame.new.self; peers = record old.peers { drops = c.count_malformed.new.self } } in
+    let new : Node = record old { peers = record old.peers { drops = c.count_malformed.new.self } } in
     subst (λ came. DoesFirst came old outputs new outputs) c.in-None.ensures.exact tt
 
 pub returns-in-Some-clause-peers : goal.returns-in-Some-clause-peers
