@@ -16,7 +16,7 @@ use Rattle.node_clients.specs.declared.next.Next.{Next}
 use Rattle.letter.specs.declared.letter.NamedLetter.{NamedLetter}
 use Rattle.node_effects.specs.declared.work.Work.{Work}
 use Rattle.node_clients.specs.Answers.{answer_frame}
-use Rattle.node_clients.specs.Served.{IsServiceDone, call_begun}
+use Rattle.node_clients.specs.Served.{call_begun}
 use Rattle.node_clients.specs.Services.{Service, begun_notices, service_dues, service_frames}
 use Rattle.node_clients.proofs.EndLemmas.{EndsAs, IsEnding}
 use Rattle.node_keeper.specs.Beginning.{Beginning, BeginsCall}
