@@ -30,6 +30,8 @@ WRONG = [([b"get"], b"-ERR wrong number of arguments for 'get' command"),
          ([b"MOVE", b"a", b"1", b"1", b"1"], b"-ERR"),
          ([b"MOVE", b"a", b"x", b"1"], b"-ERR"), ([b"MOVE", b"a", b"1", b"300"], b"-ERR"),
          ([b"GET"] + [b"x"] * 1022, b"-ERR"), ([b"LPUSH", b"a", b"b"], b"-ERR unknown command")]
+# For what a frame is dropped.
+CAUSES = [b"of_other_clusters", b"malformed", b"unreadable", b"not_admitted", b"not_heeded"]
 NUMBERS = [b"", b"0", b"1", b"255", b"256", b"4294967296", b"18446744073709551615", b"18446744073709551616", b"-1",
            b"01"]
 
@@ -58,6 +60,9 @@ class BadFrames(unittest.TestCase):
 
     def dropped(self, node):
         return int(self.line(node, b"frames_dropped"))
+
+    def dropped_for(self, node, cause):
+        return int(self.line(node, b"cluster_frames_" + cause))
 
     def test_addresses(self):
         node = self.start(CLUSTER)
@@ -99,6 +104,7 @@ class BadFrames(unittest.TestCase):
             sent = node.give([source.choice([b"node 1", b"node 2", b"node 3"]), *strings])
             self.assertTrue(all(frame[0] in (b"node 1", b"node 2", b"node 3") for frame in sent), strings)
         self.assertGreater(self.dropped(node), self.count // 2)
+        self.assertEqual(self.dropped(node), sum(self.dropped_for(node, cause) for cause in CAUSES))
         self.assertEqual(self.answer(node, b"PING"), b"+PONG\r\n")
 
     def test_tags_near_the_greatest(self):
@@ -122,6 +128,20 @@ class BadFrames(unittest.TestCase):
         sent = node.give(message(b"b", b"finalize", 2**62))
         self.assertEqual([frame[0] for frame in sent], [b"node 2"])
         self.assertEqual(self.dropped(node), len(great))
+
+    def test_letters_that_are_not_heeded(self):
+        """A letter about a member that there is not, with another layout than the node knows, or about a position of
+        which the mover has not heard, is dropped and counts once."""
+        node = self.start(CLUSTER.replace("later", "later 2"))
+        self.assertEqual(self.answer(node, b"SET", b"a", b"1"), b"+OK\r\n")
+        digest = bytes.fromhex(self.line(node, b"cluster").decode())
+        wrong = [{"member": 1}, {"layout": b"\x01\x02"}, {"position": 1}]
+        for count, changed in enumerate(wrong, 1):
+            self.assertEqual(node.give([b"node 2", *Message(digest, b"a", b"query", **changed).strings()]), [], changed)
+            self.assertEqual((self.dropped(node), self.dropped_for(node, b"not_heeded")), (count, count), changed)
+        sent = node.give([b"node 2", *Message(digest, b"a", b"query").strings()])
+        self.assertEqual([frame[0] for frame in sent], [b"node 2"])
+        self.assertEqual((self.dropped(node), self.dropped_for(node, b"not_heeded")), (len(wrong), len(wrong)))
 
     @staticmethod
     def spoil(source, strings):
