@@ -3,13 +3,16 @@ use Rattle.std.proofs.Common.{◌≡◌, ◌≤◌, ℕ, List, length, take, Non
 use Rattle.std.proofs.Common.{refl, sym, subst, ap, ◌∙◌, inl, inr, arith, length-append}
 use Rattle.deeds.specs.Kept.{FileOfNames}
 use Rattle.node.specs.Recovering.{CarriesOutEntry}
+use Rattle.node.specs.Starts.{HasMoreEpochs}
 use Rattle.node.specs.declared.node.Node.{Node}
+use Rattle.node_effects.specs.declared.error.NodeError.{NodeError}
+use Rattle.node_effects.specs.declared.error.NodeError.TheVariants as errors
 use Rattle.node_log.specs.Entry.{first_chain}
 use Rattle.node_store.specs.Disk.{IsFrontOf}
 use Rattle.node_store.specs.Recovery.{HasRecovered, log_bytes}
 use Rattle.node_store.specs.declared.end.LogEnd.{LogEnd}
 use Rattle.processes.specs.Events.{IsNewNode}
-use Rattle.processes.specs.Programs.{IsHalfRewritten, IsPerhapsRewritten}
+use Rattle.processes.specs.Programs.{IsHalfRewritten, IsPerhapsRewritten, IsStoppedAt, StartStage}
 use Rattle.casd.specs.Fault.{IsReadFault, IsStartFault}
 use Rattle.casd.specs.Opening.{HasBegun, HasCut, HasStarted, HasWrittenAnew, IsFailedStart}
 use Rattle.casd.specs.declared.fault.Fault.{Fault}
@@ -63,43 +66,68 @@ uncut T names number (Some disk) kept keeps new copy end (faults.LogLost error) 
 )
 uncut T names number (Some disk) kept keeps new copy end _ is_new recovered cut = absurd cut
 
+-- the node has no more epoch, so the log is as it was cut
+pub unasked : (names : FileOfNames) (number : ℕ) (found kept keeps : Known) (new copy : Node) (end : LogEnd) →
+    IsNewNode names number new → HasRecovered CarriesOutEntry new copy found (Ok end) →
+    IsFrontOf end.length found keeps → (HasMoreEpochs copy.keeper.ids → ⊥) →
+    IsFailedStart names number found kept keeps (faults.Stopped errors.NoMoreIds)
+unasked names number None kept keeps new copy end is_new recovered front none = tt
+unasked names number (Some disk) kept keeps new copy end is_new recovered front none =
+    (copy, end, record { new = new; is_new = is_new; recovered = recovered }, none, front)
+
 -- it is not known whether the log was exchanged
 pub unexchanged : (names : FileOfNames) (number : ℕ) (found kept cut keeps : Known) (new copy : Node) (end : LogEnd)
     (fault : Fault) → IsNewNode names number new → HasRecovered CarriesOutEntry new copy found (Ok end) →
-    IsFrontOf end.length found cut → HasWrittenAnew copy cut end keeps (Err fault) →
+    IsFrontOf end.length found cut → HasMoreEpochs copy.keeper.ids → HasWrittenAnew copy cut end keeps (Err fault) →
     IsFailedStart names number found kept keeps fault
-unexchanged names number None kept cut keeps new copy end (faults.NotExchanged error) is_new recovered front half = tt
-unexchanged names number None kept cut keeps new copy end _ is_new recovered front half = absurd half
-unexchanged names number (Some disk) kept cut keeps new copy end (faults.NotExchanged error) is_new recovered front half = (
+unexchanged names number None kept cut keeps new copy end (faults.NotExchanged error) is_new recovered front more half = tt
+unexchanged names number None kept cut keeps new copy end _ is_new recovered front more half = absurd half
+unexchanged names number (Some disk) kept cut keeps new copy end (faults.NotExchanged error) is_new recovered front more half = (
   copy,
   end,
   record { new = new; is_new = is_new; recovered = recovered },
+  more,
   subst (λ (old : Known). IsHalfRewritten copy old keeps) front half,
 )
-unexchanged names number (Some disk) kept cut keeps new copy end _ is_new recovered front half = absurd half
+unexchanged names number (Some disk) kept cut keeps new copy end _ is_new recovered front more half = absurd half
+
+-- the node was not started
+unstarted : (names : FileOfNames) (number : ℕ) (disk : List ℕ) (kept cut between keeps : Known) (new copy : Node)
+    (end then : LogEnd) → IsNewNode names number new → HasRecovered CarriesOutEntry new copy (Some disk) (Ok end) →
+    IsFrontOf end.length (Some disk) cut → HasMoreEpochs copy.keeper.ids → IsPerhapsRewritten copy cut end between then →
+    keeps ≡ between → IsStoppedAt StartStage.Starting names number disk kept keeps
+unstarted names number disk kept cut between keeps new copy end then is_new recovered front more renewed same = (
+  copy,
+  end,
+  then,
+  record { new = new; is_new = is_new; recovered = recovered },
+  more,
+  subst (λ (k : Known). IsPerhapsRewritten copy (Some (take end.length disk)) end k then) (sym same)
+      (subst (λ (old : Known). IsPerhapsRewritten copy old end between then) front renewed),
+)
 
 -- the node was not started, or the log did not get the entries of the start
 pub unbegun : (names : FileOfNames) (number : ℕ) (found kept cut between keeps : Known) (new copy node : Node)
     (end then : LogEnd) (fault : Fault) → IsNewNode names number new →
-    HasRecovered CarriesOutEntry new copy found (Ok end) → IsFrontOf end.length found cut →
+    HasRecovered CarriesOutEntry new copy found (Ok end) → IsFrontOf end.length found cut → HasMoreEpochs copy.keeper.ids →
     IsPerhapsRewritten copy cut end between then → HasBegun copy node then between keeps (Err fault) →
     IsFailedStart names number found kept keeps fault
 unbegun names number None kept cut between keeps new copy node end then (faults.Stopped error) is_new recovered front
-    renewed begun = tt
+    more renewed begun = tt
 unbegun names number None kept cut between keeps new copy node end then (faults.LogLost error) is_new recovered front
-    renewed begun = tt
-unbegun names number None kept cut between keeps new copy node end then _ is_new recovered front renewed begun = absurd begun
+    more renewed begun = tt
+unbegun names number None kept cut between keeps new copy node end then _ is_new recovered front more renewed begun =
+    absurd begun
 unbegun names number (Some disk) kept cut between keeps new copy node end then (faults.Stopped error) is_new recovered front
-    renewed begun = (
-      copy,
-      end,
-      then,
-      record { new = new; is_new = is_new; recovered = recovered },
-      subst (λ (k : Known). IsPerhapsRewritten copy (Some (take end.length disk)) end k then) (sym begun)
-          (subst (λ (old : Known). IsPerhapsRewritten copy old end between then) front renewed),
-    )
+    more renewed begun = go error begun
+  where
+    go : (error : NodeError) → HasBegun copy node then between keeps (Err (faults.Stopped error)) →
+        IsFailedStart names number (Some disk) kept keeps (faults.Stopped error)
+    go errors.NoMoreIds begun = absurd (begun.0 more)
+    go (errors.Refused refusal) begun = absurd begun.0
+    go _ begun = unstarted names number disk kept cut between keeps new copy end then is_new recovered front more renewed begun.1
 unbegun names number (Some disk) kept cut between keeps new copy node end then (faults.LogLost error) is_new recovered front
-    renewed begun = inr (
+    more renewed begun = inr (
       copy,
       node,
       end,
@@ -109,7 +137,7 @@ unbegun names number (Some disk) kept cut between keeps new copy node end then (
       subst (λ (old : Known). IsPerhapsRewritten copy old end between then) front renewed,
       begun,
     )
-unbegun names number (Some disk) kept cut between keeps new copy node end then _ is_new recovered front renewed begun =
+unbegun names number (Some disk) kept cut between keeps new copy node end then _ is_new recovered front more renewed begun =
     absurd begun
 
 -- the last function of a start, which succeeds or fails
@@ -124,9 +152,10 @@ begun_starts names number (Err fault) found cut kept keeps new copy node end lat
 
 pub begun_fails : (names : FileOfNames) (number : ℕ) (r : Result LogEnd Fault) (found before cut kept keeps : Known)
     (new copy node : Node) (end later : LogEnd) → IsNewNode names number new →
-    HasRecovered CarriesOutEntry new copy found (Ok end) → IsFrontOf end.length found cut →
+    HasRecovered CarriesOutEntry new copy found (Ok end) → IsFrontOf end.length found cut → HasMoreEpochs copy.keeper.ids →
     IsPerhapsRewritten copy cut end kept later → HasBegun copy node later kept keeps r →
     IfErr r (IsFailedStart names number found before keeps)
-begun_fails names number (Ok last) found before cut kept keeps new copy node end later is_new recovered front renewed begun = tt
-begun_fails names number (Err fault) found before cut kept keeps new copy node end later is_new recovered front renewed begun =
-    unbegun names number found before cut kept keeps new copy node end later fault is_new recovered front renewed begun
+begun_fails names number (Ok last) found before cut kept keeps new copy node end later is_new recovered front more renewed begun =
+    tt
+begun_fails names number (Err fault) found before cut kept keeps new copy node end later is_new recovered front more renewed begun =
+    unbegun names number found before cut kept keeps new copy node end later fault is_new recovered front more renewed begun

@@ -7,8 +7,9 @@ use Rattle.deeds.specs.Kept.{FileOfNames}
 use Rattle.node_keeper.specs.Keeping.{kept_of}
 use Rattle.node_strings.specs.Strings.{Strings}
 use Rattle.node.specs.Recovering.{CarriesOutEntry}
-use Rattle.node.specs.Starts.{CanBeNamed}
+use Rattle.node.specs.Starts.{CanBeNamed, IsNotStarted}
 use Rattle.node.specs.declared.node.Node.{Node}
+use Rattle.node_effects.specs.declared.error.NodeError.TheVariants as errors
 use Rattle.node_store.specs.Disk.{IsFrontOf}
 use Rattle.node_store.specs.Recovery.{IsWholeEntry}
 use Rattle.node_store.specs.declared.end.LogEnd.{LogEnd}
@@ -39,10 +40,11 @@ HasWrittenAnew node old end new (Err (faults.NotExchanged error)) = IsHalfRewrit
 HasWrittenAnew node old end new (Err _) = ⊥
 
 -- the node was started, and the log has the entries of the start up to the end that is the result; or the node was not
--- started; or it was, and the log perhaps has a front of the entries
+-- started, for this reason; or it was, and the log perhaps has a front of the entries
 abbrev pub HasBegun : (old new : Node) → LogEnd → (kept keeps : Option (List ℕ)) → Result LogEnd Fault → Type 0
 HasBegun old new end kept keeps (Ok then) = IsBegun old new end.chain.state then.chain.state kept keeps
-HasBegun old new end kept keeps (Err (faults.Stopped error)) = keeps ≡ kept
+HasBegun old new end kept keeps (Err (faults.Stopped error)) =
+    IsNotStarted old.keeper.digest old.keeper.ids error × (keeps ≡ kept)
 HasBegun old new end kept keeps (Err (faults.LogLost error)) = IsPartlyBegun old new end.chain.state kept keeps
 HasBegun old new end kept keeps (Err _) = ⊥
 
@@ -68,8 +70,8 @@ HasStarted names number (Some disk) node chain keeps = IsStart names number disk
 HasStarted names number None node chain keeps = IsUnknownStart names number node
 
 -- What the log keeps if a start fails with this fault, in which these bytes were found, and which kept those. If it was
--- not carried out again, it was not changed. It may be that it was not cut, not written anew, or has no entries of the
--- start.
+-- not carried out again, it was not changed. If the node had no more epoch, it was cut. It may be that it was not cut,
+-- not written anew, or has no entries of the start.
 abbrev pub LeavesLog : FileOfNames → (number : ℕ) → (disk : List ℕ) → (kept keeps : Option (List ℕ)) → Fault → Type 0
 LeavesLog names number disk kept keeps faults.OldForm =
     IsStoppedAt StartStage.Reading names number disk kept keeps
@@ -85,6 +87,8 @@ LeavesLog names number disk kept keeps (faults.LogLost error) =
     ⊎ IsStoppedAt StartStage.Appending names number disk kept keeps
 LeavesLog names number disk kept keeps (faults.NotExchanged error) =
     IsStoppedAt StartStage.Exchanging names number disk kept keeps
+LeavesLog names number disk kept keeps (faults.Stopped errors.NoMoreIds) =
+    IsStoppedAt StartStage.Asking names number disk kept keeps
 LeavesLog names number disk kept keeps (faults.Stopped error) =
     IsStoppedAt StartStage.Starting names number disk kept keeps
 LeavesLog names number disk kept keeps _ = ⊥

@@ -12,6 +12,7 @@ ghost use Rattle.casd.specs.Opening.{HasBegun, HasCut, HasStarted, HasWrittenAne
 use crate::fault::Fault;
 use crate::folder::unopened;
 use node::Node;
+use node_effects::NodeError;
 use node_log::{Entry, HEAD_LENGTH, is_old_head};
 use node_store::{
     Log, LogEnd, RewritableLog, Rewriting, StoredLog, append_entries, is_worth_rewriting,
@@ -27,6 +28,8 @@ const LOG_BUFFER: usize = 65_536;
 /// Has the node carry out the log again, and cuts off an entry that is cut short at its end. Then it syncs the log,
 /// writes it anew, if most of it is no longer needed, and begins an epoch of the node. Returns where the log ends,
 /// which is synced. How many bytes it cut off is said on `err`, and why the log was not written anew.
+///
+/// If the node has no more epoch, the log is cut and synced, and not written anew.
 ///
 /// If the log is damaged, has the form of before, or is not this node's, it is left as it is. The clause `fails` says
 /// what the log keeps after each fault.
@@ -49,6 +52,9 @@ pub fn start_with<L: StoredLog, E: Write>(
     refuse_old_form(log)?;
     let end = recover(alloc, log, node)?;
     cut_behind(log, end.length, err)?;
+    if !node.has_more_epochs() {
+        return Err(Fault::Stopped(NodeError::NoMoreIds));
+    }
     let end = write_anew(alloc, log, node, end, err)?;
     begin(alloc, log, node, end)
 }

@@ -35,10 +35,14 @@ start_entries node = entries_in (name_growth node).outputs ++ start_entry ∷ []
 abbrev pub CanBeNamed : Node → Type 0
 CanBeNamed node = node.is_named ≡ false → IsEntry (cluster_strings node.keeper.digest node.keeper.ids.node)
 
+-- there is one more epoch, with which a node can start
+abbrev pub HasMoreEpochs : CallIds → Type 0
+HasMoreEpochs ids = suc ids.epoch < 2 ^ 24
+
 -- why a node of this number, with the cluster file of this digest, does not start: there is no memory, it has begun all
 -- epochs, or the entry that names the cluster and the node is too long
 abbrev pub IsNotStarted : (digest : List ℕ) → CallIds → NodeError → Type 0
 IsNotStarted digest ids errors.NoMemory = ⊤
-IsNotStarted digest ids errors.NoMoreIds = suc ids.epoch < 2 ^ 24 → ⊥
+IsNotStarted digest ids errors.NoMoreIds = HasMoreEpochs ids → ⊥
 IsNotStarted digest ids errors.Unwritable = IsEntry (cluster_strings digest ids.node) → ⊥
 IsNotStarted digest ids (errors.Refused refusal) = ⊥

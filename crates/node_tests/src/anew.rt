@@ -42,6 +42,7 @@ fn read_anew(rt: &impl Abort, alloc: Global, node: &Node) {
     let mut again = new_node(rt, alloc);
     recover_anew(rt, node, &mut again);
     assert!(rt; again.needed_bytes() == node.needed_bytes());
+    assert!(rt; again.has_more_epochs());
     start(rt, &mut again);
     play(rt, alloc, &mut again, &A_READ);
 }

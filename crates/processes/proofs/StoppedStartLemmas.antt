@@ -7,7 +7,7 @@ use Rattle.deeds.specs.CallId.{with_next_epoch}
 use Rattle.deeds.specs.Kept.{FileOfNames}
 use Rattle.recoveries.specs.Records.{IsStarted}
 use Rattle.node.specs.Anew.{AreAnew}
-use Rattle.node.specs.Starts.{CanBeNamed, start_entries}
+use Rattle.node.specs.Starts.{CanBeNamed, HasMoreEpochs, start_entries}
 use Rattle.node.specs.declared.node.Node.{Node}
 use Rattle.node_keeper.specs.Keeping.{kept_of}
 use Rattle.node_log.specs.Entry.{chain_behind, first_chain}
@@ -22,7 +22,7 @@ use Rattle.processes.specs.Loops.{HaveEvents}
 use Rattle.processes.specs.Processes.{Process, Processes}
 use Rattle.processes.specs.Programs.{IsFront, IsReadLog, IsRewrittenIf, IsStoppedAt, StartStage}
 use Rattle.processes.specs.Runs.{AreReached}
-use Rattle.processes.specs.StoppedStarts.{HasMoreEpochs, IsStoppedWith, StoppedStartsAreEvents}
+use Rattle.processes.specs.StoppedStarts.{IsStoppedWith, StoppedStartsAreEvents}
 use Rattle.processes.proofs.LeadLemmas.{leads_nowhere, leads_on, leads_once, own_process}
 use Rattle.processes.proofs.LeftAfterLemmas.{left_front, left_grown, left_least}
 use Rattle.processes.proofs.ProgramLemmas.{carried_all, cut_at, found_if, kept_as, reached_whole}
@@ -68,7 +68,7 @@ starts_and_stops names number processes read anew new copy after keeps now may i
     )
 
 -- a node that has begun one more epoch
-started_copy : (copy : Node) → suc copy.keeper.ids.epoch < 2 ^ 24 →
+started_copy : (copy : Node) → HasMoreEpochs copy.keeper.ids →
     (after : Node) × IsStarted (kept_of copy.keeper) (kept_of after.keeper) × (after.desk ≡ copy.desk)
 started_copy copy more = (
   record copy { keeper = record copy.keeper { ids = with_next_epoch copy.keeper.ids } },
@@ -167,10 +167,10 @@ module _ (law : LeftLogIsRead) (processes : Processes) (reached : AreReached pro
 
     -- the log was written anew, and no more
     pub renews_read : (keeps : Known) (entries : List Strings) → AreAnew copy entries →
-        keeps ≡ Some (log_bytes first_chain entries) → HasMoreEpochs reached.names number disk →
+        keeps ≡ Some (log_bytes first_chain entries) → HasMoreEpochs copy.keeper.ids →
         HaveEvents reached.names number processes (Leaves keeps)
     renews_read keeps entries anew is more =
-        let after = started_copy copy (more copy end found) in
+        let after = started_copy copy more in
         let bytes = log_bytes (chain_behind first_chain entries) (start_entries copy) in
         starts_read keeps keeps
         (record {
@@ -181,25 +181,25 @@ module _ (law : LeftLogIsRead) (processes : Processes) (reached : AreReached pro
         (subst (λ (k : Known). Appends k k []) (sym is) (sym (append-nil (log_bytes first_chain entries))))
 
 pub stopped_starts_are_events : LeftLogIsRead → StoppedStartsAreEvents
-stopped_starts_are_events law processes reached number disk kept keeps stopped left left_kept front more (stage, at) = go stage at
+stopped_starts_are_events law processes reached number disk kept keeps stopped left left_kept front (stage, at) = go stage at
   where
     perhaps : (copy : Node) (end then : LogEnd) → IsReadLog reached.names number disk copy end →
-        (anew : Option (List Strings)) → AreAnewIf copy anew →
+        HasMoreEpochs copy.keeper.ids → (anew : Option (List Strings)) → AreAnewIf copy anew →
         IsRewrittenIf anew (Some (take end.length disk)) end keeps then →
         HaveEvents reached.names number processes (Leaves keeps)
-    perhaps copy end then found None are is =
+    perhaps copy end then found more None are is =
         stays_read law processes reached number disk stopped left copy end found keeps is.0
-    perhaps copy end then found (Some entries) are is =
+    perhaps copy end then found more (Some entries) are is =
         renews_read law processes reached number disk stopped left copy end found keeps entries are is.0 more
 
-    half : (copy : Node) (end : LogEnd) → IsReadLog reached.names number disk copy end → (entries : List Strings) →
-        AreAnew copy entries →
+    half : (copy : Node) (end : LogEnd) → IsReadLog reached.names number disk copy end →
+        HasMoreEpochs copy.keeper.ids → (entries : List Strings) → AreAnew copy entries →
         KeepsOrBecomes (Some (take end.length disk)) keeps (Some (log_bytes first_chain entries)) →
         HaveEvents reached.names number processes (Leaves keeps)
-    half copy end found entries anew (inl same) =
+    half copy end found more entries anew (inl same) =
         stays_read law processes reached number disk stopped left copy end found keeps
         (kept_as (Some (take end.length disk)) keeps (take end.length disk) refl same)
-    half copy end found entries anew (inr becomes) =
+    half copy end found more entries anew (inr becomes) =
         renews_read law processes reached number disk stopped left copy end found keeps entries anew becomes more
 
     go : (stage : StartStage) → IsStoppedAt stage reached.names number disk (Some kept) keeps →
@@ -208,8 +208,12 @@ stopped_starts_are_events law processes reached number disk kept keeps stopped l
     go StartStage.Cutting (copy, end, found, cut) =
         let now = cut kept disk refl front ([], sym (append-nil disk)) in
         stays_cut law processes reached number disk stopped left copy end found keeps kept now.0 left_kept now.1 now.2 now.3
-    go StartStage.Exchanging (copy, end, found, (entries, anew, either)) = half copy end found entries anew either
-    go StartStage.Starting (copy, end, then, found, (anew, are, is)) = perhaps copy end then found anew are is
+    go StartStage.Asking (copy, end, found, none, is) =
+        stays_read law processes reached number disk stopped left copy end found keeps is
+    go StartStage.Exchanging (copy, end, found, more, (entries, anew, either)) =
+        half copy end found more entries anew either
+    go StartStage.Starting (copy, end, then, found, more, (anew, are, is)) =
+        perhaps copy end then found more anew are is
     go StartStage.Appending (copy, node, end, then, between, found, (anew, are, is), begun) =
         let added = begun.appended in
         starts_read law processes reached number disk stopped left copy end found keeps between then anew node added.0 added.1

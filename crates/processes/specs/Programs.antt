@@ -8,7 +8,7 @@ use Rattle.node_log.specs.Entry.{chain_behind, first_chain}
 use Rattle.node_strings.specs.Strings.{Strings}
 use Rattle.node.specs.Anew.{AreAnew}
 use Rattle.node.specs.Recovering.{CarriesOutEntry}
-use Rattle.node.specs.Starts.{CanBeNamed, start_entries}
+use Rattle.node.specs.Starts.{CanBeNamed, HasMoreEpochs, start_entries}
 use Rattle.node.specs.declared.node.Node.{Node}
 use Rattle.node_store.specs.Laws.{IsLeft}
 use Rattle.node_store.specs.Outputs.{AppendsFront}
@@ -77,12 +77,14 @@ pub record IsStart (names : FileOfNames) (number : ℕ) (disk : List ℕ) (node 
 -- how far a start of the program has come when it fails:
 -- - it reads its log, which it has not changed;
 -- - it cuts its log, and syncs it;
+-- - it asks its node whether there is one more epoch, with which it can start;
 -- - it puts a log that is written anew in the place of the old one;
 -- - it starts its node;
 -- - it appends the entries of the start.
 pub data StartStage : Type 0 where
   Reading : StartStage
   Cutting : StartStage
+  Asking : StartStage
   Exchanging : StartStage
   Starting : StartStage
   Appending : StartStage
@@ -114,16 +116,21 @@ pub record IsPartlyBegun (old new : Node) (chain : ℕ) (kept keeps : Option (Li
   pub appended : AppendsFront kept keeps (log_bytes chain (start_entries old))
 
 -- What the log keeps if a start fails that has come so far. These bytes were found in it, and those were kept when it
--- was opened. A node that carried out the entries that were found, up to an end, is there from the cut on.
+-- was opened. A node that carried out the entries that were found, up to an end, is there from the cut on. If it has no
+-- more epoch, the start fails as it asks; so from then on, it has one.
 abbrev pub IsStoppedAt : StartStage → FileOfNames → (number : ℕ) → (disk : List ℕ) → (kept keeps : Option (List ℕ)) →
     Type 0
 IsStoppedAt StartStage.Reading names number disk kept keeps = keeps ≡ kept
 IsStoppedAt StartStage.Cutting names number disk kept keeps = (copy : Node) × (end : LogEnd)
     × IsReadLog names number disk copy end × IsPartlyCut end.length disk kept keeps
+IsStoppedAt StartStage.Asking names number disk kept keeps = (copy : Node) × (end : LogEnd)
+    × IsReadLog names number disk copy end × (HasMoreEpochs copy.keeper.ids → ⊥) × (keeps ≡ Some (take end.length disk))
 IsStoppedAt StartStage.Exchanging names number disk kept keeps = (copy : Node) × (end : LogEnd)
-    × IsReadLog names number disk copy end × IsHalfRewritten copy (Some (take end.length disk)) keeps
+    × IsReadLog names number disk copy end × HasMoreEpochs copy.keeper.ids
+    × IsHalfRewritten copy (Some (take end.length disk)) keeps
 IsStoppedAt StartStage.Starting names number disk kept keeps = (copy : Node) × (end then : LogEnd)
-    × IsReadLog names number disk copy end × IsPerhapsRewritten copy (Some (take end.length disk)) end keeps then
+    × IsReadLog names number disk copy end × HasMoreEpochs copy.keeper.ids
+    × IsPerhapsRewritten copy (Some (take end.length disk)) end keeps then
 IsStoppedAt StartStage.Appending names number disk kept keeps = (copy node : Node) × (end then : LogEnd)
     × (between : Option (List ℕ)) × IsReadLog names number disk copy end
     × IsPerhapsRewritten copy (Some (take end.length disk)) end between then

@@ -1,19 +1,11 @@
 -- The contracts that docs/trusted.md lists do not depend on this file; other contracts and proofs do.
 -- A start of a node program that fails, as events of its process.
-use Rattle.std.specs.Prelude.{◌≡◌, ◌<◌, ◌^◌, ℕ, suc, List, [], Option, None, Some}
-use Rattle.deeds.specs.Kept.{FileOfNames}
-use Rattle.node.specs.declared.node.Node.{Node}
+use Rattle.std.specs.Prelude.{◌≡◌, ℕ, List, [], Option, None, Some}
 use Rattle.node_store.specs.Laws.{IsLeft}
-use Rattle.node_store.specs.declared.end.LogEnd.{LogEnd}
 use Rattle.processes.specs.Loops.{HaveEvents}
 use Rattle.processes.specs.Processes.{Process, Processes}
-use Rattle.processes.specs.Programs.{IsFront, IsReadLog, IsStoppedStart}
+use Rattle.processes.specs.Programs.{IsFront, IsStoppedStart}
 use Rattle.processes.specs.Runs.{AreReached}
-
--- a node that carries out again the entries in these bytes can begin one more epoch
-abbrev pub HasMoreEpochs : FileOfNames → (number : ℕ) → (disk : List ℕ) → Type 0
-HasMoreEpochs names number disk = (copy : Node) (end : LogEnd) → IsReadLog names number disk copy end →
-    suc copy.keeper.ids.epoch < 2 ^ 24
 
 -- the process is stopped, and what its log keeps is what a stop may leave of it
 abbrev pub IsStoppedWith : Process → (keeps : Option (List ℕ)) → Type 0
@@ -28,5 +20,5 @@ StoppedStartsAreEvents = (processes : Processes) (reached : AreReached processes
     (keeps : Option (List ℕ)) →
     (processes.at number).running ≡ None → IsLeft (processes.at number).log (processes.at number).synced disk →
     IsLeft (processes.at number).log (processes.at number).synced kept → IsFront kept disk →
-    HasMoreEpochs reached.names number disk → IsStoppedStart reached.names number disk (Some kept) keeps →
+    IsStoppedStart reached.names number disk (Some kept) keeps →
     HaveEvents reached.names number processes (λ written process. (written ≡ []) × IsStoppedWith process keeps)

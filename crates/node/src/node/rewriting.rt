@@ -1,17 +1,20 @@
 //! The node's log, written anew.
-ghost use Rattle.std.specs.Prelude.{◌≡◌, ◌∷◌, ◌++◌, [], IfErr, IfOk, MatchOption, OnOk};
+ghost use Rattle.std.specs.Prelude.{◌≡◌, ◌↔◌, ◌∷◌, ◌++◌, [], IfErr, IfOk, IsTrue, MatchOption, OnOk};
 ghost use Rattle.node_log.specs.Entry.{IsEntry};
 ghost use Rattle.recoveries.specs.RewritingNodes.{CanBeWrittenAnew};
 ghost use Rattle.node_effects.specs.Errors.{IsUnwritten, WritesOrFails};
 ghost use Rattle.node_keeper.specs.Keeping.{kept_of};
 ghost use Rattle.node.specs.Anew.{AreAnew, CanHoldAnew};
-ghost use Rattle.node.specs.Starts.{cluster_entry, cluster_strings};
+ghost use Rattle.node.specs.Starts.{HasMoreEpochs, cluster_entry, cluster_strings};
 
 use super::Node;
 use node_effects::NodeError;
 use node_keeper::push_entry;
 use node_log::Entry;
 use node_strings::Record;
+
+// The number of epochs of a node's ids.
+const EPOCHS: u32 = 1 << 24;
 
 impl Node {
     /// The entries of a log that is written anew, which gives back what the node keeps now. None if the log may not be
@@ -36,6 +39,14 @@ impl Node {
     /// to write the log anew; no promise depends on it. It takes time linear in the number of tags.
     pub fn needed_bytes(&self) -> u64 {
         self.keeper.needed_bytes()
+    }
+
+    /// Returns whether there is one more epoch, with which the node can start. A host asks this before it writes the
+    /// log of a node anew that has not been started.
+    pub fn has_more_epochs(&self) -> bool
+        ensures { IsTrue result ↔ HasMoreEpochs self.now.keeper.ids }
+    {
+        self.keeper.ids.epoch() < EPOCHS - 1
     }
 
     // Appends the entry that names the cluster and the node.
