@@ -5,3 +5,5 @@ mod FailedStartLemmas
 mod ReaderLemmas
 mod SessionLemmas
 mod RunLemmas
+mod KillLemmas
+mod KilledRunLemmas

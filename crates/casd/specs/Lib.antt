@@ -4,3 +4,4 @@ pub mod Files
 pub mod Opening
 pub mod Program
 pub mod Ending
+pub mod Kills

@@ -11,6 +11,7 @@ mod arguments;
 mod fault;
 mod files;
 mod folder;
+mod kills;
 mod lock;
 mod opening;
 mod program;

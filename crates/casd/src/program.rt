@@ -144,8 +144,8 @@ fn run_log<L: StoredLog, I: Read + Drop, O: Write, E: Write>(
     start_and_serve(alloc, &mut node, log, input, output, err)
 }
 
-// Starts the node with its log, and serves until the input ends.
-fn start_and_serve<L: StoredLog, I: Read + Drop, O: Write, E: Write>(
+/// Starts the node with its log, and serves until the input ends.
+pub fn start_and_serve<L: StoredLog, I: Read + Drop, O: Write, E: Write>(
     alloc: Global,
     node: &mut Node,
     log: &mut L,
