@@ -4,21 +4,17 @@ use Rattle.std.proofs.Common.{refl, sym, subst, ap, ◌∙◌, inl, inr, append-
 use Rattle.std.proofs.lemmas.List.{take_all}
 use Rattle.std.specs.Io.KnownBytes.{Keeps}
 use Rattle.deeds.specs.Kept.{FileOfNames}
-use Rattle.node.specs.Anew.{AreAnew}
 use Rattle.node.specs.declared.node.Node.{Node}
-use Rattle.node_effects.specs.declared.error.NodeError.{NodeError}
 use Rattle.node_effects.specs.declared.error.NodeError.TheVariants as errors
 use Rattle.node_log.specs.Entry.{chain_behind, first_chain}
 use Rattle.node_store.specs.Laws.{IsLeft}
-use Rattle.node_store.specs.Logs.{Grows}
 use Rattle.node_store.specs.Recovery.{log_bytes}
-use Rattle.node_store.specs.Rewriting.{Becomes, IsEndOf, KeepsOrBecomes}
 use Rattle.node_store.specs.declared.end.LogEnd.{LogEnd}
 use Rattle.node_strings.specs.Strings.{Strings}
-use Rattle.processes.specs.Events.{AreAnewIf, IsNewNode}
+use Rattle.processes.specs.Events.{IsNewNode}
 use Rattle.processes.specs.Loops.{HaveEvents, IsBetweenRounds}
 use Rattle.processes.specs.Processes.{Process, Processes}
-use Rattle.processes.specs.Programs.{IsRewrittenIf, IsStoppedStart, RewritesAreEvents, StartStage, StartsAreEvents}
+use Rattle.processes.specs.Programs.{IsStoppedStart, RewritesAreEvents, StartStage, StartsAreEvents}
 use Rattle.processes.specs.Runs.{AreReached}
 use Rattle.processes.specs.StoppedStarts.{IsStoppedWith, StoppedStartsAreEvents}
 use Rattle.casd.specs.Kills.{IsAfterRewriting, IsAfterStart, IsLeftOf, LeavesRewriting, LeavesStart, MayBeStarted}

@@ -1,5 +1,5 @@
 -- A whole run of the program, as events of its process, whatever it returns.
-use Rattle.std.proofs.Common.{◌≡◌, ℕ, List, [], ◌∷◌, ◌++◌, None, Some, Result, Ok, Err, refl, sym, subst, inl, inr, append-nil}
+use Rattle.std.proofs.Common.{◌≡◌, ℕ, List, [], ◌∷◌, ◌++◌, Some, Result, Ok, Err, refl, sym, subst, inl, inr, append-nil}
 use Rattle.std.specs.Io.KnownBytes.{Appends}
 use Rattle.deeds.specs.Kept.{FileOfNames}
 use Rattle.node.specs.declared.node.Node.{Node}
@@ -16,7 +16,6 @@ use Rattle.processes.specs.Programs.{StartsAreEvents}
 use Rattle.processes.specs.Runs.{AreReached, processes_run}
 use Rattle.processes.specs.StoppedStarts.{IsStoppedWith, StoppedStartsAreEvents}
 use Rattle.casd.specs.Kills.{HaveSilentEvents, LeavesAfterStart, LeavesRun, LeavesSession, MayBeStarted}
-use Rattle.casd.specs.Opening.{HasStarted}
 use Rattle.casd.specs.Program.{HasNotStarted, HasOnlyStarted, HasRun, HasServed, HasStartedAndServed}
 use Rattle.casd.specs.declared.fault.Fault.{Fault}
 use Rattle.casd.specs.declared.fault.Fault.TheVariants as faults
