@@ -5,8 +5,9 @@ use Rattle.std.proofs.lemmas.List.{take-append-drop}
 use Rattle.std.specs.Io.KnownBytes.{Keeps}
 use Rattle.node_store.specs.Disk.{IsFrontOf, LosesEnd}
 use Rattle.node_store.specs.Logs.{Grows, IsKeptBehind}
+use Rattle.node_store.specs.Steps.{IsFront}
 use Rattle.node_store.proofs.CutLogLemmas.{split}
-use Rattle.processes.specs.Programs.{IsFront, IsPartlyCut}
+use Rattle.processes.specs.Programs.{IsPartlyCut}
 
 -- what is known of some bytes
 abbrev pub Known : Type 0

@@ -15,12 +15,13 @@ use Rattle.node_strings.specs.Strings.{Strings}
 use Rattle.node_store.specs.Laws.{IsLeft, LeftLogIsRead}
 use Rattle.node_store.specs.Recovery.{log_bytes}
 use Rattle.node_store.specs.Rewriting.{KeepsOrBecomes}
+use Rattle.node_store.specs.Steps.{IsFront}
 use Rattle.node_store.specs.declared.end.LogEnd.{LogEnd}
 use Rattle.node_store.proofs.GrowthLemmas.{Known}
 use Rattle.processes.specs.Events.{AreAnewIf, MayStart, ProcessEvent, found_log, found_synced, processes_after, started_process}
 use Rattle.processes.specs.Loops.{HaveEvents}
 use Rattle.processes.specs.Processes.{Process, Processes}
-use Rattle.processes.specs.Programs.{IsFront, IsReadLog, IsRewrittenIf, IsStoppedAt, StartStage}
+use Rattle.processes.specs.Programs.{IsReadLog, IsRewrittenIf, IsStoppedAt, StartStage}
 use Rattle.processes.specs.Runs.{AreReached}
 use Rattle.processes.specs.StoppedStarts.{IsStoppedWith, StoppedStartsAreEvents}
 use Rattle.processes.proofs.LeadLemmas.{leads_nowhere, leads_on, leads_once, own_process}

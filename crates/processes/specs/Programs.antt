@@ -1,5 +1,5 @@
 -- What a node program does when it starts, and when it writes its log anew, as events of its process.
-use Rattle.std.specs.Prelude.{◌≡◌, ◌⊎◌, ◌≤◌, ◌++◌, ℕ, List, [], length, take, Option, None, Some, Ok}
+use Rattle.std.specs.Prelude.{◌≡◌, ◌⊎◌, ◌≤◌, ℕ, List, [], length, take, Option, None, Some, Ok}
 use Rattle.std.specs.Io.KnownBytes.{Appends}
 use Rattle.recoveries.specs.Records.{IsStarted}
 use Rattle.deeds.specs.Kept.{FileOfNames}
@@ -14,6 +14,7 @@ use Rattle.node_store.specs.Laws.{IsLeft}
 use Rattle.node_store.specs.Outputs.{AppendsFront}
 use Rattle.node_store.specs.Recovery.{HasRecovered, log_bytes}
 use Rattle.node_store.specs.Rewriting.{Becomes, IsEndOf, KeepsOrBecomes}
+use Rattle.node_store.specs.Steps.{IsFront}
 use Rattle.node_store.specs.declared.end.LogEnd.{LogEnd}
 use Rattle.processes.specs.Events.{AreAnewIf, IsNewNode}
 use Rattle.processes.specs.Loops.{HaveEvents, IsBetweenRounds}
@@ -94,10 +95,6 @@ pub record IsReadLog (names : FileOfNames) (number : ℕ) (disk : List ℕ) (cop
   pub new : Node
   pub is_new : IsNewNode names number new
   pub recovered : HasRecovered CarriesOutEntry new copy (Some disk) (Ok end)
-
--- the bytes begin with those of this front
-abbrev pub IsFront : (front bytes : List ℕ) → Type 0
-IsFront front bytes = (rest : List ℕ) × (bytes ≡ front ++ rest)
 
 -- A log in which these bytes were found, and which kept those, was to be cut behind so many bytes. Bytes that begin
 -- with those found, and with those that were kept, begin with those that it keeps now: at least so many, or at least as

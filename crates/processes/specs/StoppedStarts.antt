@@ -2,9 +2,10 @@
 -- A start of a node program that fails, as events of its process.
 use Rattle.std.specs.Prelude.{◌≡◌, ℕ, List, [], Option, None, Some}
 use Rattle.node_store.specs.Laws.{IsLeft}
+use Rattle.node_store.specs.Steps.{IsFront}
 use Rattle.processes.specs.Loops.{HaveEvents}
 use Rattle.processes.specs.Processes.{Process, Processes}
-use Rattle.processes.specs.Programs.{IsFront, IsStoppedStart}
+use Rattle.processes.specs.Programs.{IsStoppedStart}
 use Rattle.processes.specs.Runs.{AreReached}
 
 -- the process is stopped, and what its log keeps is what a stop may leave of it
