@@ -21,7 +21,6 @@ use Rattle.casd.specs.declared.fault.Fault.{Fault}
 use Rattle.casd.specs.declared.fault.Fault.TheVariants as faults
 use Rattle.casd.proofs.CutLemmas.{Known}
 use Rattle.casd.proofs.KillLemmas.{bad_start, good_start, rests_left}
-use Rattle.casd.proofs.SessionLemmas.{at}
 
 -- What is told of the end of a session
 
@@ -70,6 +69,11 @@ left_all held holds keeps node chain written process all rests =
 
 -- The start, and what follows
 
+-- the program behind its start, with a log of this length, behind this chain
+abbrev behind : (long chain : ℕ) → Node → (left kept held : Known) → BetweenRounds Node
+behind long chain machine left kept held =
+    record { length = long; chain = chain; machine = machine; left = left; kept = kept; held = held }
+
 -- events that write nothing, and what holds then of all processes
 silent : (names : FileOfNames) (number : ℕ) (processes : Processes) (P : Process → Type 0) (Holds : Processes → Type 0) →
     ((started : Processes) → P (started.at number) → Holds started) →
@@ -86,13 +90,13 @@ silent names number processes P Holds then have = record {
 module _ (starts : StartsAreEvents) (stops : StoppedStartsAreEvents) (ends : SessionsAreEvents)
     (breaks : StoppedSessionsAreEvents) (halves : UnexchangedSessionsAreEvents) where
   -- what was served behind a start
-  served : (T : Type 0) (names : FileOfNames) (number : ℕ) (from : Processes) (bytes : List ℕ) (started : Node) (chain : ℕ)
+  served : (T : Type 0) (names : FileOfNames) (number : ℕ) (from : Processes) (bytes : List ℕ) (started : Node) (long chain : ℕ)
       (kept held : Known) (new : Node) (left keeps holds : Known) (result : Result T Fault) →
       IsBetweenRounds (from.at number) started chain kept →
-      HasServed (at chain started (Some bytes) kept held) new left keeps holds result →
+      HasServed (behind long chain started (Some bytes) kept held) new left keeps holds result →
       LeavesSession names number from (Some bytes) held new keeps holds result
-  served T names number from bytes started chain kept held new left keeps holds (Ok done) rests serves =
-      let first = at chain started (Some bytes) kept held in record {
+  served T names number from bytes started long chain kept held new left keeps holds (Ok done) rests serves =
+      let first = behind long chain started (Some bytes) kept held in record {
         first = first;
         left_is = refl;
         held_is = refl;
@@ -104,8 +108,8 @@ module _ (starts : StartsAreEvents) (stops : StoppedStartsAreEvents) (ends : Ses
             (λ written process ended. left_all held holds keeps new ended.1.0 written process ended.0 ended.1.1)
             (ends names number from first bytes new left keeps holds refl rests serves);
       }
-  served T names number from bytes started chain kept held new left keeps holds (Err (faults.Ended error)) rests serves =
-      let first = at chain started (Some bytes) kept held in record {
+  served T names number from bytes started long chain kept held new left keeps holds (Err (faults.Ended error)) rests serves =
+      let first = behind long chain started (Some bytes) kept held in record {
         first = first;
         left_is = refl;
         held_is = refl;
@@ -113,8 +117,8 @@ module _ (starts : StartsAreEvents) (stops : StoppedStartsAreEvents) (ends : Ses
         left = left;
         served = breaks names number from first bytes new left keeps holds error refl rests serves;
       }
-  served T names number from bytes started chain kept held new left keeps holds (Err (faults.NotExchanged error)) rests serves =
-      let first = at chain started (Some bytes) kept held in record {
+  served T names number from bytes started long chain kept held new left keeps holds (Err (faults.NotExchanged error)) rests serves =
+      let first = behind long chain started (Some bytes) kept held in record {
         first = first;
         left_is = refl;
         held_is = refl;
@@ -127,7 +131,7 @@ module _ (starts : StartsAreEvents) (stops : StoppedStartsAreEvents) (ends : Ses
             (λ written process ended. left_all held holds keeps ended.1.0 ended.1.1 written process ended.0 ended.1.2)
             (halves names number from first bytes left keeps holds refl rests serves);
       }
-  served T names number from bytes started chain kept held new left keeps holds (Err _) rests serves = absurd serves
+  served T names number from bytes started long chain kept held new left keeps holds (Err _) rests serves = absurd serves
 
   module _ (T : Type 0) (old : Node) (found before : Known) (bytes : List ℕ) (held : Known) (new : Node) (keeps holds : Known)
       (processes : Processes) (reached : AreReached processes) (number : ℕ)
@@ -150,10 +154,10 @@ module _ (starts : StartsAreEvents) (stops : StoppedStartsAreEvents) (ends : Ses
         ((from : Processes) → LeavesSession reached.names number from (Some bytes) held new keeps holds result →
         After result from) → HasStartedAndServed reached.names number found (Some bytes) held new keeps holds result →
         HaveSilentEvents reached.names number processes (After result)
-    started_and_served result then (started, chain, kept, left, start, serves) =
+    started_and_served result then (started, long, chain, kept, left, start, serves) =
         silent reached.names number processes (λ process. IsBetweenRounds process started chain kept) (After result)
         (λ from rests. then from
-        (served T reached.names number from bytes started chain kept held new left keeps holds result rests serves))
+        (served T reached.names number from bytes started long chain kept held new left keeps holds result rests serves))
         (good_start starts processes reached number found before started chain kept may start)
 
     -- the start succeeded, and then nothing was done
