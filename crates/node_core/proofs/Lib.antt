@@ -1,0 +1,6 @@
+mod OpeningLemmas
+mod StepLemmas
+mod RoundLemmas
+mod CutLemmas
+mod StartLemmas
+mod RewritingLemmas
