@@ -1,4 +1,5 @@
 pub mod Local
+pub mod KeptBanks
 pub mod ChangedBanks
 pub mod Events
 pub mod May

@@ -5,6 +5,7 @@ pub mod BegunCallLemmas
 pub mod BegunMoveLemmas
 pub mod CallEntryLemmas
 pub mod ChangedCallLemmas
+pub mod ClosedPlaceLemmas
 pub mod ClusterLemmas
 pub mod DeedLemmas
 pub mod EventLemmas
@@ -12,6 +13,7 @@ pub mod EventRowLemmas
 pub mod EventRunLemmas
 pub mod GrownWorldLemmas
 pub mod HistoryLemmas
+pub mod KeptBankLemmas
 pub mod KeptNodeLemmas
 pub mod LeadLemmas
 pub mod LearntPartLemmas
