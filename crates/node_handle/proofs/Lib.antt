@@ -1,0 +1,2 @@
+pub mod CopyingLemmas
+pub mod HeldLemmas
