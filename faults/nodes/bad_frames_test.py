@@ -130,18 +130,20 @@ class BadFrames(unittest.TestCase):
         self.assertEqual(self.dropped(node), len(great))
 
     def test_letters_that_are_not_heeded(self):
-        """A letter about a member that there is not, with another layout than the node knows, or about a position of
-        which the mover has not heard, is dropped and counts once."""
+        """A letter with another layout than the node knows, or about a position of which the mover has not heard, is
+        dropped and counts once, as one that is not heeded; one about a member that there is not counts as unreadable."""
         node = self.start(CLUSTER.replace("later", "later 2"))
         self.assertEqual(self.answer(node, b"SET", b"a", b"1"), b"+OK\r\n")
         digest = bytes.fromhex(self.line(node, b"cluster").decode())
-        wrong = [{"member": 1}, {"layout": b"\x01\x02"}, {"position": 1}]
+        wrong = [{"layout": b"\x01\x02"}, {"position": 1}]
         for count, changed in enumerate(wrong, 1):
             self.assertEqual(node.give([b"node 2", *Message(digest, b"a", b"query", **changed).strings()]), [], changed)
             self.assertEqual((self.dropped(node), self.dropped_for(node, b"not_heeded")), (count, count), changed)
         sent = node.give([b"node 2", *Message(digest, b"a", b"query").strings()])
         self.assertEqual([frame[0] for frame in sent], [b"node 2"])
         self.assertEqual((self.dropped(node), self.dropped_for(node, b"not_heeded")), (len(wrong), len(wrong)))
+        self.assertEqual(node.give([b"node 2", *Message(digest, b"a", b"query", member=1).strings()]), [])
+        self.assertEqual((self.dropped(node), self.dropped_for(node, b"unreadable")), (len(wrong) + 1, 1))
 
     @staticmethod
     def spoil(source, strings):
