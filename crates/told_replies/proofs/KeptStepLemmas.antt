@@ -1,19 +1,15 @@
 -- Each step of a record keeps what was before, and so do several.
-use Rattle.std.proofs.Common.{◌≡◌, ℕ, suc, ◌<◌, ◌≤◌, ◌⊎◌, Bool, true, false, cond, is_some, List, [], ◌∷◌, ◌++◌, length, map, set}
-use Rattle.std.proofs.Common.{Option, Some, None, get_or, slice_get, refl, sym, subst, ap, inl, inr, arith, le_refl}
-use Rattle.std.proofs.lemmas.List.{get_or_append_left, length-set, length_push}
+use Rattle.std.proofs.Common.{◌≡◌, ℕ, suc, ◌<◌, ◌≤◌, Bool, true, false, cond, is_some, List, [], ◌∷◌, ◌++◌, length, set}
+use Rattle.std.proofs.Common.{Option, Some, None, get_or, slice_get, refl, sym, subst, ap, arith, le_refl}
+use Rattle.std.proofs.lemmas.List.{get_or_append_left, length_push}
 use Rattle.layout.specs.Layout.{Layout}
 use Rattle.piece.specs.declared.piece.Piece.{Piece}
-use Rattle.bank.specs.Bank.{Bank, empty_piece}
-use Rattle.bank.specs.Collect.{retired_bank}
+use Rattle.bank.specs.Bank.{empty_piece}
 use Rattle.bank.specs.Facts.{SameBefore}
-use Rattle.bank.specs.Serve.{served_bank}
 use Rattle.bank.specs.declared.kind.Kind.{Kind}
 use Rattle.bank.specs.declared.kind.Kind.TheVariants.{Next, Spread}
 use Rattle.bank.specs.declared.request.Request.{Request}
 use Rattle.bank.specs.declared.status.Status.TheVariants.{Pending}
-use Rattle.bank.proofs.MonotoneLemmas.{retired_grows, served_grows}
-use Rattle.bank.proofs.TrueAnswerLemmas.{grows_past}
 use Rattle.mail.specs.declared.message.Body.{Body}
 use Rattle.mail.specs.declared.message.Body.TheVariants as body
 use Rattle.mail.specs.declared.message.Message.{Message}
@@ -25,16 +21,15 @@ use Rattle.record.specs.Legal.{due_of}
 use Rattle.record.specs.Records.{Call, Object, bank_at, base_of, index_by_id, layout_at, no_bank, no_layout}
 use Rattle.record.specs.Sending.{sent_pieces}
 use Rattle.record.specs.Steps.{Step, stepped, advanced_object, asked_again, begun_object, called_object}
-use Rattle.record.specs.Steps.{handled_object, moving_object, new_call, new_phase, on_call, on_message, retired_object, served_by}
+use Rattle.record.specs.Steps.{moving_object, new_call, new_phase, on_call, on_message, served_by}
 use Rattle.record.specs.Steps.{supplied_by, taken_by, taken_calls, taking_call, with_phase}
 use Rattle.record.specs.Wants.{current_phase}
 use Rattle.soundness.proofs.ListLemmas.{get_push}
-use Rattle.soundness.proofs.Sound.KnownSinceLemmas.{bank_at_set}
-use Rattle.soundness.proofs.Sound.RetiredBankLemmas.{retired_cases}
 use Rattle.network.specs.Following.{MayRunNumbered, run_numbered}
 use Rattle.network.proofs.StepLemmas.{get_end}
 use Rattle.told_replies.proofs.GrownPhaseLemmas.{phases_more, phases_same, phases_taking}
-use Rattle.told_replies.proofs.KeptPastLemmas.{KeepsPast, IsStillAt, bank_before, bank_same, changed_call, past_same, past_twice, same_call}
+use Rattle.told_replies.proofs.KeptBankLemmas.{handled, retired}
+use Rattle.told_replies.proofs.KeptPastLemmas.{KeepsPast, IsStillAt, bank_same, changed_call, past_same, past_twice, same_call}
 
 -- only calls change
 calls_changed : (last : ℕ) (object : Object) (calls : List Call) (mail : List Message) →
@@ -119,34 +114,6 @@ supplied fragment last object index call now (Some phase) at = go (is_some phase
     go true = advanced fragment last object index call now at
     go false = again fragment last object call (Some phase)
 
-handled : (last : ℕ) (object : Object) (place : ℕ) (message : Message) (asked : Request) (now : ℕ) → last < now →
-    KeepsPast last object (handled_object object place message asked now)
-handled last object place message asked now less = record {
-  positions = le_refl (length object.layouts);
-  layouts = λ p h. refl;
-  places = (let e = length-set object.banks message.position (set (get_or object.banks message.position []) message.member new) in
-      omega arith);
-  banks = λ p i h. go p i (bank_at_set object message.position message.member new p i);
-  calls = λ index call at. same_call object.calls index call at;
-}
-  where
-    old : Bank
-    old = bank_at object message.position message.member
-
-    new : Bank
-    new = served_bank old asked now
-
-    result : Object
-    result = handled_object object place message asked now
-
-    go : (p i : ℕ) → (bank_at result p i ≡ bank_at object p i)
-        ⊎ ((p ≡ message.position) × (i ≡ message.member) × (bank_at result p i ≡ new)) →
-        SameBefore (bank_at object p i) (bank_at result p i) (suc last)
-    go p i (inl same) = rw same (bank_same (bank_at object p i) (suc last))
-    go p i (inr here) =
-        rw (here.2, here.0, here.1)
-        (bank_before old new (suc last) now (omega arith) (grows_past old new now (served_grows old asked now)))
-
 served : (last : ℕ) (object : Object) (place : ℕ) (message : Message) (b : Body) (now : ℕ) → last < now →
     KeepsPast last object (served_by object place message b now)
 served last object place message (body.Request asked) now less = handled last object place message asked now less
@@ -172,27 +139,6 @@ taken : (last : ℕ) (object : Object) (place : ℕ) (message : Message) (b : Bo
 taken last object place message (body.Request asked) now = past_same last object
 taken last object place message (body.Reply kind made) now =
     took last object (taken_by object place message (body.Reply kind made) now).mail message now
-
-retired : (last : ℕ) (object : Object) (now : ℕ) → last < now → KeepsPast last object (retired_object object now)
-retired last object now less = record {
-  positions = le_refl (length object.layouts);
-  layouts = λ p h. refl;
-  places = (let e = length-set object.banks (base_of object) (map (λ bank. retired_bank bank now) (get_or object.banks (base_of object) []))
-      in omega arith);
-  banks = λ p i h. go p i (retired_cases object now p i);
-  calls = λ index call at. same_call object.calls index call at;
-}
-  where
-    result : Object
-    result = retired_object object now
-
-    go : (p i : ℕ) → (bank_at result p i ≡ bank_at object p i)
-        ⊎ ((p ≡ base_of object) × (bank_at result p i ≡ retired_bank (bank_at object p i) now)) →
-        SameBefore (bank_at object p i) (bank_at result p i) (suc last)
-    go p i (inl same) = rw same (bank_same (bank_at object p i) (suc last))
-    go p i (inr here) =
-        rw here.1 (bank_before (bank_at object p i) (retired_bank (bank_at object p i) now) (suc last) now (omega arith)
-        (grows_past (bank_at object p i) (retired_bank (bank_at object p i) now) now (retired_grows (bank_at object p i) now)))
 
 -- where the call is there
 on_the_call : (last : ℕ) (object : Object) (o : Option Call) (change : Call → Object) →

@@ -5,6 +5,7 @@ pub mod EarlyValueLemmas
 pub mod FetchedPieceLemmas
 pub mod GrownPhaseLemmas
 pub mod KeptPastLemmas
+pub mod KeptBankLemmas
 pub mod KeptStepLemmas
 pub mod PastBankLemmas
 pub mod ServedMessageLemmas
