@@ -82,10 +82,11 @@ abbrev pub IsOpened : (text : List ℕ) → (number : ℕ) → (disk : List ℕ)
 IsOpened text number disk opened =
     (file : FileContents) × HasReadFile text number (Ok file) × HasOpened (names_of file) number disk opened
 
--- why no core is opened: the cluster file is not read, the log has an older form, or no node starts from it
+-- why no core is opened: the file is not read; or it is, and the log has an older form, or no node starts from it
 abbrev pub IsUnopened : (text : List ℕ) → (number : ℕ) → (disk : List ℕ) → CoreError → Type 0
 IsUnopened text number disk (errors.BadFile error) = HasReadFile text number (Err (errors.BadFile error))
 IsUnopened text number disk (errors.NoNode other) = HasReadFile text number (Err (errors.NoNode other))
-IsUnopened text number disk errors.OldForm = IsOfOldForm disk
+IsUnopened text number disk errors.OldForm =
+    (file : FileContents) × HasReadFile text number (Ok file) × IsOfOldForm disk
 IsUnopened text number disk error =
     (file : FileContents) × HasReadFile text number (Ok file) × IsUnread (names_of file) number disk error

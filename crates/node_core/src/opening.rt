@@ -49,12 +49,12 @@ impl Opened {
         ensures { result ≡ self.core }
     {
         let Self {
-            core,
+            core: started,
             length: _,
             cut: _,
             entries: _,
         } = self;
-        core
+        started
     }
 }
 
