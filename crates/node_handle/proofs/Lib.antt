@@ -1,0 +1,3 @@
+pub mod CopyingLemmas
+pub mod EmbeddedLemmas
+pub mod HeldLemmas

@@ -1,0 +1,3 @@
+pub mod Tasks
+pub mod Embedding
+pub mod Owned
