@@ -1,0 +1,2 @@
+pub mod AdviceLemmas
+pub mod AnswerLemmas
