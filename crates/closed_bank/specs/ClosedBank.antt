@@ -1,4 +1,3 @@
--- The contracts that docs/trusted.md lists do not depend on this file; other contracts and proofs do.
 -- Closed banks: what a member keeps of a position whose pointer is final, and to which whole bank a closed one belongs.
 use Rattle.std.specs.Prelude.{◌≡◌, Option, None, Some}
 use Rattle.tag.specs.declared.tag.Tag.{Tag}

@@ -1,4 +1,3 @@
--- The contracts that docs/trusted.md lists do not depend on this file; other contracts and proofs do.
 -- The table of requests to a closed bank: the closed bank after each request, and the answer to it, if it answers.
 use Rattle.std.specs.Prelude.{ℕ, Bool, false, Option, None, Some, option_map}
 use Rattle.tag.specs.Tag.{later_tag, tag_lt}
