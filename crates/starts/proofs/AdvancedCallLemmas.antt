@@ -1,6 +1,6 @@
 -- A call begins its next phase.
 use Rattle.std.proofs.Common.{◌≡◌, inl, ℕ, suc, List, [], ◌∷◌, ◌++◌}
-use Rattle.std.proofs.Common.{Some, IsSome, is_some, slice_get, refl, sym, ap, ◌∙◌, subst}
+use Rattle.std.proofs.Common.{Some, IsSome, is_some, slice_get, refl, sym, ap, ◌∙◌, subst, arith}
 use Rattle.piece.specs.declared.piece.Piece.{Piece}
 use Rattle.bank.specs.Bank.{empty_piece}
 use Rattle.bank.specs.declared.kind.Kind.{Kind}
@@ -56,9 +56,10 @@ advanced_call world call stage kind position = record call {
 pub advances : (fragment : Code) (world : World) (call : NodeCall) (stage : Stage) (kind : Kind) (position : ℕ) →
     open_call world.calls call.id ≡ Some call → IsSome call.phase.end → (IsFetch call.phase.kind → IsSome call.settled) →
     stage_reached call ≡ stage → due (begun_at stage 0) ≡ Some (kind, position) → SendsNone kind →
-    LeadsTo fragment world (advanced_call world call stage kind position)
+    LeadsTo fragment world (advanced_call world call stage kind position) 1
 advances fragment world call stage kind position found ended fetched reached is_due none = record {
   events = Event.Advance call.id ∷ [];
+  few = omega arith;
   may = (
     (call, found, inl (record { complete = ended; fetched = fetched }, ap is_some due_is)),
     record { network = tt; log = tt; ids = tt },

@@ -18,7 +18,7 @@ use Rattle.record.specs.Fragments.{Code}
 use Rattle.record.specs.Records.{no_bank}
 use Rattle.open_calls.specs.OpenCalls.{NodeCall, due_phase, open_call, taking_open, with_open}
 use Rattle.open_calls.proofs.ListLemmas.{all_weaker}
-use Rattle.network.specs.Worlds.{World}
+use Rattle.network.specs.Worlds.{World, known_layouts}
 use Rattle.network.specs.Events.{Event, MayHappen, advanced_world, answered_world, happens, on_open, served_world, world_after}
 use Rattle.network.specs.Premises.{IsPremised, MayHappenInTurn}
 use Rattle.starts.specs.Starts.{HasFinal, IsFinalAt}
@@ -78,13 +78,13 @@ get_more (y ∷ xs) ys zero x at = at
 get_more (y ∷ xs) ys (suc i) x at = get_more xs ys i x at
 
 -- a world that keeps what is final in another, and its layouts
-record Keeps (world new : World) : Type 0 where
-  files : new.files ≡ world.files
-  layouts : (position : ℕ) (layout : Layout) → slice_get world.later position ≡ Some layout →
+pub record Keeps (world new : World) : Type 0 where
+  pub files : new.files ≡ world.files
+  pub layouts : (position : ℕ) (layout : Layout) → slice_get world.later position ≡ Some layout →
       slice_get new.later position ≡ Some layout
-  final : (position member : ℕ) → HasFinal world position member → HasFinal new position member
+  pub final : (position member : ℕ) → HasFinal world position member → HasFinal new position member
 
-kept_same : (world new : World) → new.files ≡ world.files → new.later ≡ world.later → new.banks ≡ world.banks → Keeps world new
+pub kept_same : (world new : World) → new.files ≡ world.files → new.later ≡ world.later → new.banks ≡ world.banks → Keeps world new
 kept_same world new files later banks = record {
   files = files;
   layouts = λ position layout at. ap (λ l. slice_get l position) later ∙ at;
@@ -98,10 +98,10 @@ kept_open world base None change none some = none
 kept_open world base (Some call) change none some = some call
 
 -- the world one event later
-abbrev ticked : World → World
+abbrev pub ticked : World → World
 ticked world = record world { now = suc world.now }
 
-kept_served : (world : World) (message : Message) (b : Body) → Keeps world (served_world (ticked world) message b)
+pub kept_served : (world : World) (message : Message) (b : Body) → Keeps world (served_world (ticked world) message b)
 kept_served world message (body.Reply kind made) = kept_same world (ticked world) refl refl refl
 kept_served world message (body.Request asked) = record {
   files = refl;
@@ -111,13 +111,13 @@ kept_served world message (body.Request asked) = record {
       (served_final (bank_in world.banks message.position message.member) asked 0) final;
 }
 
-kept_advanced : (fragment : Code) (world : World) (call : NodeCall) (o : Option (Kind × ℕ)) →
+pub kept_advanced : (fragment : Code) (world : World) (call : NodeCall) (o : Option (Kind × ℕ)) →
     Keeps world (advanced_world fragment (ticked world) call o)
 kept_advanced fragment world call None = kept_same world (ticked world) refl refl refl
 kept_advanced fragment world call (Some next) =
     kept_same world (advanced_world fragment (ticked world) call (Some next)) refl refl refl
 
-kept : (fragment : Code) (world : World) (event : Event) → MayHappen fragment world event → IsPremised world event →
+pub kept : (fragment : Code) (world : World) (event : Event) → MayHappen fragment world event → IsPremised world event →
     Keeps world (happens fragment world event)
 kept fragment world (Event.BeginRead node id) may premised =
     kept_same world (happens fragment world (Event.BeginRead node id)) refl refl refl
@@ -155,19 +155,19 @@ kept fragment world (Event.Restart node banks calls) may premised =
 
 -- Positions that are final
 
+pub layouts_grow : (world new : World) → Keeps world new → (position : ℕ) (layout : Layout) →
+    slice_get (known_layouts world 0) position ≡ Some layout → slice_get (known_layouts new 0) position ≡ Some layout
+layouts_grow world new keeps zero layout at = ap (λ files. Some (files 0).first) keeps.files ∙ at
+layouts_grow world new keeps (suc position) layout at = keeps.layouts position layout at
+
 final_kept : (world new : World) → Keeps world new → (position : ℕ) → IsFinalAt world position → IsFinalAt new position
 final_kept world new keeps position is = record {
   layout = is.layout;
-  at = known position is.at;
+  at = layouts_grow world new keeps position is.layout is.at;
   members = is.members;
   quorum = is.quorum;
   final = all_weaker (HasFinal world position) (HasFinal new position) (keeps.final position) is.members is.final;
 }
-  where
-    known : (place : ℕ) → slice_get ((world.files 0).first ∷ world.later) place ≡ Some is.layout →
-        slice_get ((new.files 0).first ∷ new.later) place ≡ Some is.layout
-    known zero at = ap (λ files. Some (files 0).first) keeps.files ∙ at
-    known (suc place) at = keeps.layouts place is.layout at
 
 pub finals_stay_final : (fragment : Code) (world : World) (events : List Event) (position : ℕ) →
     MayHappenInTurn fragment events world → IsFinalAt world position → IsFinalAt (world_after fragment events world) position

@@ -3,6 +3,7 @@ use Rattle.std.proofs.Common.{◌≡◌, ℕ, zero, suc, ◌<◌, ◌≤◌, Lis
 use Rattle.std.proofs.Common.{Some, slice_get, refl, sym, ap, ◌∙◌, subst, arith}
 use Rattle.std.proofs.lemmas.Option.{same_Some}
 use Rattle.std.specs.List.{AllByRecursion}
+use Rattle.tag.specs.declared.limits.TheConstants.{MOST_MEMBERS}
 use Rattle.layout.specs.Layout.{IsLawful, Layout, quorum_of}
 use Rattle.bank.specs.Bank.{with_pointer}
 use Rattle.bank.specs.Pointer.{raised, status_of}
@@ -41,6 +42,10 @@ raised_again (pointer.Final pending since) now final = refl
 pub lawful_quorum : (layout : Layout) → IsLawful layout → 0 < quorum_of layout
 lawful_quorum layout lawful = let h = lawful.some in omega arith
 
+-- and at most as many members as a layout may have
+small_quorum : (layout : Layout) → IsLawful layout → quorum_of layout ≤ MOST_MEMBERS
+small_quorum layout lawful = let a = lawful.enough in let b = lawful.few in omega arith
+
 -- a position that is final is so where calls and messages alone have changed
 pub final_there : (world : World) (call : NodeCall) (sent : List Message) (now position : ℕ) → IsFinalAt world position →
     IsFinalAt (world_with world call sent now) position
@@ -75,7 +80,13 @@ module _ (world : World) (one : IsOneFile world.files) (node position : ℕ) (is
       })
       is.members within_members is.final
 
+  lawful_there : AllByRecursion IsLawful (known_layouts world 0) → IsLawful is.layout
+  lawful_there lawful = all_at IsLawful (known_layouts world 0) position is.layout lawful is.at
+
+  pub most_quorum : AllByRecursion IsLawful (known_layouts world 0) → quorum_of (known_layout world node position) ≤ MOST_MEMBERS
+  most_quorum lawful = subst (λ l. quorum_of l ≤ MOST_MEMBERS) (sym layout_is) (small_quorum is.layout (lawful_there lawful))
+
   -- a lawful position has a quorum of at least one
   pub some_quorum : AllByRecursion IsLawful (known_layouts world 0) → 0 < quorum_of (known_layout world node position)
   some_quorum lawful = subst (λ l. 0 < quorum_of l) (sym layout_is)
-      (lawful_quorum is.layout (all_at IsLawful (known_layouts world 0) position is.layout lawful is.at))
+      (lawful_quorum is.layout (lawful_there lawful))

@@ -1,5 +1,5 @@
 -- A phase that lacks replies gathers those of a quorum, whose members all answer the same.
-use Rattle.std.proofs.Common.{◌≡◌, ◌⊎◌, inl, inr, ℕ, ◌+◌, ◌<◌, ◌≤◌, ◌||◌, Bool, true, false, cond, List, [], ◌∷◌, ◌++◌, length}
+use Rattle.std.proofs.Common.{◌≡◌, ◌⊎◌, inl, inr, ℕ, ◌+◌, ◌*◌, ◌-◌, ◌<◌, ◌≤◌, ◌||◌, Bool, true, false, cond, List, [], ◌∷◌, ◌++◌, length}
 use Rattle.std.proofs.Common.{Option, Some, None, nat_eq, nat_lt, not, refl, sym, ap, ◌∙◌, subst, eqb-true, arith}
 use Rattle.std.specs.Cmp.{nat_eq_equiv}
 use Rattle.std.specs.List.{AllByRecursion, IsDistinct, list_any}
@@ -22,7 +22,7 @@ use Rattle.record.specs.Sending.{request_to}
 use Rattle.open_calls.specs.OpenCalls.{NodeCall, open_call}
 use Rattle.network.specs.Worlds.{World, known_layout, member_bank}
 use Rattle.starts.specs.Reading.{HasSent, LeadsTo, world_with}
-use Rattle.starts.proofs.LeadingLemmas.{found_changed, sent_there, then_leads}
+use Rattle.starts.proofs.LeadingLemmas.{found_changed, leads_within, sent_there, then_leads}
 use Rattle.starts.proofs.ServedReplyLemmas.{request_sent, serve_and_take}
 
 -- What replies show
@@ -111,10 +111,14 @@ pub record Tells (asked : Request) (told : Answer) (world : World) (node positio
 abbrev pub with_replies : NodeCall → List Taken → Option ℕ → NodeCall
 with_replies call replies end = record call { phase = record call.phase { replies = replies; end = end } }
 
+-- the most events by which a call gathers the replies that it lacks
+abbrev pub most_to_gather : NodeCall → ℕ
+most_to_gather call = 2 * (call.phase.quorum - length call.phase.replies)
+
 -- events lead to the call with a quorum of replies, of which the last tells this
 pub record Gathered (fragment : Code) (told : Answer) (world : World) (call : NodeCall) : Type 0 where
   pub replies : List Taken
-  pub leads : LeadsTo fragment world (with_replies call replies (Some 0))
+  pub leads : LeadsTo fragment world (with_replies call replies (Some 0)) (most_to_gather call)
   pub shows : shown_status told ≡ status.Final → greatest_status replies ≡ status.Final
 
 -- the reply of a member
@@ -135,6 +139,14 @@ tells_there asked told world call sent now node position (m ∷ ms) each = (
 still_few : (have quorum : ℕ) → not (nat_lt (have + 1) quorum) ≡ false → have + 1 < quorum
 still_few have quorum is = grind (arith, nat_tests)
 
+at_least_two : (have quorum : ℕ) → have < quorum → 2 ≤ 2 * (quorum - have)
+at_least_two have quorum few = omega (arith, few)
+
+-- with one more reply, a call lacks one reply less
+two_fewer : (replies : List Taken) (taken : Taken) (quorum : ℕ) → length replies < quorum →
+    2 + 2 * (quorum - length (replies ++ taken ∷ [])) ≤ 2 * (quorum - length replies)
+two_fewer replies taken quorum few = let e = length-append replies (taken ∷ []) in omega (arith, e, few)
+
 module _ (fragment : Code) (asked : Request) (told : Answer) (all : List ℕ) (m : ℕ) (ms : List ℕ) where
   -- a call that asks gathers the replies of those of these members that are still to be asked
   abbrev Gathers : List ℕ → Type 0
@@ -152,13 +164,13 @@ module _ (fragment : Code) (asked : Request) (told : Answer) (all : List ℕ) (m
       pick (has_taken call.phase.replies m) refl (makes_quorum call.phase) refl
     where
       first : has_taken call.phase.replies m ≡ false → (b : Bool) → makes_quorum call.phase ≡ b →
-          LeadsTo fragment world (with_replies call (call.phase.replies ++ told_by told m ∷ []) (cond b (Some 0) None))
+          LeadsTo fragment world (with_replies call (call.phase.replies ++ told_by told m ∷ []) (cond b (Some 0) None)) 2
       first apart b is =
-          subst (λ c. LeadsTo fragment world (with_replies call (call.phase.replies ++ told_by told m ∷ []) (cond c (Some 0) None))) is
+          subst (λ c. LeadsTo fragment world (with_replies call (call.phase.replies ++ told_by told m ∷ []) (cond c (Some 0) None)) 2) is
           (serve_and_take fragment world call asked told m asks.found asks.own asks.unended apart asks.sent
           (request_sent world call asked m asks.sent tells.0.within asks.request) tells.0.same tells.0.answers)
 
-      still_asks : makes_quorum call.phase ≡ false → (one : LeadsTo fragment world (one_more call)) →
+      still_asks : makes_quorum call.phase ≡ false → (one : LeadsTo fragment world (one_more call) 2) →
           IsAsking asked (world_with world (one_more call) one.sent one.now) (one_more call)
       still_asks is one = record {
         found = found_changed world.calls call (one_more call) asks.found;
@@ -167,7 +179,7 @@ module _ (fragment : Code) (asked : Request) (told : Answer) (all : List ℕ) (m
         few = subst (λ n. n < call.phase.quorum) (sym (length-append call.phase.replies (told_by told m ∷ [])))
             (still_few (length call.phase.replies) call.phase.quorum is);
         request = asks.request;
-        sent = sent_there fragment world (one_more call) one;
+        sent = sent_there fragment world (one_more call) 2 one;
       }
 
       pick : (taken : Bool) → has_taken call.phase.replies m ≡ taken → (whole : Bool) → makes_quorum call.phase ≡ whole →
@@ -176,7 +188,8 @@ module _ (fragment : Code) (asked : Request) (told : Answer) (all : List ℕ) (m
           others world call asks tells.1 quorum (covers_rest all ms m call.phase.replies (taken_is call.phase.replies m there) covers)
       pick false apart true is = record {
         replies = call.phase.replies ++ told_by told m ∷ [];
-        leads = first apart true is;
+        leads = leads_within fragment world (with_replies call (call.phase.replies ++ told_by told m ∷ []) (Some 0)) 2
+            (most_to_gather call) (at_least_two (length call.phase.replies) call.phase.quorum asks.few) (first apart true is);
         shows = shown_last call.phase.replies (told_by told m);
       }
       pick false apart false is =
@@ -185,7 +198,10 @@ module _ (fragment : Code) (asked : Request) (told : Answer) (all : List ℕ) (m
           (tells_there asked told world (one_more call) one.sent one.now call.node call.phase.position ms tells.1) quorum
           (covers_more all ms call.phase.replies (told_by told m) covers) in record {
             replies = rest.replies;
-            leads = then_leads fragment world (one_more call) (with_replies call rest.replies (Some 0)) refl one rest.leads;
+            leads = leads_within fragment world (with_replies call rest.replies (Some 0)) (2 + most_to_gather (one_more call))
+                (most_to_gather call) (two_fewer call.phase.replies (told_by told m) call.phase.quorum asks.few)
+                (then_leads fragment world (one_more call) (with_replies call rest.replies (Some 0)) 2
+                (most_to_gather (one_more call)) refl one rest.leads);
             shows = rest.shows;
           }
 

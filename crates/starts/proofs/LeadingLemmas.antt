@@ -1,6 +1,7 @@
 -- Events, and then more events, that change one open call.
 use Rattle.std.proofs.Common.{◌≡◌, ℕ, true, cond, eqb, List, [], ◌∷◌, ◌++◌, Some, refl, sym, ap, ◌∙◌, subst, append_assoc}
-use Rattle.std.proofs.Common.{eq-eqb}
+use Rattle.std.proofs.Common.{eq-eqb, ◌+◌, ◌≤◌, arith, length}
+use Rattle.std.proofs.lemmas.List.{length-append}
 use Rattle.std.proofs.Common.{Bool, false}
 use Rattle.mail.specs.declared.message.Message.{Message}
 use Rattle.record.specs.Fragments.{Code}
@@ -24,7 +25,7 @@ may_append fragment (event ∷ first) second world a b =
     (a.0, a.1, may_append fragment first second (happens fragment world event) a.2 b)
 
 -- a call that is changed twice
-with_twice : (first second : NodeCall) (calls : List NodeCall) → second.id ≡ first.id →
+pub with_twice : (first second : NodeCall) (calls : List NodeCall) → second.id ≡ first.id →
     with_open second (with_open first calls) ≡ with_open second calls
 with_twice first second [] same = refl
 with_twice first second (call ∷ calls) same =
@@ -59,20 +60,38 @@ twice_with world first second sent more now later same =
     (append_assoc world.sent sent more)
 
 -- the requests of the call to which events lead were sent
-pub sent_there : (fragment : Code) (world : World) (call : NodeCall) (a : LeadsTo fragment world call) →
+pub sent_there : (fragment : Code) (world : World) (call : NodeCall) (most : ℕ) (a : LeadsTo fragment world call most) →
     HasSent (world_with world call a.sent a.now) call
-sent_there fragment world call a = subst (λ w. HasSent w call) a.result a.asked
+sent_there fragment world call most a = subst (λ w. HasSent w call) a.result a.asked
 
 -- events that lead to a call, and then events that lead from there to what it becomes
-pub then_leads : (fragment : Code) (world : World) (first second : NodeCall) → second.id ≡ first.id →
-    (a : LeadsTo fragment world first) → LeadsTo fragment (world_with world first a.sent a.now) second → LeadsTo fragment world second
-then_leads fragment world first second same a b =
+pub then_leads : (fragment : Code) (world : World) (first second : NodeCall) (m n : ℕ) → second.id ≡ first.id →
+    (a : LeadsTo fragment world first m) → LeadsTo fragment (world_with world first a.sent a.now) second n →
+    LeadsTo fragment world second (m + n)
+then_leads fragment world first second m n same a b =
     let middle : world_after fragment (a.events ++ b.events) world ≡ world_after fragment b.events (world_with world first a.sent a.now) =
     run_append fragment a.events b.events world ∙ ap (world_after fragment b.events) a.result in record {
       events = a.events ++ b.events;
+      few = within;
       may = may_append fragment a.events b.events world a.may (subst (MayHappenInTurn fragment b.events) (sym a.result) b.may);
       sent = a.sent ++ b.sent;
       now = b.now;
       result = middle ∙ b.result ∙ twice_with world first second a.sent b.sent a.now b.now same;
       asked = subst (λ w. HasSent w second) (sym middle) b.asked;
     }
+  where
+    within : length (a.events ++ b.events) ≤ m + n
+    within = let e = length-append a.events b.events in omega (arith, e, a.few, b.few)
+
+-- at most so many events are at most as many as a greater number
+pub leads_within : (fragment : Code) (world : World) (call : NodeCall) (m n : ℕ) → m ≤ n → LeadsTo fragment world call m →
+    LeadsTo fragment world call n
+leads_within fragment world call m n more a = record {
+  events = a.events;
+  few = omega (arith, more, a.few);
+  may = a.may;
+  sent = a.sent;
+  now = a.now;
+  result = a.result;
+  asked = a.asked;
+}

@@ -136,11 +136,12 @@ module _ (fragment : Code) (world : World) (call : NodeCall) (asked : Request) (
 
   pub serve_and_take : open_call world.calls call.id ≡ Some call → call.phase.call ≡ call.id → call.phase.end ≡ None →
       has_taken call.phase.replies member ≡ false → HasSent world call → WasSent world (request_of call asked member) →
-      served_bank bank asked 0 ≡ bank → answer_to bank asked ≡ told → LeadsTo fragment world told_call
+      served_bank bank asked 0 ≡ bank → answer_to bank asked ≡ told → LeadsTo fragment world told_call 2
   serve_and_take found own unended apart sent was same is =
       let first = serves same is in
       let result = ap (λ w. happens fragment w (Event.Take reply)) first ∙ takes found own unended apart in record {
         events = Event.Serve (request_of call asked member) ∷ Event.Take reply ∷ [];
+        few = omega arith;
         may = (
           (asked, refl),
           record { network = was; log = tt; ids = tt },

@@ -1,6 +1,7 @@
 -- The contracts that docs/trusted.md lists do not depend on this file; other contracts and proofs do.
 -- Open calls that read the sequence of layouts, and events that let such a call go on.
-use Rattle.std.specs.Prelude.{◌≡◌, ◌<◌, ℕ, List, ◌++◌, length, None, Some, slice_get}
+use Rattle.std.specs.Prelude.{◌≡◌, ◌+◌, ◌*◌, ◌<◌, ◌≤◌, ℕ, List, ◌++◌, length, None, Some, slice_get}
+use Rattle.tag.specs.declared.limits.TheConstants.{MOST_MEMBERS}
 use Rattle.layout.specs.Layout.{quorum_of}
 use Rattle.bank.specs.Bank.{empty_piece}
 use Rattle.bank.specs.declared.kind.Kind.TheVariants.{Next}
@@ -47,6 +48,11 @@ reading_at world call number position = record call {
   phase = new_phase call.id number Next position (known_layout world call.node position) 0;
 }
 
+-- the most events by which a call leaves a position behind: in two phases, which begin, members of a quorum serve, and
+-- the call takes their replies
+abbrev pub most_events : ℕ
+most_events = 4 * MOST_MEMBERS + 2
+
 -- the world after events that change one call, which is this one afterwards, and send these messages; so many events
 -- have happened then
 abbrev pub world_with : World → NodeCall → (sent : List Message) → (now : ℕ) → World
@@ -56,10 +62,11 @@ world_with world call sent now = record world {
   now = now;
 }
 
--- there are events that may happen, and change nothing but one call, which is this one afterwards, the messages that
--- were sent, among them the requests of the call's phase, and the number of events
-pub record LeadsTo (fragment : Code) (world : World) (call : NodeCall) : Type 0 where
+-- there are events, at most so many, that may happen, and change nothing but one call, which is this one afterwards,
+-- the messages that were sent, among them the requests of the call's phase, and the number of events
+pub record LeadsTo (fragment : Code) (world : World) (call : NodeCall) (most : ℕ) : Type 0 where
   pub events : List Event
+  pub few : length events ≤ most
   pub may : MayHappenInTurn fragment events world
   pub sent : List Message
   pub now : ℕ
