@@ -4,12 +4,12 @@ use Rattle.std.proofs.Common.{subst, ap, ◌∙◌}
 use Rattle.std.proofs.lemmas.Bool.{false≢true}
 use Rattle.encoder.specs.Fragment.{fragment}
 use Rattle.layout.specs.Layout.{Layout}
-use Rattle.bank.specs.Bank.{Bank}
 use Rattle.bank.specs.declared.request.Request.{Request}
 use Rattle.mail.specs.declared.message.Body.{Body}
 use Rattle.mail.specs.declared.message.Body.TheVariants as body
 use Rattle.letter.specs.declared.letter.Letter.{Letter}
-use Rattle.local_object.specs.ChangedBanks.{changes_bank, kept_bank}
+use Rattle.local_object.specs.declared.kept_bank.KeptBank.{KeptBank}
+use Rattle.local_object.specs.ChangedBanks.{changes_kept, kept_bank}
 use Rattle.local_object.specs.Changing.{HasOnlyHeard, IsUnchangedBy, changes_in_body, is_changed_by}
 use Rattle.local_object.specs.Distinct.{IsBankInOrderIfOpen}
 use Rattle.local_object.specs.Doing.{is_served}
@@ -51,22 +51,22 @@ module _ (local : LocalObject) (letter : Letter) where
     banks = λ m member. refl;
   }
 
-  abbrev old : Option Bank
+  abbrev old : Option KeptBank
   old = bank_in (heard_place local.places position)
 
-  abbrev served : Request → Option Bank
+  abbrev served : Request → Option KeptBank
   served asked = kept_bank (bank_in (heard_place heard.places position)) letter.message.member heard.delta asked
 
   -- the bank is put back as it was
   module _ (order : IsBankInOrderIfOpen (bank_in (heard_place local.places position))) where
-    same : (asked : Request) → changes_bank (bank_here local position letter.message.member) asked ≡ false
+    same : (asked : Request) → changes_kept (bank_here local position letter.message.member) asked ≡ false
         → served asked ≡ bank_in (heard_place local.places position)
     same asked e =
         ap (λ o. kept_bank o letter.message.member heard.delta asked) (bank_heard local letter position)
         ∙ ap (λ d. kept_bank old letter.message.member d asked) (delta_heard local letter)
         ∙ kept_unchanged old letter.message.member local.delta asked order e
 
-    banks : (asked : Request) → changes_bank (bank_here local position letter.message.member) asked ≡ false → (m member : ℕ)
+    banks : (asked : Request) → changes_kept (bank_here local position letter.message.member) asked ≡ false → (m member : ℕ)
         → (b : Bool) → eqb m position ≡ b
         → bank_or_opened (bank_in (heard_place (with_bank_here heard.places position (served asked)) m)) member heard.delta
         ≡ bank_here local m member
@@ -82,7 +82,7 @@ module _ (local : LocalObject) (letter : Letter) where
         (bank_put_elsewhere heard.places position (served asked) m (λ e. false≢true (sym t ∙ eq-eqb m position e)))
         ∙ bank_here_heard local letter m member
 
-    put_back : (asked : Request) → changes_bank (bank_here local position letter.message.member) asked ≡ false
+    put_back : (asked : Request) → changes_kept (bank_here local position letter.message.member) asked ≡ false
         → HasOnlyHeard local letter (served_here heard letter (body.Request asked)).local
     put_back asked e = record {
       node = node_heard local letter;

@@ -3,8 +3,8 @@ use Rattle.std.proofs.Common.{◌≡◌, ℕ, suc, Bool, true, false, cond, eqb,
 use Rattle.std.proofs.Common.{refl, sym, ap, ◌∙◌}
 use Rattle.std.proofs.lemmas.Bool.{false≢true}
 use Rattle.layout.specs.Layout.{Layout}
-use Rattle.bank.specs.Bank.{Bank}
 use Rattle.letter.specs.declared.letter.Letter.{Letter}
+use Rattle.local_object.specs.declared.kept_bank.KeptBank.{KeptBank}
 use Rattle.local_object.specs.Events.{learnt_from}
 use Rattle.local_object.specs.Local.{LocalObject, Place, added_place, bank_here, bank_in, bank_or_opened, layout_here, layout_in}
 use Rattle.local_object.specs.Local.{heard_place, learnt_if, with_bank_here, with_heard}
@@ -85,7 +85,7 @@ module _ (local : LocalObject) (letter : Letter) where
 
 -- Banks that are put
 
-pub bank_put_there : (places : List Place) (n : ℕ) (bank : Option Bank) → IsSome (heard_place places n)
+pub bank_put_there : (places : List Place) (n : ℕ) (bank : Option KeptBank) → IsSome (heard_place places n)
     → bank_in (heard_place (with_bank_here places n bank) n) ≡ bank
 bank_put_there [] n bank known = absurd (false≢true known)
 bank_put_there (p ∷ ps) n bank known = go (eqb p.position n) refl known (λ k. bank_put_there ps n bank k)
@@ -96,7 +96,7 @@ bank_put_there (p ∷ ps) n bank known = go (eqb p.position n) refl known (λ k.
     go true t known rest = ap (λ b. bank_in (cond b (Some (record p { bank = bank })) (heard_place ps n))) t
     go false t known rest = ap (λ b. bank_in (cond b (Some p) (heard_place (with_bank_here ps n bank) n))) t ∙ rest known
 
-pub bank_put_elsewhere : (places : List Place) (n : ℕ) (bank : Option Bank) (m : ℕ) → (m ≡ n → ⊥)
+pub bank_put_elsewhere : (places : List Place) (n : ℕ) (bank : Option KeptBank) (m : ℕ) → (m ≡ n → ⊥)
     → bank_in (heard_place (with_bank_here places n bank) m) ≡ bank_in (heard_place places m)
 bank_put_elsewhere [] n bank m other = refl
 bank_put_elsewhere (p ∷ ps) n bank m other =

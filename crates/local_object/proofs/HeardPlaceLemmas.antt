@@ -3,7 +3,7 @@ use Rattle.std.proofs.Common.{◌≡◌, ℕ, ◌⊎◌, inl, inr, Bool, true, f
 use Rattle.std.proofs.Common.{Option, Some, None, IsSome, option_map, refl, sym, ap, ◌∙◌, eqb-true, eq-eqb}
 use Rattle.std.proofs.lemmas.Option.{same_Some}
 use Rattle.layout.specs.Layout.{Layout}
-use Rattle.bank.specs.Bank.{Bank}
+use Rattle.local_object.specs.declared.kept_bank.KeptBank.{KeptBank}
 use Rattle.local_object.specs.Local.{LocalObject, Place, added_place, bank_here, bank_in, bank_or_opened}
 use Rattle.local_object.specs.Local.{layout_here, layout_in, with_heard, heard_place, with_bank_here}
 use Rattle.open_calls.proofs.CallsOfNodeLemmas.{differs}
@@ -104,10 +104,10 @@ no_bank_here local p e = go (heard_place local.places p) e
 
 -- A bank changes
 
-abbrev with_new : Option Bank → Bool → Place → Place
+abbrev pub with_new : Option KeptBank → Bool → Place → Place
 with_new bank b place = cond b (record place { bank = bank }) place
 
-place_with : (places : List Place) (p : ℕ) (bank : Option Bank) (q : ℕ) →
+pub place_with : (places : List Place) (p : ℕ) (bank : Option KeptBank) (q : ℕ) →
     heard_place (with_bank_here places p bank) q ≡ option_map (with_new bank (eqb p q)) (heard_place places q)
 place_with [] p bank q = refl
 place_with (place ∷ places) p bank q =
@@ -144,7 +144,7 @@ place_with (place ∷ places) p bank q =
         ap (λ u. cond u (Some place) (heard_place (with_bank_here places p bank) q)) t ∙ rest
 
 -- the layouts stay
-pub layout_with : (local : LocalObject) (p : ℕ) (bank : Option Bank) (q : ℕ) →
+pub layout_with : (local : LocalObject) (p : ℕ) (bank : Option KeptBank) (q : ℕ) →
     layout_here (record local { places = with_bank_here local.places p bank }) q ≡ layout_here local q
 layout_with local p bank q = ap layout_in (place_with local.places p bank q) ∙ go (eqb p q) (heard_place local.places q)
   where
@@ -154,7 +154,7 @@ layout_with local p bank q = ap layout_in (place_with local.places p bank q) ∙
     go false (Some place) = refl
 
 -- the bank of the position is the new one
-pub bank_with_here : (local : LocalObject) (p : ℕ) (bank : Option Bank) (member : ℕ) → IsSome (layout_here local p) →
+pub bank_with_here : (local : LocalObject) (p : ℕ) (bank : Option KeptBank) (member : ℕ) → IsSome (layout_here local p) →
     bank_here (record local { places = with_bank_here local.places p bank }) p member
     ≡ bank_or_opened bank member local.delta
 bank_with_here local p bank member known =
@@ -169,7 +169,7 @@ bank_with_here local p bank member known =
     go (Some place) some = refl
 
 -- the banks of other positions stay
-pub bank_with_there : (local : LocalObject) (p : ℕ) (bank : Option Bank) (q member : ℕ) → (p ≡ q → ⊥) →
+pub bank_with_there : (local : LocalObject) (p : ℕ) (bank : Option KeptBank) (q member : ℕ) → (p ≡ q → ⊥) →
     bank_here (record local { places = with_bank_here local.places p bank }) q member ≡ bank_here local q member
 bank_with_there local p bank q member other =
     ap (λ o. bank_or_opened (bank_in o) member local.delta) (place_with local.places p bank q)

@@ -18,6 +18,7 @@ pub mod AdvanceLemmas
 pub mod UnchangedBankLemmas
 pub mod HeardLayoutLemmas
 pub mod ChangingLemmas
+pub mod ClosingLemmas
 pub mod AgreementLemmas
 pub mod CappedSumLemmas
 pub mod GivenUpCallLemmas

@@ -6,8 +6,8 @@ use Rattle.std.specs.Cmp.Lexicographic.{pointwise}
 use Rattle.std.proofs.lemmas.Bool.Decides.{Decides-eqb}
 use Rattle.std.proofs.lemmas.Slice.Eq.{slice_eq-Decides}
 use Rattle.layout.specs.Layout.{Layout}
-use Rattle.bank.specs.Bank.{Bank}
 use Rattle.open_calls.specs.OpenCalls.{NodeCall}
+use Rattle.local_object.specs.declared.kept_bank.KeptBank.{KeptBank}
 use Rattle.local_object.specs.Agreement.{same_layout}
 use Rattle.local_object.specs.Local.{LocalObject, Place, new_local}
 use Rattle.local_object.specs.New.{are_new_places, is_new, is_new_if, is_new_place}
@@ -38,7 +38,7 @@ layout_is layout =
     are_both (eqb layout.k layout.k) (pointwise nat_eq layout.members layout.members) (eq-eqb layout.k layout.k refl)
     ((slice_eq-Decides Decides-eqb layout.members layout.members (pointwise nat_eq layout.members layout.members) refl).1 refl)
 
-no_bank : (bank : Option Bank) → not (is_some bank) ≡ true → bank ≡ None
+no_bank : (bank : Option KeptBank) → not (is_some bank) ≡ true → bank ≡ None
 no_bank None e = refl
 no_bank (Some bank) e = absurd (cc)
 

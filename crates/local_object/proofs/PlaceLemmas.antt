@@ -4,7 +4,7 @@ use Rattle.std.proofs.Common.{Option, Some, None, IsSome, MatchOption, length, g
 use Rattle.std.specs.List.{position}
 use Rattle.std.proofs.lemmas.Bool.{false≢true}
 use Rattle.std.proofs.lemmas.Option.{get_or_from_slice_get}
-use Rattle.bank.specs.Bank.{Bank}
+use Rattle.local_object.specs.declared.kept_bank.KeptBank.{KeptBank}
 use Rattle.local_object.specs.Local.{Place, heard_place, with_bank_here, bank_in, layout_in, greatest_position}
 use Rattle.local_object.specs.Distinct.{IsPlaceAt}
 use Rattle.local_object.proofs.FoundLemmas.{FailsBelow, element, first_of}
@@ -148,7 +148,7 @@ module _ {listed items old : List Place} {number i : ℕ} {read : Place} (same :
   bank_is = sym (ap bank_in (read_at listed items old number i read same view at is))
 
   -- the bank that is put there
-  pub bank_put : (f : Option Bank → Option Bank) (new : Place) → new ≡ record read { bank = f read.bank }
+  pub bank_put : (f : Option KeptBank → Option KeptBank) (new : Place) → new ≡ record read { bank = f read.bank }
       → set items i new ≡ with_bank_here old number (f (bank_in (heard_place old number)))
   bank_put f new made =
       ap (set items i) (made ∙ ap (λ (p : Place). record p { bank = f p.bank }) read_is)
@@ -158,7 +158,7 @@ module _ {listed items old : List Place} {number i : ℕ} {read : Place} (same :
       ∙ ap (λ o. with_bank_here old number (f o)) (ap (λ (p : Place). p.bank) (sym read_is) ∙ bank_is)
 
 -- a bank changes no layout
-pub layout_bank : (places : List Place) (n : ℕ) (bank : Option Bank) (m : ℕ)
+pub layout_bank : (places : List Place) (n : ℕ) (bank : Option KeptBank) (m : ℕ)
     → layout_in (heard_place (with_bank_here places n bank) m) ≡ layout_in (heard_place places m)
 layout_bank [] n bank m = refl
 layout_bank (p ∷ ps) n bank m = go (eqb p.position n) (eqb p.position m) refl (layout_bank ps n bank m)

@@ -2,8 +2,7 @@
 use Rattle.std.proofs.Common.{◌≡◌, ℕ, suc, ◌+◌, ◌^◌, ◌&&◌, Bool, true, false, cond, ltb, List, [], ◌∷◌, Option, Some, None, slice_get}
 use Rattle.std.proofs.Common.{refl, sym, subst, ap, ◌∙◌, eqb-true}
 use Rattle.layout.specs.Layout.{Layout}
-use Rattle.bank.specs.Bank.{Bank}
-use Rattle.bank.specs.Serve.{kind_of, reply_to}
+use Rattle.bank.specs.Serve.{kind_of}
 use Rattle.bank.specs.declared.kind.Kind.{Kind}
 use Rattle.bank.specs.declared.reply.Reply.{Reply}
 use Rattle.bank.specs.declared.request.Request.{Request}
@@ -11,9 +10,11 @@ use Rattle.mail.specs.Message.{body_kind}
 use Rattle.mail.specs.declared.message.Body.{Body}
 use Rattle.mail.specs.declared.message.Body.TheVariants as body
 use Rattle.letter.specs.declared.letter.Letter.{Letter}
+use Rattle.local_object.specs.declared.kept_bank.KeptBank.{KeptBank}
+use Rattle.local_object.specs.KeptBanks.{kept_reply}
 use Rattle.local_object.specs.Doing.{IsOutcome, has_member, is_member, is_served, names_node, serve_events}
 use Rattle.mail.specs.Message.{is_request}
-use Rattle.local_object.specs.Events.{LocalEvent, learnt_from, next_in_body, served_here}
+use Rattle.local_object.specs.Events.{LocalEvent, learnt_from, next_in_body, reply_letters, served_here}
 use Rattle.local_object.specs.Local.{LocalObject, Place, bank_here, layout_here, layout_in, with_heard, heard_place, with_bank_here}
 use Rattle.local_object.specs.May.{IsAddressed}
 use Rattle.local_object.proofs.LearntLemmas.{layout_learnt, layout_or, node_learnt}
@@ -46,9 +47,9 @@ module _ (local : LocalObject) (letter : Letter) (asked : Request) (is : letter.
     };
   }
 
-  pub handled_sent : (places : List Place) (bank : Option Bank) (kind : Kind) (reply : Reply) (sent : Letter)
+  pub handled_sent : (places : List Place) (bank : Option KeptBank) (kind : Kind) (reply : Reply) (sent : Letter)
       → places ≡ with_bank_here local.places position bank → kind ≡ kind_of asked
-      → reply ≡ reply_to (bank_here local position letter.message.member) asked 0
+      → Some reply ≡ kept_reply (bank_here local position letter.message.member) asked
       → sent ≡ made (layout_in (heard_place places (suc position))) kind reply
       → sent ∷ [] ≡ (served_here local letter letter.message.body).sent
   handled_sent places bank kind reply sent places_are kind_is reply_is sent_is =
@@ -57,8 +58,8 @@ module _ (local : LocalObject) (letter : Letter) (asked : Request) (is : letter.
       ∙ layout_bank local.places position bank (suc position) in
       ap (λ (l : Letter). l ∷ [])
       (sent_is ∙ ap (λ o. made o kind reply) next
-      ∙ ap (λ k. made (layout_here local (suc position)) k reply) (kind_is ∙ sym (ap body_kind is))
-      ∙ ap (made (layout_here local (suc position)) (body_kind letter.message.body)) reply_is)
+      ∙ ap (λ k. made (layout_here local (suc position)) k reply) (kind_is ∙ sym (ap body_kind is)))
+      ∙ ap (reply_letters local letter) reply_is
       ∙ sym (ap (λ b. (served_here local letter b).sent) is)
 
 -- Whether a letter is served

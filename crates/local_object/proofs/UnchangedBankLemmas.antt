@@ -3,8 +3,9 @@ use Rattle.std.proofs.Common.{◌≡◌, ℕ, Bool, true, false, cond, not, ◌&
 use Rattle.std.proofs.Common.{Result, Ok, Err, OnOk, OnErr, refl, sym, subst, ap, ◌∙◌, arith}
 use Rattle.std.specs.FinMap as map
 use Rattle.std.proofs.lemmas.Bool.{false≢true}
+use Rattle.std.proofs.lemmas.Bool.Decides.{nat_tests}
 use Rattle.tag.specs.declared.tag.Tag.{Tag}
-use Rattle.tag.specs.Tag.{opening_tag, tag_eq}
+use Rattle.tag.specs.Tag.{later_tag, opening_tag, tag_eq, tag_lt}
 use Rattle.tag.proofs.TagOrderLemmas.{opening_least, tag_cmp_total, tag_cmp-IsAntisymmetric, tag_eq-true}
 use Rattle.bank.specs.declared.request.Request.{Request}
 use Rattle.bank.specs.declared.request.Request.TheVariants as request
@@ -28,8 +29,12 @@ use Rattle.bank.proofs.PieceRetentionLemmas.{alone, opened_collected, served_col
 use Rattle.bank.proofs.RememberedStepLemmas.{forgotten_unchanged}
 use Rattle.bank.proofs.RememberedBankLemmas.{collected_left, collected_same, opening-remembered, remembered_again, remembered-opened}
 use Rattle.bank.proofs.RowChangeLemmas.{Comes, get-with_row}
-use Rattle.local_object.specs.ChangedBanks.{bank_after, changes_bank, kept_bank}
-use Rattle.local_object.specs.Distinct.{IsBankInOrder, IsBankInOrderIfOpen}
+use Rattle.closed_bank.specs.ClosedBank.{ClosedBank}
+use Rattle.closed_bank.specs.Serve.{changes_closed, closed_after}
+use Rattle.local_object.specs.declared.kept_bank.KeptBank.{KeptBank}
+use Rattle.local_object.specs.declared.kept_bank.KeptBank.TheVariants as kept
+use Rattle.local_object.specs.ChangedBanks.{bank_after, changes_bank, changes_kept, kept_after, kept_bank}
+use Rattle.local_object.specs.Distinct.{IsBankInOrder, IsBankInOrderIfOpen, IsKeptInOrder}
 use Rattle.local_object.specs.Local.{bank_or_opened}
 
 -- Banks are in order
@@ -144,11 +149,28 @@ unchanged_bank bank (request.Finalize tag) order e =
 unchanged_bank bank (request.Fetch tag) order e =
     final_again bank (request.Fetch tag) tag order refl (tag_eq (greatest_final bank) tag) (is_forgotten bank tag) refl refl e
 
+-- a closed bank that a request does not change
+unchanged_closed : (closed : ClosedBank) (asked : Request) → changes_closed closed asked ≡ false → closed_after closed asked ≡ closed
+unchanged_closed closed request.Next e = refl
+unchanged_closed closed (request.Spread status) e = refl
+unchanged_closed closed request.Query e = refl
+unchanged_closed closed (request.PreWrite tag piece) e = refl
+unchanged_closed closed (request.Finalize tag) e =
+    ap (λ g. let c : ClosedBank = record { greatest = g } in c) (not_later closed.greatest tag e)
+  where
+    not_later : (s t : Tag) → tag_lt s t ≡ false → later_tag s t ≡ s
+    not_later s t e = grind (arith, nat_tests)
+unchanged_closed closed (request.Fetch tag) e = refl
+
 -- The bank that is kept after a request
 
+unchanged_kept : (bank : KeptBank) (asked : Request) → IsKeptInOrder bank → changes_kept bank asked ≡ false → kept_after bank asked ≡ bank
+unchanged_kept (kept.Open bank) asked order e = ap kept.Open (unchanged_bank bank asked order e)
+unchanged_kept (kept.Closed closed) asked order e = ap kept.Closed (unchanged_closed closed asked e)
+
 -- it is the bank that served the request, also where it is not there, and counts as a newly opened one
-pub kept_served : (bank : Option Bank) (member : ℕ) (delta : Option ℕ) (asked : Request)
-    → bank_or_opened (kept_bank bank member delta asked) member delta ≡ bank_after (bank_or_opened bank member delta) asked
+pub kept_served : (bank : Option KeptBank) (member : ℕ) (delta : Option ℕ) (asked : Request)
+    → bank_or_opened (kept_bank bank member delta asked) member delta ≡ kept_after (bank_or_opened bank member delta) asked
 kept_served (Some bank) member delta asked = refl
 kept_served None member delta asked = go (changes_bank opened asked) refl
   where
@@ -156,27 +178,31 @@ kept_served None member delta asked = go (changes_bank opened asked) refl
     opened = opened_bank member delta 0
 
     go : (b : Bool) → changes_bank opened asked ≡ b
-        → bank_or_opened (cond b (Some (bank_after opened asked)) None) member delta ≡ bank_after opened asked
+        → bank_or_opened (cond b (Some (kept.Open (bank_after opened asked))) None) member delta ≡ kept.Open (bank_after opened asked)
     go true e = refl
-    go false e = sym (unchanged_bank opened asked (opened_in_order member delta) e)
+    go false e = ap kept.Open (sym (unchanged_bank opened asked (opened_in_order member delta) e))
 
 -- a request that does not change the bank leaves it as it is, and opens none
-pub kept_unchanged : (bank : Option Bank) (member : ℕ) (delta : Option ℕ) (asked : Request) → IsBankInOrderIfOpen bank
-    → changes_bank (bank_or_opened bank member delta) asked ≡ false → kept_bank bank member delta asked ≡ bank
+pub kept_unchanged : (bank : Option KeptBank) (member : ℕ) (delta : Option ℕ) (asked : Request) → IsBankInOrderIfOpen bank
+    → changes_kept (bank_or_opened bank member delta) asked ≡ false → kept_bank bank member delta asked ≡ bank
 kept_unchanged None member delta asked order e =
-    ap (λ b. cond b (Some (bank_after (opened_bank member delta 0) asked)) None) e
-kept_unchanged (Some bank) member delta asked order e = ap Some (unchanged_bank bank asked order e)
+    ap (λ b. cond b (Some (kept.Open (bank_after (opened_bank member delta 0) asked))) None) e
+kept_unchanged (Some bank) member delta asked order e = ap Some (unchanged_kept bank asked order e)
 
 -- a bank that a request opened is in order, if it is kept
 pub kept_opened_in_order : (member : ℕ) (delta : Option ℕ) (asked : Request) → IsBankInOrderIfOpen (kept_bank None member delta asked)
 kept_opened_in_order member delta asked = go (changes_bank (opened_bank member delta 0) asked)
   where
-    go : (b : Bool) → IsBankInOrderIfOpen (cond b (Some (bank_after (opened_bank member delta 0) asked)) None)
+    go : (b : Bool) → IsBankInOrderIfOpen (cond b (Some (kept.Open (bank_after (opened_bank member delta 0) asked))) None)
     go true = served_in_order (opened_bank member delta 0) asked (opened_in_order member delta)
     go false = tt
 
 -- a bank that served a request, or was refused
-pub kept_in_order : {X E : Type 0} (r : Result X E) (old new : Bank) (asked : Request) → IsBankInOrder old
-    → OnOk r (new ≡ bank_after old asked) → OnErr r (new ≡ old) → IsBankInOrder new
-kept_in_order (Ok x) old new asked order served same = subst IsBankInOrder (sym served) (served_in_order old asked order)
-kept_in_order (Err e) old new asked order served same = subst IsBankInOrder (sym same) order
+pub kept_in_order : {X E : Type 0} (r : Result X E) (old new : KeptBank) (asked : Request) → IsKeptInOrder old
+    → OnOk r (new ≡ kept_after old asked) → OnErr r (new ≡ old) → IsKeptInOrder new
+kept_in_order (Ok x) old new asked order served same = subst IsKeptInOrder (sym served) (after old asked order)
+  where
+    after : (bank : KeptBank) (asked : Request) → IsKeptInOrder bank → IsKeptInOrder (kept_after bank asked)
+    after (kept.Open bank) asked order = served_in_order bank asked order
+    after (kept.Closed closed) asked order = tt
+kept_in_order (Err e) old new asked order served same = subst IsKeptInOrder (sym same) order

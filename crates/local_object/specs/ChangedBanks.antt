@@ -8,6 +8,9 @@ use Rattle.bank.specs.Pointer.{status_of}
 use Rattle.bank.specs.Serve.{greatest_final, served_bank}
 use Rattle.bank.specs.declared.request.Request.{Request}
 use Rattle.bank.specs.declared.request.Request.TheVariants as request
+use Rattle.closed_bank.specs.Serve.{changes_closed, closed_after}
+use Rattle.local_object.specs.declared.kept_bank.KeptBank.{KeptBank}
+use Rattle.local_object.specs.declared.kept_bank.KeptBank.TheVariants as kept
 
 -- whether a request may change a bank: it raises the pointer; or it names a tag that may not be forgotten, and brings a
 -- piece or finalizes a tag that is not the greatest finalized one
@@ -23,9 +26,24 @@ changes_bank bank (request.Fetch tag) = not (tag_eq (greatest_final bank) tag ||
 abbrev pub bank_after : Bank → Request → Bank
 bank_after bank asked = remembered (served_bank bank asked 0)
 
--- the bank that is kept after it served a request; a newly opened one is kept only if the request may change it
-abbrev pub kept_bank : Option Bank → (member : ℕ) → (delta : Option ℕ) → Request → Option Bank
+-- an open bank, or a newly opened one if there is none
+abbrev pub whole_or_opened : Option Bank → (member : ℕ) → (delta : Option ℕ) → Bank
+whole_or_opened None member delta = opened_bank member delta 0
+whole_or_opened (Some bank) member delta = bank
+
+-- whether a request may change what is kept of a bank; it changes a closed one if it finalizes a greater tag
+abbrev pub changes_kept : KeptBank → Request → Bool
+changes_kept (kept.Open bank) asked = changes_bank bank asked
+changes_kept (kept.Closed closed) asked = changes_closed closed asked
+
+-- what is kept of a bank after it served a request
+abbrev pub kept_after : KeptBank → Request → KeptBank
+kept_after (kept.Open bank) asked = kept.Open (bank_after bank asked)
+kept_after (kept.Closed closed) asked = kept.Closed (closed_after closed asked)
+
+-- what is kept after the bank served a request; a newly opened one is kept only if the request may change it
+abbrev pub kept_bank : Option KeptBank → (member : ℕ) → (delta : Option ℕ) → Request → Option KeptBank
 kept_bank None member delta asked =
     let opened = opened_bank member delta 0 in
-    if changes_bank opened asked then Some (bank_after opened asked) else None
-kept_bank (Some bank) member delta asked = Some (bank_after bank asked)
+    if changes_bank opened asked then Some (kept.Open (bank_after opened asked)) else None
+kept_bank (Some bank) member delta asked = Some (kept_after bank asked)

@@ -2,19 +2,20 @@
 use Rattle.std.specs.Prelude.{◌≡◌, ℕ, ◌&&◌, Bool, false, Option, None, Some, sum_by}
 use Rattle.encoder.specs.Fragment.{fragment}
 use Rattle.layout.specs.Layout.{Layout}
-use Rattle.bank.specs.Bank.{Bank}
 use Rattle.bank.specs.Bytes.{bank_bytes}
 use Rattle.mail.specs.declared.message.Body.{Body}
 use Rattle.mail.specs.declared.message.Body.TheVariants as body
 use Rattle.letter.specs.declared.letter.Letter.{Letter}
-use Rattle.local_object.specs.ChangedBanks.{changes_bank}
+use Rattle.local_object.specs.declared.kept_bank.KeptBank.{KeptBank}
+use Rattle.local_object.specs.declared.kept_bank.KeptBank.TheVariants as kept
+use Rattle.local_object.specs.ChangedBanks.{changes_kept}
 use Rattle.local_object.specs.Doing.{is_served, serve_events}
 use Rattle.local_object.specs.Events.{all_done, learnt_from}
 use Rattle.local_object.specs.Local.{LocalObject, Place, bank_here, layout_here}
 
 -- whether a message with this body is a request that may change a bank
-abbrev pub changes_in_body : Bank → Body → Bool
-changes_in_body bank (body.Request asked) = changes_bank bank asked
+abbrev pub changes_in_body : KeptBank → Body → Bool
+changes_in_body bank (body.Request asked) = changes_kept bank asked
 changes_in_body bank (body.Reply kind made) = false
 
 -- whether the node serves a letter, which may then change the bank that the node keeps as the member that the letter
@@ -43,10 +44,15 @@ pub record HasOnlyHeard (before : LocalObject) (letter : Letter) (after : LocalO
 abbrev pub IsUnchangedBy : LocalObject → Letter → Type 0
 IsUnchangedBy local letter = HasOnlyHeard local letter (after_serving local letter)
 
+-- the number of bytes of all pieces in a bank; a closed one has none
+abbrev pub kept_bytes : KeptBank → ℕ
+kept_bytes (kept.Open bank) = bank_bytes bank
+kept_bytes (kept.Closed closed) = 0
+
 -- the number of bytes of all pieces in a bank, if there is one
-abbrev pub bytes_in : Option Bank → ℕ
+abbrev pub bytes_in : Option KeptBank → ℕ
 bytes_in None = 0
-bytes_in (Some bank) = bank_bytes bank
+bytes_in (Some bank) = kept_bytes bank
 
 -- the number of bytes of all pieces in the bank of a place
 abbrev pub place_bytes : Place → ℕ

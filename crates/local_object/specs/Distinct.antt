@@ -7,6 +7,8 @@ use Rattle.bank.specs.Collect.{IsCollected}
 use Rattle.bank.specs.Floor.{remembered}
 use Rattle.bank.specs.Knowledge.{finalized_at}
 use Rattle.call.specs.Call.{OpenCall as Machine}
+use Rattle.local_object.specs.declared.kept_bank.KeptBank.{KeptBank}
+use Rattle.local_object.specs.declared.kept_bank.KeptBank.TheVariants as kept
 use Rattle.local_object.specs.Local.{Place, heard_place, with_bank_here}
 
 -- none of the calls has this id
@@ -34,7 +36,7 @@ pub record IsPlaceAt (places : List Place) (number index : ℕ) : Type 0 where
   pub place : Place
   pub there : slice_get places index ≡ Some place
   pub found : heard_place places number ≡ Some place
-  pub changed : (bank : Option Bank) →
+  pub changed : (bank : Option KeptBank) →
       with_bank_here places number bank ≡ slice_set places index (record place { bank = bank })
 
 -- a bank has exactly the pieces that it has to keep, has finalized the opening tag, and has no row that it may forget
@@ -43,10 +45,15 @@ pub record IsBankInOrder (bank : Bank) : Type 0 where
   pub opening : IsSome (finalized_at bank opening_tag)
   pub remembered : remembered bank ≡ bank
 
--- the bank is in order, if there is one
-abbrev pub IsBankInOrderIfOpen : Option Bank → Type 0
+-- the bank is in order, if it is open
+abbrev pub IsKeptInOrder : KeptBank → Type 0
+IsKeptInOrder (kept.Open bank) = IsBankInOrder bank
+IsKeptInOrder (kept.Closed closed) = Unit {0}
+
+-- the bank is in order, if there is one and it is open
+abbrev pub IsBankInOrderIfOpen : Option KeptBank → Type 0
 IsBankInOrderIfOpen None = Unit {0}
-IsBankInOrderIfOpen (Some bank) = IsBankInOrder bank
+IsBankInOrderIfOpen (Some bank) = IsKeptInOrder bank
 
 -- the node has heard of position 0
 pub record KnowsFirst (places : List Place) : Type 0 where

@@ -12,7 +12,8 @@ use Rattle.record.specs.Legal.{is_move}
 use Rattle.open_calls.specs.OpenCalls.{NodeCall, open_call}
 use Rattle.letter.specs.declared.letter.Letter.{Letter}
 use Rattle.local_object.specs.Events.{LocalEvent, all_done, learnt_from}
-use Rattle.local_object.specs.Local.{LocalObject, last_position, layout_here}
+use Rattle.local_object.specs.KeptBanks.{closing}
+use Rattle.local_object.specs.Local.{LocalObject, bank_in, heard_place, last_position, layout_here}
 use Rattle.local_object.specs.May.{MayAllHappen}
 
 -- these events may happen, and after them the node keeps this and has sent these letters
@@ -103,3 +104,13 @@ gives_up local id = is_client_call (open_call local.calls id)
 -- what a node does to give a call up: nothing if no read or write with this id is open here
 abbrev pub give_up_events : LocalObject → (id : ℕ) → List LocalEvent
 give_up_events local id = if gives_up local id then LocalEvent.GiveUp id ∷ [] else []
+
+-- Banks that are closed
+
+-- whether the node can close its bank of a position: whether that is open, and its pointer is final
+abbrev pub can_close : LocalObject → (position : ℕ) → Bool
+can_close local position = is_some (closing (bank_in (heard_place local.places position)))
+
+-- what a node does to close its bank of a position: nothing if it cannot be closed
+abbrev pub close_events : LocalObject → (position : ℕ) → List LocalEvent
+close_events local position = if can_close local position then LocalEvent.Close position ∷ [] else []

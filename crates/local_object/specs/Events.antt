@@ -3,11 +3,11 @@ use Rattle.std.specs.Prelude.{ℕ, suc, List, [], ◌∷◌, ◌++◌, map, Opti
 use Rattle.layout.specs.Layout.{Layout}
 use Rattle.piece.specs.declared.piece.Piece.{Piece}
 use Rattle.bank.specs.Bank.{empty_piece}
-use Rattle.bank.specs.Serve.{reply_to}
 use Rattle.bank.specs.declared.kind.Kind.{Kind}
 use Rattle.bank.specs.declared.kind.Kind.TheVariants.{Next, Spread}
 use Rattle.bank.specs.declared.reply.Answer.{Answer as BankAnswer}
 use Rattle.bank.specs.declared.reply.Answer.TheVariants as answer
+use Rattle.bank.specs.declared.reply.Reply.{Reply}
 use Rattle.bank.specs.declared.request.Request.{Request}
 use Rattle.bank.specs.declared.request.Request.TheVariants as request
 use Rattle.bank.specs.declared.status.Status.{Status}
@@ -28,10 +28,11 @@ use Rattle.open_calls.specs.OpenCalls.{NodeCall, open_call, with_open, without_c
 use Rattle.open_calls.specs.OpenCalls.{taking_open}
 use Rattle.letter.specs.declared.letter.Letter.{Letter}
 use Rattle.local_object.specs.ChangedBanks.{kept_bank}
+use Rattle.local_object.specs.KeptBanks.{after_closing, kept_reply}
 use Rattle.local_object.specs.Local.{LocalObject, layout_here, bank_here, bank_in, heard_place, with_bank_here}
 use Rattle.local_object.specs.Local.{last_position, with_heard, learnt_if}
 
--- what a node does with one object; a call is named by its id
+-- what a node does with one object; a call is named by its id, and a bank by its position
 pub data LocalEvent : Type 0 where
   BeginRead : (id : ℕ) → LocalEvent
   BeginWrite : (id : ℕ) → List ℕ → LocalEvent
@@ -42,6 +43,7 @@ pub data LocalEvent : Type 0 where
   Settle : (id : ℕ) → List ℕ → LocalEvent
   Answer : (id : ℕ) → LocalEvent
   GiveUp : (id : ℕ) → LocalEvent
+  Close : (position : ℕ) → LocalEvent
 
 -- what a node keeps after an event, and the letters that it sends
 pub record Outcome : Type 0 where
@@ -155,22 +157,32 @@ on_open_call local (Some call) change = change call
 
 -- Messages
 
+-- the letter that carries the reply to a request, if there is one
+abbrev pub reply_letters : LocalObject → Letter → Option Reply → List Letter
+reply_letters local letter None = []
+reply_letters local letter (Some reply) = letter_of local letter.layout (answered letter.message reply) ∷ []
+
 -- after the node's bank serves a request, and its reply is sent; a bank that this opens is kept only if the request may
--- change it
+-- change it, and a closed bank sends no reply to a fetch
 abbrev pub handled_here : LocalObject → Letter → Request → Outcome
 handled_here local letter asked =
     let place = letter.message.position in
     let member = letter.message.member in
-    let old = bank_in (heard_place local.places place) in
-    let reply = reply_to (bank_here local place member) asked 0 in record {
+    let old = bank_in (heard_place local.places place) in record {
       local = record local { places = with_bank_here local.places place (kept_bank old member local.delta asked) };
-      sent = letter_of local letter.layout (answered letter.message reply) ∷ [];
+      sent = reply_letters local letter (kept_reply (bank_here local place member) asked);
     }
 
 -- after the node serves a letter with this body if it is a request; a reply changes nothing
 abbrev pub served_here : LocalObject → Letter → Body → Outcome
 served_here local letter (body.Request asked) = handled_here local letter asked
 served_here local letter (body.Reply kind made) = silent local
+
+-- after the node closes its bank of a position
+abbrev pub closed_here : LocalObject → (position : ℕ) → LocalObject
+closed_here local position = record local {
+  places = with_bank_here local.places position (after_closing (bank_in (heard_place local.places position)));
+}
 
 -- All events
 
@@ -192,6 +204,7 @@ done_here fragment local (LocalEvent.Settle id value) =
     (λ call. silent (record local { calls = with_open (record call { settled = Some value }) local.calls }))
 done_here fragment local (LocalEvent.Answer id) = silent (record local { calls = without_call id local.calls })
 done_here fragment local (LocalEvent.GiveUp id) = silent (record local { calls = without_call id local.calls })
+done_here fragment local (LocalEvent.Close position) = silent (closed_here local position)
 
 -- after these events, one after another, with all letters in the order in which they were sent
 abbrev pub all_done : Code → LocalObject → List LocalEvent → Outcome

@@ -1,4 +1,5 @@
 pub mod Local
+pub mod KeptBanks
 pub mod ChangedBanks
 pub mod Events
 pub mod May
@@ -8,6 +9,7 @@ pub mod Ended
 pub mod Pieces
 pub mod Letters
 pub mod Doing
+pub mod Leaving
 pub mod Coding
 pub mod Going
 pub mod Taking
@@ -17,3 +19,4 @@ pub mod Resent
 pub mod New
 pub mod Restarts
 pub mod Sent
+pub mod Starting

@@ -1,15 +1,17 @@
 -- What one node keeps of one object: the layouts that it has heard of, its banks, and the calls that it carries out.
 use Rattle.std.specs.Prelude.{ℕ, ◌==◌, if◌then◌else◌, List, [], ◌∷◌, ◌++◌, Option, None, Some, nat_lt}
 use Rattle.layout.specs.Layout.{Layout}
-use Rattle.bank.specs.Bank.{Bank, opened_bank}
+use Rattle.bank.specs.Bank.{opened_bank}
 use Rattle.open_calls.specs.OpenCalls.{NodeCall}
+use Rattle.local_object.specs.declared.kept_bank.KeptBank.{KeptBank}
+use Rattle.local_object.specs.declared.kept_bank.KeptBank.TheVariants as kept
 
--- what a node keeps for a position that it has heard of: the layout, and its bank once a request has come that may
--- change it
+-- what a node keeps for a position that it has heard of: the layout, and its bank, open or closed, once a request has
+-- come that may change it
 pub record Place : Type 0 where
   pub position : ℕ
   pub layout : Layout
-  pub bank : Option Bank
+  pub bank : Option KeptBank
 
 -- what one node keeps of one object: the node's number, of how many finalized versions its banks keep pieces besides
 -- the newest (None: of all), the positions that it has heard of, each once, and the calls that it carries out
@@ -43,21 +45,21 @@ abbrev pub layout_here : LocalObject → (position : ℕ) → Option Layout
 layout_here local position = layout_in (heard_place local.places position)
 
 -- a bank, or a newly opened one if there is none
-abbrev pub bank_or_opened : Option Bank → (member : ℕ) → (delta : Option ℕ) → Bank
-bank_or_opened None member delta = opened_bank member delta 0
+abbrev pub bank_or_opened : Option KeptBank → (member : ℕ) → (delta : Option ℕ) → KeptBank
+bank_or_opened None member delta = kept.Open (opened_bank member delta 0)
 bank_or_opened (Some bank) member delta = bank
 
 -- the bank kept in a place, if there is one
-abbrev pub bank_in : Option Place → Option Bank
+abbrev pub bank_in : Option Place → Option KeptBank
 bank_in None = None
 bank_in (Some place) = place.bank
 
 -- the bank that the node keeps for a position as this member; before such a request it is a newly opened one
-abbrev pub bank_here : LocalObject → (position member : ℕ) → Bank
+abbrev pub bank_here : LocalObject → (position member : ℕ) → KeptBank
 bank_here local position member = bank_or_opened (bank_in (heard_place local.places position)) member local.delta
 
 -- the places with this bank at the position, or without a bank there
-abbrev pub with_bank_here : List Place → (position : ℕ) → Option Bank → List Place
+abbrev pub with_bank_here : List Place → (position : ℕ) → Option KeptBank → List Place
 with_bank_here [] position bank = []
 with_bank_here (place ∷ places) position bank =
     if place.position == position then record place { bank = bank } ∷ places

@@ -12,7 +12,8 @@ use Rattle.record.specs.Fragments.{Code, IsValue, IsFetch, HasPieces}
 use Rattle.record.specs.Records.{Object, layout_at}
 use Rattle.open_calls.specs.OpenCalls.{NodeCall, open_call, due_phase, IsReady, IsLacking}
 use Rattle.letter.specs.declared.letter.Letter.{Letter}
-use Rattle.local_object.specs.Local.{LocalObject, layout_here}
+use Rattle.local_object.specs.KeptBanks.{closing}
+use Rattle.local_object.specs.Local.{LocalObject, bank_in, heard_place, layout_here}
 use Rattle.local_object.specs.Events.{LocalEvent, done_here, learnt_from}
 
 -- the node carries out the call with this id
@@ -55,6 +56,8 @@ MayHappenHere fragment local (LocalEvent.Answer id) =
     (call : NodeCall) × IsCarriedOut local id call × IsReady call × (due_phase call ≡ None)
 MayHappenHere fragment local (LocalEvent.GiveUp id) =
     AllByRecursion (λ call. call.id ≡ id → call.kind ≢ Move) local.calls
+MayHappenHere fragment local (LocalEvent.Close position) =
+    IsSome (closing (bank_in (heard_place local.places position)))
 
 -- these events may happen here one after another
 abbrev pub MayAllHappen : Code → LocalObject → List LocalEvent → Type 0

@@ -9,8 +9,9 @@ ghost use Rattle.call.specs.Call.{OpenCall as Machine};
 ghost use Rattle.call.specs.Limits.{IsWithinLimits};
 ghost use Rattle.call.specs.Steps.{entered, phase_next, taken_call};
 ghost use Rattle.local_object.specs.Distinct.{HaveOtherIds, HaveDistinctIds, IsCallAt};
+ghost use Rattle.local_object.specs.Leaving.{if_final};
 
-use bank::Kind;
+use bank::{Kind, Status};
 use bytes::Bytes;
 use call::Call;
 use layout::Layout;
@@ -157,5 +158,16 @@ pub(crate) fn is_move(call: &Call) -> bool
     match call.operation() {
         Operation::Move => true,
         Operation::Read | Operation::Write => false,
+    }
+}
+
+/// Returns the position whose pointer the current phase of the call raises to final, if it does so.
+pub(crate) fn final_position(call: &Call) -> Option<u32>
+    ensures { result ≡ if_final call.now.phase.kind call.now.phase.position }
+{
+    match call.phase().kind() {
+        Kind::Spread(Status::Final) => Some(call.phase().position()),
+        Kind::Spread(Status::Unset) | Kind::Spread(Status::Pending) => None,
+        Kind::Next | Kind::Query | Kind::PreWrite(_) | Kind::Finalize(_) | Kind::Fetch(_) => None,
     }
 }

@@ -1,21 +1,22 @@
-//! Which requests may change a bank.
+//! Which requests may change what is kept of a bank.
 
 ghost use Rattle.std.specs.Prelude.{◌≡◌, ℕ, not, Option, option_copied};
 ghost use Rattle.bank.specs.Floor.{is_forgotten};
 ghost use Rattle.bank.specs.Knowledge.{status_le};
 ghost use Rattle.bank.specs.Pointer.{status_of};
 ghost use Rattle.bank.specs.Serve.{greatest_final};
-ghost use Rattle.local_object.specs.ChangedBanks.{changes_bank};
+ghost use Rattle.local_object.specs.ChangedBanks.{changes_bank, changes_kept, whole_or_opened};
 ghost use Rattle.local_object.specs.Changing.{changes_in_body};
 ghost use Rattle.local_object.specs.Local.{bank_or_opened};
 
+use crate::kept_bank::KeptBank;
 use bank::{Answer, Bank, Request, Status};
 use mail::Body;
 use tag::Tag;
 
 /// Returns whether a message with this body is a request that may change a bank. A bank that is not there counts as a
 /// newly opened one.
-pub(crate) fn changes(bank: Option<&Bank>, body: &Body) -> bool
+pub(crate) fn changes(bank: Option<&KeptBank>, body: &Body) -> bool
     ensures { (member : ℕ) (delta : Option ℕ)
         → result ≡ changes_in_body (bank_or_opened (option_copied bank.entry) member delta) body.now }
 {
@@ -26,9 +27,20 @@ pub(crate) fn changes(bank: Option<&Bank>, body: &Body) -> bool
 }
 
 /// Returns whether a request may change a bank. A bank that is not there counts as a newly opened one.
-pub(crate) fn is_changed(bank: Option<&Bank>, request: &Request) -> bool
+pub(crate) fn is_changed(bank: Option<&KeptBank>, request: &Request) -> bool
     ensures { (member : ℕ) (delta : Option ℕ)
-        → result ≡ changes_bank (bank_or_opened (option_copied bank.entry) member delta) request.now }
+        → result ≡ changes_kept (bank_or_opened (option_copied bank.entry) member delta) request.now }
+{
+    match bank {
+        Some(bank) => bank.is_changed_by(request),
+        None => is_whole_changed(None, request),
+    }
+}
+
+/// Returns whether a request may change an open bank. A bank that is not there counts as a newly opened one.
+pub(crate) fn is_whole_changed(bank: Option<&Bank>, request: &Request) -> bool
+    ensures { (member : ℕ) (delta : Option ℕ)
+        → result ≡ changes_bank (whole_or_opened (option_copied bank.entry) member delta) request.now }
 {
     match request {
         Request::Next | Request::Query => false,
@@ -60,7 +72,7 @@ fn rises(from: Status, to: Status) -> bool
 // The status of the bank's pointer.
 fn status_of(bank: Option<&Bank>) -> Status
     ensures { (member : ℕ) (delta : Option ℕ)
-        → result ≡ status_of (bank_or_opened (option_copied bank.entry) member delta).pointer }
+        → result ≡ status_of (whole_or_opened (option_copied bank.entry) member delta).pointer }
 {
     match bank {
         Some(bank) => bank.pointer().status(),
@@ -71,7 +83,7 @@ fn status_of(bank: Option<&Bank>) -> Status
 // Whether the bank may forget the tag.
 fn forgets(bank: Option<&Bank>, tag: Tag) -> bool
     ensures { (member : ℕ) (delta : Option ℕ)
-        → result ≡ is_forgotten (bank_or_opened (option_copied bank.entry) member delta) tag }
+        → result ≡ is_forgotten (whole_or_opened (option_copied bank.entry) member delta) tag }
 {
     match bank {
         Some(bank) => bank.is_forgotten(tag),
@@ -82,7 +94,7 @@ fn forgets(bank: Option<&Bank>, tag: Tag) -> bool
 // The greatest finalized tag of the bank.
 fn greatest_of(bank: Option<&Bank>) -> Tag
     ensures { (member : ℕ) (delta : Option ℕ)
-        → result ≡ greatest_final (bank_or_opened (option_copied bank.entry) member delta) }
+        → result ≡ greatest_final (whole_or_opened (option_copied bank.entry) member delta) }
 {
     match bank {
         Some(bank) => match bank.query(0).answer {

@@ -2,6 +2,7 @@
 //! carries out calls. The node hands each letter in, and sends those that come out.
 #![tactic(auto)]
 
+pub use kept_bank::KeptBank;
 pub use local_object::LocalObject;
 pub use place::Place;
 pub use progress::{Ended, Progress};
@@ -10,6 +11,7 @@ mod calls;
 mod changes;
 mod coding;
 mod going;
+mod kept_bank;
 mod letters;
 mod local_object;
 mod missing;

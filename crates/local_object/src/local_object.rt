@@ -1,8 +1,8 @@
-ghost use Rattle.std.specs.Prelude.{◌≡◌, ◌+◌, ◌<◌, ◌^◌, IfOk, IfErr, OnOk, IsSome, nat_lt, option_to_list};
+ghost use Rattle.std.specs.Prelude.{◌≡◌, ◌+◌, ◌<◌, ◌^◌, [], IfOk, IfErr, OnOk, IsSome, nat_lt, option_to_list};
 ghost use Rattle.tag.specs.declared.refusal.Refusal.TheVariants.{NoMemory};
 ghost use Rattle.local_object.specs.Local.{new_local, heard_place, with_heard};
 ghost use Rattle.local_object.specs.Events.{learnt_from, served_here};
-ghost use Rattle.local_object.specs.Doing.{IsOutcome, has_member, is_served, serve_events};
+ghost use Rattle.local_object.specs.Doing.{IsOutcome, can_close, close_events, has_member, is_served, serve_events};
 
 use crate::calls::Calls;
 use crate::letters::letter_of;
@@ -88,7 +88,8 @@ impl LocalObject {
 
     /// The node serves a request. The reply has to be sent to the node from which the request came. Returns none, and
     /// changes nothing, if the letter is no request, if there is no number in 32 bits for the next position, or if this
-    /// node is not the member that the letter names.
+    /// node is not the member that the letter names. Returns none, too, if the node's bank is closed and declines the
+    /// request, which then changes no bank.
     ///
     /// `NoMemory` is the only refusal.
     pub fn serve(&mut self, letter: Letter) -> Result<Option<Letter>, Refusal>
@@ -114,6 +115,30 @@ impl LocalObject {
         let layout = SharedLayout::new(self.alloc, layout)?;
         self.places.learn(position, &layout)?;
         Ok(())
+    }
+
+    /// Returns whether the node can close its bank of a position: whether it keeps an open bank there, whose pointer is
+    /// final.
+    pub fn can_close(&self, position: u32) -> bool
+        ensures { result ≡ can_close self.now position }
+    {
+        match self.places.bank_of(position) {
+            Some(bank) => bank.can_close(),
+            None => false,
+        }
+    }
+
+    /// The node closes its bank of a position, which then has no piece any more. Returns whether it did so: if it
+    /// cannot close the bank, nothing changes.
+    pub fn close(&mut self, position: u32) -> bool
+        ensures done { IsOutcome self.old (close_events self.old position) self.new [] }
+        ensures closed { result ≡ can_close self.old position }
+    {
+        if !self.can_close(position) {
+            return false;
+        }
+        self.places.close(position);
+        true
     }
 
     // Whether the node serves the letter.
@@ -146,7 +171,7 @@ impl LocalObject {
         Ok(())
     }
 
-    // The node's bank serves the request in a letter. None where it is none.
+    // The node's bank serves the request in a letter. None where it is none, or where the bank declines it.
     fn handle(&mut self, letter: Letter) -> Result<Option<Letter>, Refusal>
         requires { IsSome (heard_place self.old.places letter.message.position) }
         ensures local { OnOk result (self.new ≡ (served_here self.old letter letter.message.body).local) }
@@ -170,7 +195,9 @@ impl LocalObject {
         let Body::Request(request) = body else {
             return Ok(None);
         };
-        let reply = self.places.serve(position, member, self.delta, &request)?;
+        let Some(reply) = self.places.serve(position, member, self.delta, &request)? else {
+            return Ok(None);
+        };
         let answer = Message {
             call,
             phase,

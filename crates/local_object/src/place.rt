@@ -1,13 +1,16 @@
 //! What a node keeps for one position.
 
-ghost use Rattle.std.specs.Prelude.{◌≡◌, ◌-◌, ◌^◌, min, IfOk, IfErr, OnErr, OnOk, None, option_copied};
+ghost use Rattle.std.specs.Prelude.{◌≡◌, ◌-◌, ◌^◌, min, IfOk, IfErr, OnOk, None, IsSome, option_copied};
 ghost use Rattle.tag.specs.declared.refusal.Refusal.TheVariants.{NoMemory};
 ghost use Rattle.bank.specs.Bank.{opened_bank};
 ghost use Rattle.bank.specs.Serve.{reply_to};
-ghost use Rattle.local_object.specs.ChangedBanks.{bank_after, kept_bank};
+ghost use Rattle.local_object.specs.ChangedBanks.{kept_bank};
+ghost use Rattle.local_object.specs.KeptBanks.{after_closing, closing, kept_reply};
 
 use crate::changes::is_changed;
+use crate::kept_bank::{KeptBank, serve_short};
 use bank::{Bank, Reply, Request};
+use closed_bank::ClosedBank;
 use layout::Layout;
 use letter::SharedLayout;
 use std::alloc::Global;
@@ -20,19 +23,20 @@ pub struct Place {
     position: u32,
     layout: SharedLayout,
     // The node's bank for this position. None before a request has changed it.
-    bank: Option<Bank>,
+    bank: Option<KeptBank>,
 }
 
 impl Model for Place {
     ghost use Rattle.layout.specs.contracts.layout.Layout as arrangement;
     ghost use Rattle.bank.specs.contracts.bank.Bank as table;
+    ghost use Rattle.closed_bank.specs.contracts.closed_bank.ClosedBank as closed;
     ghost use Rattle.local_object.specs.Local.{Place as Heard};
-    ghost use Rattle.local_object.specs.Codes.{place_code};
+    ghost use Rattle.local_object.specs.Codes.{kept_code, place_code};
     ghost use Rattle.local_object.specs.Distinct.{IsBankInOrderIfOpen};
 
     ghost Value = { Heard };
 
-    ghost coded = { place_code arrangement.the_row.coded table.the_row.coded };
+    ghost coded = { place_code arrangement.the_row.coded (kept_code table.the_row.coded closed.the_row.coded) };
 
     ghost view = { λ p. record { position = p.position; layout = p.layout; bank = p.bank } };
 
@@ -77,8 +81,8 @@ impl Place {
         &self.layout
     }
 
-    /// The bank, once a request has changed it.
-    pub fn bank(&self) -> Option<&Bank>
+    /// The bank, open or closed, once a request has changed it.
+    pub fn bank(&self) -> Option<&KeptBank>
         ensures bank { option_copied result ≡ self.now.bank }
         ensures order { IsBankInOrderIfOpen self.now.bank }
     {
@@ -98,13 +102,13 @@ impl Place {
         ensures { result ≡ min (place_bytes self.now) (2 ^ 64 - 1) }
     {
         match &self.bank {
-            Some(bank) => bank.bytes_anew(),
+            Some(bank) => bank.bytes(),
             None => 0,
         }
     }
 
     /// The node's bank serves a request as this member. If the bank is not there, a newly opened one serves the
-    /// request, and is kept if the request may change it.
+    /// request, and is kept if the request may change it. Returns none if the bank is closed and declines the request.
     ///
     /// `NoMemory` is the only refusal.
     pub(crate) fn serve(
@@ -113,36 +117,39 @@ impl Place {
         member: u8,
         delta: Option<u32>,
         request: &Request,
-    ) -> Result<Reply, Refusal>
+    ) -> Result<Option<Reply>, Refusal>
         ensures bank { OnOk result (self.new ≡ record self.old {
           bank = kept_bank self.old.bank member delta request.now;
         }) }
 
-        ensures reply { IfOk result (λ r. r ≡ reply_to (bank_or_opened self.old.bank member delta) request.now 0) }
+        ensures reply { IfOk result (λ r. r ≡ kept_reply (bank_or_opened self.old.bank member delta) request.now) }
         ensures refused { IfErr result (λ e. e ≡ NoMemory) }
         ensures same { self.new.position ≡ self.old.position }
     {
         match &mut self.bank {
-            Some(bank) => serve_short(bank, request),
+            Some(bank) => bank.serve(request),
             None => {
                 let (reply, bank) = serve_opened(alloc, member, delta, request)?;
                 self.bank = bank;
-                Ok(reply)
+                Ok(Some(reply))
             }
         }
     }
-}
 
-// The bank serves a request, and then forgets the tags on which no answer depends any more.
-fn serve_short(bank: &mut Bank, request: &Request) -> Result<Reply, Refusal>
-    ensures bank { OnOk result (bank.new ≡ bank_after bank.old request.now) }
-    ensures reply { IfOk result (λ r. r ≡ reply_to bank.old request.now 0) }
-    ensures refused { IfErr result (λ e. e ≡ NoMemory) }
-    ensures unchanged { OnErr result (bank.new ≡ bank.old) }
-{
-    let reply = bank.serve(request, 0)?;
-    bank.forget();
-    Ok(reply)
+    /// The node closes its bank, which is open and has a final pointer.
+    pub(crate) fn close(&mut self)
+        requires open { IsSome (closing self.old.bank) }
+        ensures bank { self.new ≡ record self.old { bank = after_closing self.old.bank } }
+        ensures same { self.new.position ≡ self.old.position }
+    {
+        let closed = match &self.bank {
+            Some(KeptBank::Open(bank)) => ClosedBank::of(bank),
+            _ => None,
+        };
+        if let Some(closed) = closed {
+            self.bank = Some(KeptBank::Closed(closed));
+        }
+    }
 }
 
 // A newly opened bank serves a request as this member. Returns the reply, and the bank if the request may change it.
@@ -151,7 +158,7 @@ fn serve_opened(
     member: u8,
     delta: Option<u32>,
     request: &Request,
-) -> Result<(Reply, Option<Bank>), Refusal>
+) -> Result<(Reply, Option<KeptBank>), Refusal>
     ensures reply { IfOk result (λ it. it.0 ≡ reply_to (opened_bank member delta 0) request.now 0) }
     ensures bank { IfOk result (λ it. it.1 ≡ kept_bank None member delta request.now) }
     ensures refused { IfErr result (λ e. e ≡ NoMemory) }
@@ -159,7 +166,7 @@ fn serve_opened(
     let mut bank = Bank::new(alloc, member, delta, 0)?;
     let reply = serve_short(&mut bank, request)?;
     if is_changed(None, request) {
-        Ok((reply, Some(bank)))
+        Ok((reply, Some(KeptBank::Open(bank))))
     } else {
         Ok((reply, None))
     }

@@ -3,16 +3,17 @@
 ghost use Rattle.std.specs.Prelude.{◌≡◌, ◌==◌, [], ◌∷◌, None, IfOk, IfErr, OnOk, IsSome, MatchOption, option_copied};
 ghost use Rattle.std.specs.Prelude.{if◌then◌else◌, nat_lt, position, ◌-◌, ◌^◌, min, sum_by};
 ghost use Rattle.tag.specs.declared.refusal.Refusal.TheVariants.{NoMemory};
-ghost use Rattle.bank.specs.Serve.{reply_to};
 ghost use Rattle.local_object.specs.Local.{added_place, bank_in, bank_or_opened, greatest_position, layout_in};
 ghost use Rattle.local_object.specs.Local.{heard_place, with_bank_here};
 ghost use Rattle.local_object.specs.ChangedBanks.{kept_bank};
+ghost use Rattle.local_object.specs.KeptBanks.{after_closing, closing, kept_reply};
 ghost use Rattle.local_object.specs.Changing.{place_bytes};
 ghost use Rattle.local_object.specs.Distinct.{IsBankInOrderIfOpen, IsPlaceAt};
 ghost use Rattle.local_object.specs.New.{are_new_places};
 
+use crate::kept_bank::KeptBank;
 use crate::place::Place;
-use bank::{Bank, Reply, Request};
+use bank::{Reply, Request};
 use layout::Layout;
 use letter::SharedLayout;
 use std::alloc::Global;
@@ -88,7 +89,7 @@ impl Places {
     }
 
     /// The bank that the node keeps for a position, if a request has changed it.
-    pub(crate) fn bank_of(&self, position: u32) -> Option<&Bank>
+    pub(crate) fn bank_of(&self, position: u32) -> Option<&KeptBank>
         ensures bank { option_copied result ≡ bank_in (heard_place self.now position) }
         ensures order { IsBankInOrderIfOpen (bank_in (heard_place self.now position)) }
     {
@@ -148,7 +149,7 @@ impl Places {
     }
 
     /// The node's bank for a position serves a request as this member. A bank that this opens is kept if the request
-    /// may change it.
+    /// may change it. Returns none if the bank is closed and declines the request.
     ///
     /// `NoMemory` is the only refusal.
     pub(crate) fn serve(
@@ -157,13 +158,13 @@ impl Places {
         member: u8,
         delta: Option<u32>,
         request: &Request,
-    ) -> Result<Reply, Refusal>
+    ) -> Result<Option<Reply>, Refusal>
         requires known { IsSome (heard_place self.old position) }
         ensures places { OnOk result (self.new ≡ with_bank_here self.old position
             (kept_bank (bank_in (heard_place self.old position)) member delta request.now)) }
 
         ensures reply { IfOk result (λ r. r
-            ≡ reply_to (bank_or_opened (bank_in (heard_place self.old position)) member delta) request.now 0) }
+            ≡ kept_reply (bank_or_opened (bank_in (heard_place self.old position)) member delta) request.now) }
 
         ensures refused { IfErr result (λ e. e ≡ NoMemory) }
     {
@@ -172,6 +173,18 @@ impl Places {
         };
         let alloc = *self.places.allocator();
         self.places[index].serve(alloc, member, delta, request)
+    }
+
+    /// The node closes its bank for a position, which is open and has a final pointer.
+    pub(crate) fn close(&mut self, position: u32)
+        requires open { IsSome (closing (bank_in (heard_place self.old position))) }
+        ensures places { self.new
+            ≡ with_bank_here self.old position (after_closing (bank_in (heard_place self.old position))) }
+    {
+        let Some(index) = place_of(&self.places, u64::from(position)) else {
+            unreachable!();
+        };
+        self.places[index].close();
     }
 }
 

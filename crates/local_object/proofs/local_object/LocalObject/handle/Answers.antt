@@ -1,4 +1,4 @@
-use Rattle.std.proofs.Common.{ap, ◌∙◌}
+use Rattle.std.proofs.Common.{ap, sym, ◌∙◌}
 use Rattle.local_object.specs.ChangedBanks.{kept_bank}
 use Rattle.local_object.specs.Codes.{carried}
 use Rattle.local_object.specs.Events.{served_here}
@@ -14,6 +14,6 @@ returns-clause-sent c =
     let old = bank_in (heard_place o.places letter.message.position) in
     handled_sent local letter c.in-Request.request c.in-Request.is c.serve.new.self
     (kept_bank old letter.message.member o.delta c.in-Request.request)
-    c.kind.result c.in_ok-reply.reply c.in_ok-letter_of.field-0 c.in_ok-reply.ensures.places c.kind.ensures
-    c.in_ok-reply.ensures.reply c.in_ok-letter_of.ensures.letter
+    c.kind.result c.in-Some.reply c.in_ok-letter_of.field-0 c.in_ok-reply.ensures.places c.kind.ensures
+    (sym c.in-Some.is ∙ c.in_ok-reply.ensures.reply) c.in_ok-letter_of.ensures.letter
     ∙ ap (λ (l : LocalObject). (served_here l letter letter.message.body).sent) c.self.view_is

@@ -5,8 +5,8 @@ use Rattle.local_object.proofs.place.Place.serve.Goals as goal
 
 pub invariant_of-self : goal.invariant_of-self
 invariant_of-self c =
-    kept_in_order c.serve_short.result c.in-Some.bank c.serve_short.new.bank c.args.request.now
-    (subst IsBankInOrderIfOpen c.in-Some.is c.self.invariant) c.serve_short.ensures.bank c.serve_short.ensures.unchanged
+    kept_in_order c.serve.result c.in-Some.bank c.serve.new.self c.args.request.now
+    (subst IsBankInOrderIfOpen c.in-Some.is c.self.invariant) c.serve.ensures.bank c.serve.ensures.unchanged
 
 pub invariant_of-self-in-None : goal.invariant_of-self-in-None
 invariant_of-self-in-None c =

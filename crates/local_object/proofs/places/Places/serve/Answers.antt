@@ -1,8 +1,8 @@
 use Rattle.std.proofs.Common.{◌≡◌, Option, IfOk, ap, subst, ◌∙◌}
 use Rattle.std.proofs.lemmas.Result.{on_ok_weaker}
-use Rattle.bank.specs.Bank.{Bank}
-use Rattle.bank.specs.Serve.{reply_to}
+use Rattle.local_object.specs.declared.kept_bank.KeptBank.{KeptBank}
 use Rattle.local_object.specs.ChangedBanks.{kept_bank}
+use Rattle.local_object.specs.KeptBanks.{kept_reply}
 use Rattle.local_object.specs.Local.{bank_in, bank_or_opened, heard_place, with_bank_here}
 use Rattle.local_object.proofs.PlaceLemmas.{bank_is, bank_put, known_set, there_at}
 use Rattle.local_object.proofs.places.Places.serve.Goals as goal
@@ -16,7 +16,7 @@ invariant_of-self c = record {
 
 pub returns-clause-places : goal.returns-clause-places
 returns-clause-places c =
-    let kept : Option Bank → Option Bank = λ o. kept_bank o c.args.member c.args.delta c.args.request.now in
+    let kept : Option KeptBank → Option KeptBank = λ o. kept_bank o c.args.member c.args.delta c.args.request.now in
     on_ok_weaker c.serve.result
     (λ made. bank_put c.deref.ensures.value c.self.view_is c.in-Some.ensures c.index_mut.ensures.value kept c.serve.new.self made
     ∙ ap (λ n. with_bank_here c.args.self.now n (kept (bank_in (heard_place c.args.self.now n)))) c.from.ensures)
@@ -24,7 +24,7 @@ returns-clause-places c =
 
 pub returns-clause-reply : goal.returns-clause-reply
 returns-clause-reply c =
-    subst (λ o. IfOk c.serve.result (λ r. r ≡ reply_to (bank_or_opened o c.args.member c.args.delta) c.args.request.now 0))
+    subst (λ o. IfOk c.serve.result (λ r. r ≡ kept_reply (bank_or_opened o c.args.member c.args.delta) c.args.request.now))
     (bank_is c.deref.ensures.value c.self.view_is c.in-Some.ensures c.index_mut.ensures.value
     ∙ ap (λ n. bank_in (heard_place c.args.self.now n)) c.from.ensures)
     c.serve.ensures.reply

@@ -1,0 +1,19 @@
+use Rattle.std.proofs.Common.{ap, ◌∙◌}
+use Rattle.local_object.specs.KeptBanks.{after_closing}
+use Rattle.local_object.specs.Local.{bank_in, heard_place, with_bank_here}
+use Rattle.local_object.proofs.PlaceLemmas.{bank_put, known_set, there_at}
+use Rattle.local_object.proofs.places.Places.close.Goals as goal
+
+pub invariant_of-self : goal.invariant_of-self
+invariant_of-self c = record {
+  known = known_set 0 c.self.inside.places.items c.in-Some.index c.index_mut.result.now c.close.new.self
+      (there_at c.deref.ensures.value c.self.view_is c.in-Some.ensures c.index_mut.ensures.value) c.close.ensures.same
+      c.self.invariant.known;
+}
+
+pub returns : goal.returns
+returns c = record {
+  places = bank_put c.deref.ensures.value c.self.view_is c.in-Some.ensures c.index_mut.ensures.value after_closing c.close.new.self
+      c.close.ensures.bank
+      ∙ ap (λ n. with_bank_here c.args.self.now n (after_closing (bank_in (heard_place c.args.self.now n)))) c.from.ensures;
+}
