@@ -181,6 +181,9 @@ module _ (fragment : Code) (name : List ℕ) (system : System) (ids : ℕ → Ca
   acted (LocalEvent.GiveUp id) may fed allowed given =
       leads (LocalEvent.GiveUp id) [] may tt (still_used (given_later mine now None within given))
       (quiet (after (LocalEvent.GiveUp id)).now (omega arith))
+  acted (LocalEvent.Close position) may fed allowed given =
+      leads (LocalEvent.Close position) [] may tt (still_used (given_later mine now None within given))
+      (quiet (after (LocalEvent.Close position)).now (omega arith))
   acted (LocalEvent.Answer id) may fed allowed given =
       leads (LocalEvent.Answer id) (map (Notice.Tells name) (told_if (open_call local.calls id))) may tt
       (answered_used (open_call local.calls id) (still_used (given_later mine now None within given)))

@@ -6,16 +6,17 @@ use Rattle.std.proofs.lemmas.Option.{same_Some, slice_get-get_or, slice_get_past
 use Rattle.std.proofs.Math.Seq.{get_or-append_seam}
 use Rattle.layout.specs.Layout.{Layout, IsLawful}
 use Rattle.bank.specs.Bank.{opened_bank}
-use Rattle.bank.specs.Floor.{remembered}
 use Rattle.bank.proofs.RememberedBankLemmas.{remembered-opened}
 use Rattle.record.specs.Records.{no_bank, no_layout}
 use Rattle.soundness.proofs.ListLemmas.{all_push, all_weaker}
 use Rattle.record.specs.Fragments.{Code}
 use Rattle.network.specs.Worlds.{ClusterFile, World, member_bank, known_layouts, new_banks}
 use Rattle.local_object.specs.Local.{LocalObject, bank_here, bank_or_opened, last_position, layout_here, with_heard}
-use Rattle.refinement.specs.Parts.{IsPartOf}
+use Rattle.refinement.specs.Parts.{IsKeptOf, IsPartOf}
 use Rattle.refinement.specs.WellFormed.{HasAsked, IsWellFormed, member_count}
 use Rattle.local_object.proofs.HeardPlaceLemmas.{bank_learnt, layout_learnt, layout_new, layout_stays, no_bank_here}
+use Rattle.starts.proofs.BankRowLemmas.{new_count}
+use Rattle.refinement.proofs.KeptBankLemmas.{kept_as}
 use Rattle.refinement.proofs.LetterLemmas.{in_front}
 use Rattle.local_object.proofs.LastPositionLemmas.{below_last, last_known}
 
@@ -31,10 +32,6 @@ split_push (z ∷ xs) y x (suc i) e = go (split_push xs y x i e)
     go : (slice_get xs i ≡ Some x) ⊎ ((i ≡ length xs) × (y ≡ x)) → (slice_get xs i ≡ Some x) ⊎ ((suc i ≡ suc (length xs)) × (y ≡ x))
     go (inl there) = inl there
     go (inr here) = inr (ap suc here.0, here.1)
-
-pub new_count : (files : ℕ → ClusterFile) (servers : List ℕ) (member : ℕ) → length (new_banks files servers member) ≡ length servers
-new_count files [] member = refl
-new_count files (server ∷ servers) member = ap suc (new_count files servers (suc member))
 
 -- a new bank is one that its node opens
 pub new_bank : (files : ℕ → ClusterFile) (servers : List ℕ) (first member server : ℕ) → slice_get servers member ≡ Some server →
@@ -126,19 +123,20 @@ module _ (fragment : Code) (world : World) (layout : Layout) (formed : IsWellFor
   -- the banks that a node keeps are those of the grown world too
   banks_grown : (other : LocalObject) → IsPartOf world other → (q member : ℕ) (known : Layout) →
       slice_get (known_layouts grown other.node) q ≡ Some known → slice_get known.members member ≡ Some other.node →
-      remembered (member_bank grown q member) ≡ bank_here other q member
+      IsKeptOf (member_bank grown q member) (bank_here other q member)
   banks_grown other part q member known at is = go (known_or_new other.node q known at)
     where
       go : (slice_get (known_layouts world other.node) q ≡ Some known) ⊎ ((q ≡ new_position) × (layout ≡ known)) →
-          remembered (member_bank grown q member) ≡ bank_here other q member
-      go (inl old) = ap remembered (bank_still other.node q member known old) ∙ part.banks q member known old is
+          IsKeptOf (member_bank grown q member) (bank_here other q member)
+      go (inl old) = kept_as (sym (bank_still other.node q member known old)) refl (part.banks q member known old is)
       go (inr new) =
-          ap (λ n. remembered (member_bank grown n member)) new.0
-          ∙ ap remembered (bank_new member other.node (ap (λ (l : Layout). slice_get l.members member) new.1 ∙ is))
-          ∙ ap (λ d. remembered (opened_bank member d 0)) (sym part.delta)
-          ∙ remembered-opened member other.delta 0
-          ∙ ap (λ o. bank_or_opened o member other.delta) (sym (no_bank_here other new_position (unheard other part)))
-          ∙ ap (λ n. bank_here other n member) (sym new.0)
+          kept_as
+          (sym (ap (λ n. member_bank grown n member) new.0
+          ∙ bank_new member other.node (ap (λ (l : Layout). slice_get l.members member) new.1 ∙ is)
+          ∙ ap (λ d. opened_bank member d 0) (sym part.delta)))
+          (ap (λ o. bank_or_opened o member other.delta) (sym (no_bank_here other new_position (unheard other part)))
+          ∙ ap (λ n. bank_here other n member) (sym new.0))
+          (remembered-opened member other.delta 0)
 
   -- the parts of nodes that do not move objects
   pub other_grown : (other : LocalObject) → IsPartOf world other → (other.node ≡ (world.files other.node).mover → ⊥) → IsPartOf grown other
@@ -157,7 +155,8 @@ module _ (fragment : Code) (world : World) (layout : Layout) (formed : IsWellFor
     delta = part.delta;
     layouts = λ q other e. known q other (layout_learnt local new_position layout q other e);
     first = first_still (layout_here local 0) refl part.first;
-    banks = λ q member other at is. banks_grown local part q member other at is ∙ sym (bank_learnt local new_position layout q member);
+    banks = λ q member other at is.
+        kept_as refl (sym (bank_learnt local new_position layout q member)) (banks_grown local part q member other at is);
     calls = part.calls;
     mover = λ moves q other at. heard moves q other (known_or_new local.node q other at);
   }

@@ -65,3 +65,4 @@ node_kept fragment local (LocalEvent.Settle id value) =
     (λ call. silent (record local { calls = with_open (record call { settled = Some value }) local.calls })) (λ call. refl)
 node_kept fragment local (LocalEvent.Answer id) = refl
 node_kept fragment local (LocalEvent.GiveUp id) = refl
+node_kept fragment local (LocalEvent.Close position) = refl

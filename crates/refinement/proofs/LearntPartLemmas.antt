@@ -9,6 +9,7 @@ use Rattle.letter.specs.declared.letter.Letter.{Letter}
 use Rattle.local_object.specs.Local.{LocalObject, layout_here, with_heard, learnt_if}
 use Rattle.local_object.specs.Events.{learnt_from}
 use Rattle.refinement.specs.Parts.{IsPartOf, WasSentAs}
+use Rattle.refinement.proofs.KeptBankLemmas.{kept_as}
 use Rattle.local_object.proofs.HeardPlaceLemmas.{bank_learnt, layout_learnt, layout_stays}
 
 -- the layouts that a node knows are those that node 0 knows
@@ -26,7 +27,8 @@ part_learnt world local position layout part at = record {
   delta = part.delta;
   layouts = λ q other e. go q other (layout_learnt local position layout q other e);
   first = first_still (layout_here local 0) refl part.first;
-  banks = λ q member other there is. part.banks q member other there is ∙ sym (bank_learnt local position layout q member);
+  banks = λ q member other there is.
+      kept_as refl (sym (bank_learnt local position layout q member)) (part.banks q member other there is);
   calls = part.calls;
   mover = λ moves q other there. layout_stays local position layout q other (part.mover moves q other there);
 }

@@ -124,3 +124,24 @@ unchanged fragment world local events formed part =
       now = refl;
       entries = refl;
     }
+
+-- after another number of events, with the same changes
+pub kept_after : (fragment : Code) (world later : World) (after : Outcome) (events more : ℕ) (history : List Entry) →
+    IsKept fragment world later after events history →
+    IsKept fragment world (changed_world later later.calls later.sent later.history (world.now + more)) after more history
+kept_after fragment world later after events more history is =
+    let now = world.now + more in
+    let still = sent_still later later.calls later.sent later.history now (λ message was. was) in record {
+      formed = formed_still later later.calls later.sent later.history now fragment is.formed is.formed.ids is.formed.entries
+          (all_weaker (HasAsked fragment later) (HasAsked fragment (changed_world later later.calls later.sent later.history now))
+          (asked_still later later.calls later.sent later.history now fragment (λ message was. was)) later.calls is.formed.asked);
+      part = part_still later later.calls later.sent later.history now after.local is.part refl;
+      sent = all_weaker (WasSentAs later) (WasSentAs (changed_world later later.calls later.sent later.history now)) still after.sent
+          is.sent;
+      others = λ other apart part.
+          part_still later later.calls later.sent later.history now other (is.others other apart part) refl;
+      kept = λ letter was. still letter (is.kept letter was);
+      files = is.files;
+      now = refl;
+      entries = is.entries;
+    }

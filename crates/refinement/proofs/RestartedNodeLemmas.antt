@@ -21,6 +21,7 @@ use Rattle.refinement.specs.WellFormed.{HasAsked, HasEntry, IsWellFormed}
 use Rattle.local_object.proofs.HeardPlaceLemmas.{no_bank_here}
 use Rattle.open_calls.proofs.CallsOfNodeLemmas.{calls_of, differs, filter_swap, filter_within}
 use Rattle.open_calls.proofs.DistinctCallLemmas.{distinct_filter}
+use Rattle.refinement.proofs.KeptBankLemmas.{kept_as}
 use Rattle.refinement.proofs.PartLemmas.{IsKept, asked_still, changed_world, formed_still, part_still, refined, sent_still}
 
 -- whether a call is there after the node started again
@@ -93,8 +94,8 @@ module _ (fragment : Code) (world : World) (before after : LocalObject)
         ap (λ n. slice_get (known_layouts world n) q) is.node ∙ part.layouts q layout (is.layouts q layout e);
     first = is.first;
     banks = λ q member layout at holds.
-        part.banks q member layout (at_node q layout at) (holds ∙ ap Some is.node)
-        ∙ sym (own_bank q member layout (at_node q layout at) (holds ∙ ap Some is.node));
+        kept_as refl (sym (own_bank q member layout (at_node q layout at) (holds ∙ ap Some is.node)))
+        (part.banks q member layout (at_node q layout at) (holds ∙ ap Some is.node));
     calls = is.calls ∙ ap (filter (λ (c : NodeCall). is_move c.kind)) part.calls
         ∙ sym (filter_swap (λ c. eqb c.node before.node) (stays before.node) (λ c. is_move c.kind) (own_stay before.node) world.calls)
         ∙ ap (λ n. calls_of n (after_restart before.node world.calls)) (sym is.node);

@@ -1,33 +1,39 @@
 -- A node serves a request.
-use Rattle.std.proofs.Common.{◌≡◌, ℕ, suc, ◌<◌, Bool, true, false, eqb, eq-eqb, eqb-true, length, [], ◌∷◌, ◌++◌, Option, Some}
+use Rattle.std.proofs.Common.{◌≡◌, ℕ, suc, ◌<◌, Bool, true, false, eqb, eq-eqb, eqb-true, length, List, [], ◌∷◌, ◌++◌, Option, None, Some}
 use Rattle.std.proofs.Common.{IsSome, is_some, get_or, slice_get, refl, sym, subst, ap, ◌∙◌, arith}
 use Rattle.std.proofs.lemmas.Option.{same_Some}
 use Rattle.layout.specs.Layout.{Layout, IsLawful}
 use Rattle.bank.specs.Bank.{Bank}
-use Rattle.bank.specs.Floor.{remembered}
 use Rattle.bank.specs.Serve.{served_bank, reply_to}
-use Rattle.bank.proofs.RememberedReplyLemmas.{reply-remembered}
-use Rattle.bank.proofs.RememberedStepLemmas.{remembered-served}
+use Rattle.bank.specs.declared.reply.Reply.{Reply}
 use Rattle.bank.specs.declared.request.Request.{Request}
 use Rattle.mail.specs.Message.{answered}
+use Rattle.mail.specs.declared.message.Body.TheVariants as body
 use Rattle.mail.specs.declared.message.Message.{Message}
 use Rattle.soundness.proofs.ListLemmas.{all_get, all_weaker}
 use Rattle.record.specs.Fragments.{Code}
 use Rattle.network.specs.Worlds.{World, member_bank, known_layouts}
-use Rattle.network.specs.Events.{Event, handled_world, served_world}
+use Rattle.network.specs.Events.{Event, handled_world, served_world, world_after}
 use Rattle.letter.specs.declared.letter.Letter.{Letter}
-use Rattle.local_object.specs.ChangedBanks.{bank_after, kept_bank}
+use Rattle.local_object.specs.declared.kept_bank.KeptBank.{KeptBank}
+use Rattle.local_object.specs.ChangedBanks.{kept_bank}
+use Rattle.local_object.specs.KeptBanks.{kept_reply}
 use Rattle.local_object.specs.Local.{LocalObject, bank_here, bank_in, heard_place, with_bank_here}
-use Rattle.local_object.specs.Events.{LocalEvent, handled_here, learnt_from, letter_of, served_here}
+use Rattle.local_object.specs.Events.{LocalEvent, Outcome, handled_here, learnt_from, letter_of, reply_letters, served_here, silent}
 use Rattle.local_object.specs.May.{IsAddressed}
 use Rattle.refinement.specs.Laws.{IsEventOfWorld}
-use Rattle.refinement.specs.Parts.{IsPartOf, WasSentAs}
+use Rattle.refinement.specs.Parts.{IsKeptOf, IsPartOf, WasSentAs}
+use Rattle.refinement.specs.Refined.{IsRefined, if_replied, served_events}
 use Rattle.refinement.specs.WellFormed.{HasAsked, IsWellFormed}
-use Rattle.refinement.proofs.BankRowLemmas.{bank_set_here, bank_set_there, counts_set, has_bank, with_served}
+use Rattle.starts.proofs.BankRowLemmas.{bank_set_here, bank_set_there, counts_set, has_bank, with_served}
 use Rattle.local_object.proofs.OneMemberLemmas.{one_member}
 use Rattle.refinement.proofs.BegunCallLemmas.{ticked}
+use Rattle.refinement.proofs.KeptBankLemmas.{kept_as, kept_declined, kept_on, same_as_whole}
 use Rattle.refinement.proofs.PartLemmas.{IsKept, refined}
+use Rattle.refinement.proofs.TakenLetterLemmas.{still_kept}
 use Rattle.local_object.proofs.UnchangedBankLemmas.{kept_served}
+use Rattle.local_object.proofs.ClosingLemmas.{put_back}
+use Rattle.local_object.proofs.HeardLayoutLemmas.{bank_here_heard}
 use Rattle.local_object.proofs.HeardPlaceLemmas.{bank_with_here, bank_with_there, layout_with}
 use Rattle.refinement.proofs.LetterLemmas.{behind, in_front, letter_was_sent}
 use Rattle.refinement.proofs.LearntPartLemmas.{known_by_all, part_learnt_from}
@@ -67,69 +73,66 @@ module _ (fragment : Code) (world : World) (local : LocalObject) (letter : Lette
     now = suc world.now;
   }
 
-  -- the bank that the node keeps then, if it keeps one
-  abbrev kept : Option Bank
+  -- what the node keeps of its bank then, if it keeps one
+  abbrev kept : Option KeptBank
   kept = kept_bank (bank_in (heard_place local.places letter.message.position)) letter.message.member local.delta asked
 
   abbrev served_local : LocalObject
   served_local = record local { places = with_bank_here local.places letter.message.position kept }
 
-  abbrev bank : Bank
+  abbrev bank : KeptBank
   bank = bank_here local letter.message.position letter.message.member
 
-  -- the world's bank, of which the node keeps what may not be forgotten
+  -- the world's bank, which the node keeps open or closed
   abbrev whole : Bank
   whole = member_bank world letter.message.position letter.message.member
 
-  kept_of_whole : remembered whole ≡ bank
+  kept_of_whole : IsKeptOf whole bank
   kept_of_whole =
       part.banks letter.message.position letter.message.member addressed.0
       (part.layouts letter.message.position addressed.0 addressed.1) addressed.2
 
-  same_reply : reply_to whole asked 0 ≡ reply_to bank asked 0
-  same_reply = sym (reply-remembered whole asked 0) ∙ ap (λ b. reply_to b asked 0) kept_of_whole
-
-  -- the node's own bank is the one that changed
-  own_bank : (q other : ℕ) (layout : Layout) → slice_get (known_layouts world local.node) q ≡ Some layout →
-      slice_get layout.members other ≡ Some local.node →
-      remembered (member_bank (served_to whole) q other) ≡ bank_here served_local q other
-  own_bank q other layout at is = go (eqb letter.message.position q) refl
+  -- the node's own bank is the one that changed, if it answers the request
+  own_bank : (reply : Reply) → kept_reply bank asked ≡ Some reply → (q other : ℕ) (layout : Layout) →
+      slice_get (known_layouts world local.node) q ≡ Some layout → slice_get layout.members other ≡ Some local.node →
+      IsKeptOf (member_bank (served_to whole) q other) (bank_here served_local q other)
+  own_bank reply answers q other layout at is = go (eqb letter.message.position q) refl
     where
-      here : letter.message.position ≡ q → remembered (member_bank (served_to whole) q other) ≡ bank_here served_local q other
+      here : letter.message.position ≡ q → IsKeptOf (member_bank (served_to whole) q other) (bank_here served_local q other)
       here same =
           let member : letter.message.member ≡ other =
           one_member addressed.0 letter.message.member other local.node lawful_there addressed.2
           (ap (λ (l : Layout). slice_get l.members other) (same_layout local.node q layout at same) ∙ is) in
-          ap (λ n. remembered (member_bank (served_to whole) n other)) (sym same)
-          ∙ ap (λ m. remembered (member_bank (served_to whole) letter.message.position m)) (sym member)
-          ∙ ap remembered (bank_set_here world.banks letter.message.position letter.message.member (served_bank whole asked 0) within)
-          ∙ sym (remembered-served whole asked 0)
-          ∙ ap (λ b. bank_after b asked) kept_of_whole
-          ∙ sym (kept_served (bank_in (heard_place local.places letter.message.position)) letter.message.member local.delta asked)
+          kept_as
+          (sym (bank_set_here world.banks letter.message.position letter.message.member (served_bank whole asked 0) within)
+          ∙ ap (member_bank (served_to whole) letter.message.position) member
+          ∙ ap (λ n. member_bank (served_to whole) n other) same)
+          (sym (kept_served (bank_in (heard_place local.places letter.message.position)) letter.message.member local.delta asked)
           ∙ sym (bank_with_here local letter.message.position kept letter.message.member (ap is_some addressed.1))
           ∙ ap (bank_here served_local letter.message.position) member
-          ∙ ap (λ n. bank_here served_local n other) same
+          ∙ ap (λ n. bank_here served_local n other) same)
+          (kept_on whole bank asked reply kept_of_whole answers)
 
-      there : (letter.message.position ≡ q → ⊥) →
-          remembered (member_bank (served_to whole) q other) ≡ bank_here served_local q other
+      there : (letter.message.position ≡ q → ⊥) → IsKeptOf (member_bank (served_to whole) q other) (bank_here served_local q other)
       there apart =
-          ap remembered (bank_set_there world.banks letter.message.position letter.message.member (served_bank whole asked 0) within
-          q other (λ same member. apart same))
-          ∙ part.banks q other layout at is
-          ∙ sym (bank_with_there local letter.message.position kept q other apart)
+          kept_as
+          (sym (bank_set_there world.banks letter.message.position letter.message.member (served_bank whole asked 0) within
+          q other (λ same member. apart same)))
+          (sym (bank_with_there local letter.message.position kept q other apart))
+          (part.banks q other layout at is)
 
       go : (b : Bool) → eqb letter.message.position q ≡ b →
-          remembered (member_bank (served_to whole) q other) ≡ bank_here served_local q other
+          IsKeptOf (member_bank (served_to whole) q other) (bank_here served_local q other)
       go true e = here (eqb-true letter.message.position q e)
       go false e = there (λ same. absurd (let wrong : false ≡ true = sym e ∙ eq-eqb letter.message.position q same in cc))
 
-  served_part : IsPartOf (served_to whole) served_local
-  served_part =
+  served_part : (reply : Reply) → kept_reply bank asked ≡ Some reply → IsPartOf (served_to whole) served_local
+  served_part reply answers =
       let position = letter.message.position in record {
         delta = part.delta;
         layouts = λ q layout e. part.layouts q layout (sym (layout_with local position kept q) ∙ e);
         first = subst IsSome (sym (layout_with local position kept 0)) part.first;
-        banks = own_bank;
+        banks = own_bank reply answers;
         calls = part.calls;
         mover = λ moves q layout at. layout_with local position kept q ∙ part.mover moves q layout at;
       }
@@ -140,20 +143,21 @@ module _ (fragment : Code) (world : World) (local : LocalObject) (letter : Lette
     layouts = is.layouts;
     first = is.first;
     banks = λ q member layout at holds.
-        ap remembered (bank_set_there world.banks letter.message.position letter.message.member (served_bank whole asked 0) within
+        kept_as
+        (sym (bank_set_there world.banks letter.message.position letter.message.member (served_bank whole asked 0) within
         q member
         (λ same here. apart (same_Some other.node local.node
         (sym holds ∙ ap (λ (l : Layout). slice_get l.members member) (sym (same_layout other.node q layout at same))
-        ∙ ap (slice_get addressed.0.members) (sym here) ∙ addressed.2))))
-        ∙ is.banks q member layout at holds;
+        ∙ ap (slice_get addressed.0.members) (sym here) ∙ addressed.2)))))
+        refl (is.banks q member layout at holds);
     calls = is.calls;
     mover = is.mover;
   }
 
-  served_with :
+  served_with : (reply : Reply) → kept_reply bank asked ≡ Some reply →
       IsKept fragment world (served_to whole)
       (record { local = served_local; sent = letter_of local letter.layout (reply_of whole) ∷ [] }) 1 world.history
-  served_with = record {
+  served_with reply answers = record {
     formed = record {
       one = formed.one;
       lawful = formed.lawful;
@@ -167,7 +171,7 @@ module _ (fragment : Code) (world : World) (local : LocalObject) (letter : Lette
             let was = has.asked place message at in (was.0, in_front world.sent (reply_of whole ∷ []) was.0 message was.1);
       }) world.calls formed.asked;
     };
-    part = served_part;
+    part = served_part reply answers;
     sent = (
       letter_was_sent (served_to whole) local letter.layout (reply_of whole)
           (behind world.sent (reply_of whole ∷ []) 0 (reply_of whole) refl)
@@ -185,20 +189,54 @@ module _ (fragment : Code) (world : World) (local : LocalObject) (letter : Lette
     entries = refl;
   }
 
-  pub served_kept :
-      IsKept fragment world (handled_world (ticked world) letter.message asked) (handled_here local letter asked) 1 world.history
-  served_kept =
+  -- after the node served a request, and sent what came of this
+  abbrev answered_here : List Letter → Outcome
+  answered_here sent = record { local = served_local; sent = sent }
+
+  served_kept : (reply : Reply) → kept_reply bank asked ≡ Some reply →
+      IsKept fragment world (handled_world (ticked world) letter.message asked) (answered_here (reply_letters local letter (Some reply))) 1
+      world.history
+  served_kept reply answers =
       subst (λ r. IsKept fragment world (served_to whole)
-      (record { local = served_local; sent = letter_of local letter.layout (answered letter.message r) ∷ [] }) 1 world.history)
-      same_reply served_with
+      (answered_here (letter_of local letter.layout (answered letter.message r) ∷ [])) 1 world.history)
+      (sym (same_as_whole whole bank asked reply kept_of_whole answers)) (served_with reply answers)
+
+  -- a request that the bank declines changes nothing
+  declined_here : kept_reply bank asked ≡ None → served_local ≡ local
+  declined_here declines =
+      let old = bank_in (heard_place local.places letter.message.position) in
+      ap (λ o. record local { places = with_bank_here local.places letter.message.position o })
+      (kept_declined old letter.message.member local.delta asked declines)
+      ∙ ap (λ ps. record local { places = ps }) (put_back local.places letter.message.position)
+
+  abbrev IsRequestOfWorld : List Event → Outcome → Type 0
+  IsRequestOfWorld events outcome =
+      IsRefined fragment world events outcome × ((world_after fragment events world).history ≡ world.history)
+
+  pub request_refined : letter.message.body ≡ body.Request asked →
+      IsRequestOfWorld (if_replied (kept_reply bank asked) (Event.Serve letter.message)) (handled_here local letter asked)
+  request_refined is = go (kept_reply bank asked) refl
+    where
+      go : (o : Option Reply) → kept_reply bank asked ≡ o →
+          IsRequestOfWorld (if_replied o (Event.Serve letter.message)) (answered_here (reply_letters local letter o))
+      go None e =
+          refined fragment world [] world (silent local) (answered_here []) world.history refl (ap silent (sym (declined_here e))) tt
+          (still_kept fragment world local formed part)
+      go (Some reply) e =
+          refined fragment world (Event.Serve letter.message ∷ []) (handled_world (ticked world) letter.message asked)
+          (answered_here (reply_letters local letter (Some reply))) (answered_here (reply_letters local letter (Some reply)))
+          world.history (ap (served_world (ticked world) letter.message) (sym is)) refl
+          ((asked, is), record { network = was.sent; log = tt; ids = tt }, tt) (served_kept reply e)
 
 pub serve_refined : (letter : Letter) → IsEventOfWorld (LocalEvent.Serve letter)
 serve_refined letter fragment world local formed part may premised =
     let next = learnt_from local letter in
     let asked = may.0.0 in
     let known = part_learnt_from world local letter formed.one part premised in
-    refined fragment world (Event.Serve letter.message ∷ []) (handled_world (ticked world) letter.message asked)
-    (handled_here next letter asked) (served_here next letter letter.message.body) world.history
-    (ap (served_world (ticked world) letter.message) (sym may.0.1)) (ap (served_here next letter) (sym may.0.1))
-    (may.0, record { network = premised.sent; log = tt; ids = tt }, tt)
-    (served_kept fragment world next letter asked formed known premised may.1)
+    subst (λ b. IsRefined fragment world (served_events local letter b) (served_here next letter b)
+    × ((world_after fragment (served_events local letter b) world).history ≡ world.history)) (sym may.0.1)
+    (subst (λ bank. IsRefined fragment world (if_replied (kept_reply bank asked) (Event.Serve letter.message))
+    (handled_here next letter asked)
+    × ((world_after fragment (if_replied (kept_reply bank asked) (Event.Serve letter.message)) world).history ≡ world.history))
+    (bank_here_heard local letter letter.message.position letter.message.member)
+    (request_refined fragment world next letter asked formed known premised may.1 may.0.1))

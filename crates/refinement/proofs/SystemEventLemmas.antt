@@ -55,6 +55,7 @@ module _ (fragment : Code) (world : World) (system : System) (formed : IsWellFor
   premised_there node (LocalEvent.Settle id value) premised = tt
   premised_there node (LocalEvent.Answer id) premised = tt
   premised_there node (LocalEvent.GiveUp id) premised = tt
+  premised_there node (LocalEvent.Close position) premised = tt
 
   -- what each node keeps after one of them changed
   nodes_after : (node : ℕ) (local : LocalObject) → local.node ≡ node → (other : ℕ) →

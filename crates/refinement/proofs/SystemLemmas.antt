@@ -11,14 +11,15 @@ use Rattle.network.specs.Worlds.{ClusterFile, World, member_bank, known_layouts,
 use Rattle.network.specs.Events.{world_after}
 use Rattle.network.specs.Premises.{IsOneFile}
 use Rattle.local_object.specs.Local.{LocalObject, Place, bank_here, layout_here, layout_in, new_local}
-use Rattle.refinement.specs.Parts.{IsPartOf}
+use Rattle.refinement.specs.Parts.{IsKeptOf, IsPartOf}
 use Rattle.refinement.specs.Systems.{IsWorldOf, MayRunIn, System, SystemEvent, opened_system, system_after}
 use Rattle.refinement.specs.Systems.{system_run}
 use Rattle.refinement.specs.WellFormed.{IsWellFormed}
 use Rattle.open_calls.proofs.CallsOfNodeLemmas.{differs}
 use Rattle.refinement.proofs.EventRunLemmas.{HasWorld, then_world}
 use Rattle.refinement.proofs.SystemEventLemmas.{one_event}
-use Rattle.refinement.proofs.GrownWorldLemmas.{new_bank, new_count}
+use Rattle.starts.proofs.BankRowLemmas.{new_count}
+use Rattle.refinement.proofs.GrownWorldLemmas.{new_bank}
 
 all_events : (fragment : Code) (events : List SystemEvent) (world : World) (system : System) → IsWellFormed fragment world →
     IsWorldOf world system → MayRunIn fragment events system → HasWorld fragment world (system_run fragment events system)
@@ -66,7 +67,7 @@ module _ (files : ℕ → ClusterFile) (one : IsOneFile files) where
 
       banks : (q member : ℕ) (layout : Layout) → slice_get (known_layouts (opened_world files) node) q ≡ Some layout →
           slice_get layout.members member ≡ Some node →
-          remembered (member_bank (opened_world files) q member) ≡ bank_here (opened_local node) q member
+          IsKeptOf (member_bank (opened_world files) q member) (bank_here (opened_local node) q member)
       banks zero member layout at holds =
           let same : 0 + member ≡ member = omega arith in
           let there : slice_get (files 0).first.members member ≡ Some node =

@@ -5,7 +5,6 @@ use Rattle.std.proofs.lemmas.Option.{get_or_from_slice_get}
 use Rattle.tag.specs.declared.tag.Tag.{Tag}
 use Rattle.layout.specs.Layout.{Layout}
 use Rattle.piece.specs.declared.piece.Piece.{Piece}
-use Rattle.bank.specs.Bank.{Bank, piece_of}
 use Rattle.bank.proofs.RememberedReplyLemmas.{piece_left}
 use Rattle.record.specs.Fragments.{Code, IsFragment}
 use Rattle.record.specs.Records.{no_layout}
@@ -13,10 +12,12 @@ use Rattle.soundness.proofs.ListLemmas.{all_get}
 use Rattle.network.specs.Worlds.{World, known_layouts, member_bank}
 use Rattle.network.specs.Laws.{IsPieceOf, IsValueOf, KeepsValues}
 use Rattle.network.proofs.WorldLawLemmas.{values_kept}
+use Rattle.local_object.specs.Local.{bank_here}
 use Rattle.refinement.specs.Laws.{SystemsKeepValues}
 use Rattle.refinement.specs.Parts.{WasSentAs}
 use Rattle.refinement.specs.Systems.{IsWorldOf, System}
 use Rattle.refinement.specs.SystemValues.{IsPieceIn, IsValueIn, KeepsValuesIn}
+use Rattle.refinement.proofs.KeptBankLemmas.{piece_of_kept}
 use Rattle.refinement.proofs.SystemLawLemmas.{reached_with}
 
 -- a tag has the same values by the world and by its history
@@ -59,7 +60,7 @@ module _ (fragment : Code) (world : World) (system : System) (is : IsWorldOf wor
         let same = part.banks position member layout at (holds ∙ ap Some (sym (is.nodes node))) in
         piece_there local.node position member layout tag piece at
         (keeps.banks local.node position member tag piece (piece_left (member_bank world position member) tag piece
-        (ap (λ (b : Bank). piece_of b tag) same ∙ has)));
+        (piece_of_kept (member_bank world position member) (bank_here local position member) tag piece same has)));
     letters = λ letter tag piece posted tagged carries.
         let sent = all_get (WasSentAs world) system.letters posted.0 letter is.letters posted.1 in
         piece_there 0 letter.message.position letter.message.member letter.layout tag piece sent.layout

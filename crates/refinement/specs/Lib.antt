@@ -4,6 +4,7 @@ pub mod Refined
 pub mod Systems
 pub mod SystemValues
 pub mod Laws
+pub mod Starting
 pub mod Clusters
 pub mod Premises
 pub mod Histories

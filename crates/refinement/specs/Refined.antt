@@ -2,6 +2,9 @@
 -- Which events of the world an event at a node is, and when the world after them agrees with what all nodes keep.
 use Rattle.std.specs.Prelude.{◌≡◌, ◌≢◌, ◌+◌, ℕ, List, [], ◌∷◌, ◌++◌, length, map, Option, None, Some}
 use Rattle.std.specs.List.{AllByRecursion}
+use Rattle.bank.specs.declared.reply.Reply.{Reply}
+use Rattle.mail.specs.declared.message.Body.{Body}
+use Rattle.mail.specs.declared.message.Body.TheVariants as body
 use Rattle.record.specs.declared.call.CallKind.{CallKind}
 use Rattle.record.specs.declared.call.CallKind.TheVariants.{Read, Write, Move}
 use Rattle.record.specs.declared.call.Entry.{Entry}
@@ -12,7 +15,8 @@ use Rattle.open_calls.specs.OpenCalls.{NodeCall, open_call}
 use Rattle.network.specs.Events.{Event, world_after, answered_entry}
 use Rattle.network.specs.Premises.{IsUnused, MayHappenInTurn}
 use Rattle.letter.specs.declared.letter.Letter.{Letter}
-use Rattle.local_object.specs.Local.{LocalObject}
+use Rattle.local_object.specs.KeptBanks.{kept_reply}
+use Rattle.local_object.specs.Local.{LocalObject, bank_here}
 use Rattle.local_object.specs.Events.{LocalEvent, Outcome}
 use Rattle.refinement.specs.Parts.{IsPartOf, WasSentAs}
 use Rattle.refinement.specs.WellFormed.{IsWellFormed}
@@ -22,19 +26,33 @@ abbrev pub if_carried : Option NodeCall → Event → List Event
 if_carried None event = []
 if_carried (Some call) event = event ∷ []
 
+-- the event, if there is a reply
+abbrev pub if_replied : Option Reply → Event → List Event
+if_replied None event = []
+if_replied (Some reply) event = event ∷ []
+
+-- the events of the world that it is if the node serves a letter with this body: none if its bank is closed and
+-- declines the request, which then counts as lost
+abbrev pub served_events : LocalObject → Letter → Body → List Event
+served_events local letter (body.Request asked) =
+    if_replied (kept_reply (bank_here local letter.message.position letter.message.member) asked)
+    (Event.Serve letter.message)
+served_events local letter (body.Reply kind made) = []
+
 -- the events of the world that an event at a node is: one; or none if the node takes a reply to a call that it does not
--- carry out, or gives such a call up
+-- carry out, gives such a call up, serves a request that its bank declines, or closes a bank
 abbrev pub world_events : LocalObject → LocalEvent → List Event
 world_events local (LocalEvent.BeginRead id) = Event.BeginRead local.node id ∷ []
 world_events local (LocalEvent.BeginWrite id value) = Event.BeginWrite local.node id value ∷ []
 world_events local (LocalEvent.BeginMove id layout) = Event.BeginMove local.node id layout ∷ []
 world_events local (LocalEvent.Advance id) = Event.Advance id ∷ []
-world_events local (LocalEvent.Serve letter) = Event.Serve letter.message ∷ []
+world_events local (LocalEvent.Serve letter) = served_events local letter letter.message.body
 world_events local (LocalEvent.Take letter) =
     if_carried (open_call local.calls letter.message.call) (Event.Take letter.message)
 world_events local (LocalEvent.Settle id value) = Event.Settle id value ∷ []
 world_events local (LocalEvent.Answer id) = Event.Answer id ∷ []
 world_events local (LocalEvent.GiveUp id) = if_carried (open_call local.calls id) (Event.GiveUp id)
+world_events local (LocalEvent.Close position) = []
 
 -- what is assumed of an event at a node: a letter is one that was sent, the id of a call is new, and only the node that
 -- moves objects begins a move

@@ -1,5 +1,5 @@
 -- Which values tags have according to the history of the calls, and that nodes keep and send fragments of these values.
-use Rattle.std.specs.Prelude.{◌≡◌, ◌<◌, ◌⊎◌, ℕ, List, [], Option, Some, IsSome, slice_get}
+use Rattle.std.specs.Prelude.{◌≡◌, ◌<◌, ◌⊎◌, ℕ, List, [], Option, None, Some, IsSome, slice_get}
 use Rattle.std.specs.List.{AllByRecursion}
 use Rattle.tag.specs.declared.tag.Tag.{Tag}
 use Rattle.tag.specs.Tag.{opening_tag}
@@ -12,6 +12,8 @@ use Rattle.record.specs.Fragments.{Code, IsFragment, body_piece, body_tag}
 use Rattle.record.specs.Journals.{entry_value, operation_of}
 use Rattle.open_calls.specs.OpenCalls.{NodeCall}
 use Rattle.letter.specs.declared.letter.Letter.{Letter}
+use Rattle.local_object.specs.declared.kept_bank.KeptBank.{KeptBank}
+use Rattle.local_object.specs.declared.kept_bank.KeptBank.TheVariants as kept
 use Rattle.local_object.specs.Local.{bank_here, layout_here}
 use Rattle.refinement.specs.Systems.{System, WasPosted}
 
@@ -35,13 +37,18 @@ abbrev pub IsPieceIn : Code → List Entry → Layout → (member : ℕ) → Tag
 IsPieceIn fragment history layout member tag piece =
     (value : List ℕ) × IsValueIn history tag value × IsFragment fragment layout member value piece
 
+-- the piece of a tag in a bank that a node keeps, if there is one; a closed bank has none
+abbrev pub kept_piece : KeptBank → Tag → Option Piece
+kept_piece (kept.Open bank) tag = piece_of bank tag
+kept_piece (kept.Closed closed) tag = None
+
 -- a tag has one value; each piece in a bank that a node keeps, and each piece in a letter ever sent, is its member's
 -- fragment of its tag's value; and each answered read of the history returned the value of a tag
 pub record KeepsValuesIn (fragment : Code) (system : System) : Type 0 where
   pub unique : (tag : Tag) (v w : List ℕ) → IsValueIn system.history tag v → IsValueIn system.history tag w → v ≡ w
   pub banks : (node position member : ℕ) (layout : Layout) (tag : Tag) (piece : Piece) →
       layout_here (system.objects node) position ≡ Some layout → slice_get layout.members member ≡ Some node →
-      piece_of (bank_here (system.objects node) position member) tag ≡ Some piece →
+      kept_piece (bank_here (system.objects node) position member) tag ≡ Some piece →
       IsPieceIn fragment system.history layout member tag piece
   pub letters : (letter : Letter) (tag : Tag) (piece : Piece) → WasPosted system letter →
       body_tag letter.message.body ≡ Some tag → body_piece letter.message.body ≡ Some piece →

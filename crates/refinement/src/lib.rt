@@ -11,6 +11,7 @@ pub use clusters::{
 pub use events::{
     local_events_are_world_events, resent_letters_were_sent, restarts_are_world_events,
 };
+pub use starting::{start_events_are_world_events, starts_grow};
 pub use systems::{
     answered_reads_have_values, answers_are_in_history, events_in_a_row_are_events,
     systems_are_atomic, systems_have_worlds, systems_keep_values,
@@ -18,4 +19,5 @@ pub use systems::{
 
 mod clusters;
 mod events;
+mod starting;
 mod systems;
