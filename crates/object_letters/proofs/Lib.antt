@@ -1,3 +1,4 @@
+pub mod ClosedCopyLemmas
 pub mod HearingLemmas
 pub mod LateDroppingLemmas
 pub mod LeadableLemmas

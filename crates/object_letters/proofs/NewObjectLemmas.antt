@@ -5,6 +5,7 @@ use Rattle.std.specs.List.{filter, list_any}
 use Rattle.layout.specs.Layout.{Layout}
 use Rattle.bank.specs.Bank.{opened_bank}
 use Rattle.record.specs.Legal.{is_move}
+use Rattle.local_object.specs.declared.kept_bank.KeptBank.TheVariants as kept
 use Rattle.local_object.specs.Doing.{is_moving}
 use Rattle.local_object.specs.Local.{LocalObject, bank_in, bank_or_opened, layout_here, layout_in, new_local}
 use Rattle.open_calls.specs.OpenCalls.{NodeCall}
@@ -44,6 +45,6 @@ new_blank moves local first here still alone = record {
 
     no_bank : (q member : ℕ) (b : Bool)
         → bank_or_opened (bank_in (cond b (Some (record { position = 0; layout = first; bank = None })) None)) member local.delta
-        ≡ opened_bank member local.delta 0
+        ≡ kept.Open (opened_bank member local.delta 0)
     no_bank q member true = refl
     no_bank q member false = refl

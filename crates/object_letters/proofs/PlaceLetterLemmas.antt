@@ -4,20 +4,22 @@ use Rattle.std.proofs.Common.{Option, Some, None, MatchOption, slice_get, refl, 
 use Rattle.std.specs.List.{AllByRecursion, position}
 use Rattle.std.proofs.lemmas.Option.{same_Some, get_or_from_slice_get, slice_get_within}
 use Rattle.layout.specs.Layout.{Layout, IsLawful}
-use Rattle.bank.specs.Bank.{Bank, opened_bank}
+use Rattle.bank.specs.Bank.{opened_bank}
+use Rattle.closed_bank.specs.Restore.{requests_to_closed}
+use Rattle.local_object.specs.declared.kept_bank.KeptBank.{KeptBank}
+use Rattle.local_object.specs.declared.kept_bank.KeptBank.TheVariants as kept
 use Rattle.object_letters.specs.Reached.{after_requests}
-use Rattle.object_letters.specs.Requests.{requests_to}
+use Rattle.object_letters.specs.Requests.{requests_for, requests_to}
 use Rattle.object_letters.proofs.LeadingLemmas.{requests_lead}
 use Rattle.letter.specs.declared.letter.Letter.{Letter}
-use Rattle.local_object.specs.Local.{LocalObject, Place, bank_here, bank_in, bank_or_opened, layout_here, layout_in, heard_place}
+use Rattle.local_object.specs.Local.{LocalObject, Place, bank_here, layout_here, layout_in, heard_place}
 use Rattle.local_object.proofs.FoundLemmas.{IsFirst, FailsBelow, first_of, element}
-use Rattle.local_object.specs.Restarts.{IsKeptHere}
 use Rattle.local_object.proofs.OneMemberLemmas.{one_member}
 use Rattle.open_calls.proofs.CallsOfNodeLemmas.{differs}
 use Rattle.object_letters.specs.Letters.{after_letter, after_letters, bank_letters, letter_to, letters_to, place_letters, places_letters}
 use Rattle.object_letters.specs.Leading.{HasNextPosition}
 use Rattle.object_letters.specs.Laws.{IsBlankOf}
-use Rattle.object_letters.specs.Rebuildable.{HaveApartPositions, AreElsewhere, IsOwnIfOpen, IsOwnPlace, IsRebuildable}
+use Rattle.object_letters.specs.Rebuildable.{HaveApartPositions, AreElsewhere, IsOwnIfOpen, IsOwnKept, IsOwnPlace, IsRebuildable}
 use Rattle.object_letters.proofs.ServedCopyLemmas.{IsTowards, all_served}
 
 -- Lists
@@ -86,38 +88,57 @@ member_found layout node member lawful named =
 
 -- One place
 
+-- the bank to which the letters lead, of a place of which this is kept: it is open, and closes to a closed one
+abbrev pub led_bank : Option KeptBank → (member : ℕ) → (delta : Option ℕ) → KeptBank
+led_bank None member delta = kept.Open (opened_bank member delta 0)
+led_bank (Some (kept.Open bank)) member delta = kept.Open bank
+led_bank (Some (kept.Closed closed)) member delta = kept.Open (after_requests (opened_bank member delta 0) (requests_to_closed closed))
+
+-- the member that the node is
+own_member : (node : ℕ) (delta : Option ℕ) (place : Place) (bank : KeptBank) → IsOwnKept node delta place bank
+    → (member : ℕ) × (slice_get place.layout.members member ≡ Some node)
+    × (kept.Open (after_requests (opened_bank member delta 0) (requests_for bank)) ≡ led_bank (Some bank) member delta)
+own_member node delta place (kept.Open bank) own = (
+  own.member,
+  own.named,
+  ap (λ b. kept.Open b) (ap (λ d. after_requests (opened_bank own.member d 0) (requests_to bank)) (sym own.limited)
+      ∙ requests_lead own.member bank own.reached),
+)
+own_member node delta place (kept.Closed closed) own = (own.0, own.1, refl)
+
 module _ (moves : Type 0) (local : LocalObject) where
   pub record IsPlaced (place : Place) (copy after : LocalObject) : Type 0 where
     pub towards : IsTowards moves local after
     pub own : (j : ℕ) → slice_get place.layout.members j ≡ Some local.node
-        → bank_here after place.position j ≡ bank_or_opened place.bank j local.delta
+        → bank_here after place.position j ≡ led_bank place.bank j local.delta
     pub others : (q j : ℕ) → (place.position ≡ q → ⊥) → bank_here after q j ≡ bank_here copy q j
 
   module _ (place : Place) (lawful : IsLawful place.layout) (room : HasNextPosition place)
       (known : layout_here local place.position ≡ Some place.layout) (copy : LocalObject) (towards : IsTowards moves local copy)
-      (fresh : (j : ℕ) → bank_here copy place.position j ≡ opened_bank j local.delta 0) where
-    bank_placed : (o : Option Bank) → place.bank ≡ o → IsOwnIfOpen local.node local.delta place o
+      (fresh : (j : ℕ) → bank_here copy place.position j ≡ kept.Open (opened_bank j local.delta 0)) where
+    bank_placed : (o : Option KeptBank) → place.bank ≡ o → IsOwnIfOpen local.node local.delta place o
         → IsPlaced place copy (after_letters copy (bank_letters local.places place
         (position (λ server. eqb server local.node) place.layout.members) o))
     bank_placed None e own = record {
       towards = towards;
-      own = λ j named. fresh j ∙ ap (λ o. bank_or_opened o j local.delta) (sym e);
+      own = λ j named. fresh j ∙ ap (λ o. led_bank o j local.delta) (sym e);
       others = λ q j apart. refl;
     }
-    bank_placed (Some bank) e own = subst (λ o. IsPlaced place copy (after_letters copy (bank_letters local.places place o (Some bank))))
-        (sym (member_found place.layout local.node own.member lawful own.named)) (
-        let served = all_served moves local place own.member known own.named room copy towards (requests_to bank) in record {
+    bank_placed (Some bank) e own =
+        let is = own_member local.node local.delta place bank own in
+        let member = is.0 in
+        let qs = requests_for bank in
+        subst (λ o. IsPlaced place copy (after_letters copy (bank_letters local.places place o (Some bank))))
+        (sym (member_found place.layout local.node member lawful is.1)) (
+        let served = all_served moves local place member known is.1 room copy towards qs in record {
           towards = served.towards;
           own = λ j named.
-              let same : own.member ≡ j = one_member place.layout own.member j local.node lawful own.named named in
-              let fold : bank_here (after_letters copy (map (letter_to local.places place own.member) (requests_to bank)))
-              place.position own.member ≡ bank =
-              served.bank ∙ ap (λ (b : Bank). after_requests b (requests_to bank)) (fresh own.member)
-              ∙ ap (λ d. after_requests (opened_bank own.member d 0) (requests_to bank)) (sym own.limited)
-              ∙ requests_lead own.member bank own.reached in
-              ap (bank_here (after_letters copy (map (letter_to local.places place own.member) (requests_to bank))) place.position)
-              (sym same)
-              ∙ fold ∙ ap (λ o. bank_or_opened o j local.delta) (sym e);
+              let same : member ≡ j = one_member place.layout member j local.node lawful is.1 named in
+              let after = after_letters copy (map (letter_to local.places place member) qs) in
+              ap (bank_here after place.position) (sym same)
+              ∙ served.bank (opened_bank member local.delta 0) (fresh member) ∙ is.2
+              ∙ ap (λ n. led_bank (Some bank) n local.delta) same
+              ∙ ap (λ o. led_bank o j local.delta) (sym e);
           others = served.others;
         })
 
@@ -128,16 +149,16 @@ module _ (moves : Type 0) (local : LocalObject) where
 -- All places
 
 module _ (moves : Type 0) (local : LocalObject) where
-  -- the copy has the bank of the place, as the member that the node is
-  abbrev HasBank : LocalObject → Place → Type 0
-  HasBank copy place = (j : ℕ) → slice_get place.layout.members j ≡ Some local.node
-      → bank_here copy place.position j ≡ bank_or_opened place.bank j local.delta
+  -- the copy has the bank to which the letters to the place lead, as the member that the node is
+  abbrev pub HasLed : LocalObject → Place → Type 0
+  HasLed copy place = (j : ℕ) → slice_get place.layout.members j ≡ Some local.node
+      → bank_here copy place.position j ≡ led_bank place.bank j local.delta
 
   abbrev IsKnown : Place → Type 0
   IsKnown place = layout_here local place.position ≡ Some place.layout
 
   abbrev IsFresh : LocalObject → Place → Type 0
-  IsFresh copy place = (j : ℕ) → bank_here copy place.position j ≡ opened_bank j local.delta 0
+  IsFresh copy place = (j : ℕ) → bank_here copy place.position j ≡ kept.Open (opened_bank j local.delta 0)
 
   still_fresh : (first : Place) (copy after : LocalObject)
       → ((q j : ℕ) → (first.position ≡ q → ⊥) → bank_here after q j ≡ bank_here copy q j)
@@ -151,7 +172,7 @@ module _ (moves : Type 0) (local : LocalObject) where
 
   pub record ArePlaced (places : List Place) (copy after : LocalObject) : Type 0 where
     pub towards : IsTowards moves local after
-    pub own : AllByRecursion (HasBank after) places
+    pub own : AllByRecursion (HasLed after) places
     pub others : (q j : ℕ) → AreElsewhere q places → bank_here after q j ≡ bank_here copy q j
 
   all_placed : (places : List Place) → HaveApartPositions places → AllByRecursion (IsOwnPlace local.node local.delta) places
@@ -172,10 +193,10 @@ module _ (moves : Type 0) (local : LocalObject) where
         others = λ q j elsewhere. rest.others q j elsewhere.1 ∙ one.others q j elsewhere.0;
       })
 
-  -- letters lead back
-  pub letters_lead : (copy : LocalObject) → IsRebuildable local → AllByRecursion HasNextPosition local.places
-      → IsBlankOf moves local copy → IsKeptHere moves local (after_letters copy (letters_to local))
-  letters_lead copy rebuildable room blank =
+  -- letters lead to all places
+  pub letters_placed : (copy : LocalObject) → IsRebuildable local → AllByRecursion HasNextPosition local.places
+      → IsBlankOf moves local copy → ArePlaced local.places copy (after_letters copy (letters_to local))
+  letters_placed copy rebuildable room blank =
       let found = all_found local.places rebuildable.apart in
       let known = all_map {P = λ place. heard_place local.places place.position ≡ Some place} {Q = IsKnown}
       (λ place e. ap layout_in e) local.places found in
@@ -189,25 +210,4 @@ module _ (moves : Type 0) (local : LocalObject) where
       } in
       let fresh = all_map {P = λ place. heard_place local.places place.position ≡ Some place} {Q = IsFresh copy}
       (λ place _ j. blank.banks place.position j) local.places found in
-      let all = all_placed local.places rebuildable.apart rebuildable.places room known copy towards fresh in
-      let after = after_letters copy (letters_to local) in record {
-        node = all.towards.node;
-        delta = all.towards.delta;
-        layouts = all.towards.layouts;
-        first = all.towards.first;
-        banks = λ q j layout heard named. banks after all.own q j layout heard named (heard_place local.places q) refl;
-        calls = all.towards.calls;
-        mover = all.towards.mover;
-      }
-    where
-      banks : (after : LocalObject) → AllByRecursion (HasBank after) local.places → (q j : ℕ) (layout : Layout)
-          → layout_here local q ≡ Some layout → slice_get layout.members j ≡ Some local.node
-          → (o : Option Place) → heard_place local.places q ≡ o → bank_here after q j ≡ bank_here local q j
-      banks after own q j layout heard named None e =
-          absurd (let wrong : None ≡ Some layout = sym (ap layout_in e) ∙ heard in cc)
-      banks after own q j layout heard named (Some place) e =
-          let there = at_place (HasBank after) local.places q place own e in
-          let same : place.layout ≡ layout = same_Some place.layout layout (sym (ap layout_in e) ∙ heard) in
-          ap (λ n. bank_here after n j) (sym there.1)
-          ∙ there.0 j (ap (λ (l : Layout). slice_get l.members j) same ∙ named)
-          ∙ ap (λ o. bank_or_opened (bank_in o) j local.delta) (sym e)
+      all_placed local.places rebuildable.apart rebuildable.places room known copy towards fresh

@@ -1,11 +1,14 @@
 -- Whatever a node does with an object, its banks came to be by requests to the node.
 use Rattle.std.proofs.Common.{◌≡◌, ◌≢◌, ℕ, suc, Bool, true, false, cond, eqb, eq-eqb, List, [], ◌∷◌, ◌++◌}
-use Rattle.std.proofs.Common.{Option, Some, None, slice_get, refl, sym, subst, ap, ◌∙◌}
+use Rattle.std.proofs.Common.{Option, Some, None, IsSome, slice_get, refl, sym, subst, ap, ◌∙◌}
 use Rattle.std.specs.List.{AllByRecursion}
 use Rattle.std.proofs.lemmas.Option.{same_Some}
 use Rattle.layout.specs.Layout.{Layout, IsLawful}
 use Rattle.encoder.specs.Fragment.{fragment}
-use Rattle.bank.specs.Bank.{Bank, opened_bank}
+use Rattle.bank.specs.Bank.{opened_bank}
+use Rattle.closed_bank.specs.ClosedBank.{ClosedBank, closed_of}
+use Rattle.local_object.specs.declared.kept_bank.KeptBank.{KeptBank}
+use Rattle.local_object.specs.declared.kept_bank.KeptBank.TheVariants as kept
 use Rattle.bank.specs.declared.kind.Kind.{Kind}
 use Rattle.bank.specs.declared.request.Request.{Request}
 use Rattle.object_letters.specs.Reached.{IsReachedBank}
@@ -16,15 +19,17 @@ use Rattle.record.specs.declared.call.CallKind.{CallKind}
 use Rattle.record.specs.declared.stage.Stage.{Stage}
 use Rattle.open_calls.specs.OpenCalls.{NodeCall, due_phase, open_call, with_open, taking_open}
 use Rattle.letter.specs.declared.letter.Letter.{Letter}
-use Rattle.local_object.specs.ChangedBanks.{bank_after, changes_bank, kept_bank}
+use Rattle.local_object.specs.ChangedBanks.{bank_after, changes_bank, kept_after, kept_bank}
+use Rattle.local_object.specs.KeptBanks.{after_closing, closed_or, closing}
 use Rattle.local_object.specs.Local.{LocalObject, Place, added_place, bank_in, bank_or_opened, last_position}
 use Rattle.local_object.specs.Local.{layout_here, layout_in, with_heard, learnt_if, new_local, heard_place, with_bank_here}
-use Rattle.local_object.specs.Events.{LocalEvent, Outcome, advanced_at, advanced_here, begun_here, done_here, learnt_from, on_open_call}
+use Rattle.local_object.specs.Events.{LocalEvent, Outcome, advanced_at, advanced_here, begun_here, closed_here, done_here, learnt_from}
+use Rattle.local_object.specs.Events.{on_open_call}
 use Rattle.local_object.specs.Events.{served_here, silent}
 use Rattle.local_object.specs.May.{MayHappenHere}
 use Rattle.local_object.proofs.OneMemberLemmas.{one_member}
 use Rattle.object_letters.specs.Rebuildable.{HaveApartPositions, AreElsewhere, HasLawfulLayouts, IsFit, IsLawfulIfThere, IsOwnBank}
-use Rattle.object_letters.specs.Rebuildable.{IsOwnIfOpen}
+use Rattle.object_letters.specs.Rebuildable.{IsOwnIfOpen, IsOwnKept}
 use Rattle.object_letters.specs.Rebuildable.{IsOwnPlace, IsRebuildable}
 use Rattle.object_letters.proofs.PlaceLetterLemmas.{at_place}
 
@@ -85,7 +90,7 @@ letter_rebuildable local letter lawful is =
 
 -- A bank changes
 
-elsewhere_with : (q p : ℕ) (bank : Option Bank) (places : List Place) → AreElsewhere q places
+elsewhere_with : (q p : ℕ) (bank : Option KeptBank) (places : List Place) → AreElsewhere q places
     → AreElsewhere q (with_bank_here places p bank)
 elsewhere_with q p bank [] elsewhere = tt
 elsewhere_with q p bank (place ∷ places) elsewhere = go (eqb place.position p) (elsewhere_with q p bank places elsewhere.1)
@@ -95,7 +100,7 @@ elsewhere_with q p bank (place ∷ places) elsewhere = go (eqb place.position p)
     go true rest = elsewhere
     go false rest = (elsewhere.0, rest)
 
-apart_with : (p : ℕ) (bank : Option Bank) (places : List Place) → HaveApartPositions places
+apart_with : (p : ℕ) (bank : Option KeptBank) (places : List Place) → HaveApartPositions places
     → HaveApartPositions (with_bank_here places p bank)
 apart_with p bank [] apart = tt
 apart_with p bank (place ∷ places) apart = go (eqb place.position p) (apart_with p bank places apart.1)
@@ -105,7 +110,7 @@ apart_with p bank (place ∷ places) apart = go (eqb place.position p) (apart_wi
     go true rest = apart
     go false rest = (elsewhere_with place.position p bank places apart.0, rest)
 
-all_with : (P : Place → Type 0) (p : ℕ) (bank : Option Bank) (places : List Place) (found : Place) → heard_place places p ≡ Some found
+all_with : (P : Place → Type 0) (p : ℕ) (bank : Option KeptBank) (places : List Place) (found : Place) → heard_place places p ≡ Some found
     → P (record found { bank = bank }) → AllByRecursion P places → AllByRecursion P (with_bank_here places p bank)
 all_with P p bank [] found e here all = tt
 all_with P p bank (place ∷ places) found e here all =
@@ -120,38 +125,40 @@ all_with P p bank (place ∷ places) found e here all =
 -- the bank of a place served one request more
 served_own : (node : ℕ) (delta : Option ℕ) (place : Place) (member : ℕ) (asked : Request) → IsLawful place.layout
     → slice_get place.layout.members member ≡ Some node
-    → (o : Option Bank) → IsOwnIfOpen node delta place o
-    → IsOwnBank node delta place (bank_after (bank_or_opened o member delta) asked)
+    → (o : Option KeptBank) → IsOwnIfOpen node delta place o
+    → IsOwnKept node delta place (kept_after (bank_or_opened o member delta) asked)
 served_own node delta place member asked lawful named None own = record {
   member = member;
   named = named;
-  limited = delta_stays (bank_or_opened None member delta) asked;
-  reached = served_reached member (bank_or_opened None member delta) asked (fresh_reached member delta);
+  limited = delta_stays (opened_bank member delta 0) asked;
+  reached = served_reached member (opened_bank member delta 0) asked (fresh_reached member delta);
 }
-served_own node delta place member asked lawful named (Some bank) own = record {
+served_own node delta place member asked lawful named (Some (kept.Open bank)) own = record {
   member = member;
   named = named;
   limited = delta_stays bank asked ∙ own.limited;
   reached = served_reached member bank asked (subst (λ (m : ℕ). IsReachedBank m bank)
       (one_member place.layout own.member member node lawful own.named named) own.reached);
 }
+served_own node delta place member asked lawful named (Some (kept.Closed closed)) own = own
 
 -- whether a place's bank is its own depends on the place's layout alone
-own_as : (node : ℕ) (delta : Option ℕ) (place : Place) (other o : Option Bank) → IsOwnIfOpen node delta place o
+own_as : (node : ℕ) (delta : Option ℕ) (place : Place) (other o : Option KeptBank) → IsOwnIfOpen node delta place o
     → IsOwnIfOpen node delta (record place { bank = other }) o
 own_as node delta place other None own = tt
-own_as node delta place other (Some bank) own =
+own_as node delta place other (Some (kept.Open bank)) own =
     record { member = own.member; named = own.named; limited = own.limited; reached = own.reached }
+own_as node delta place other (Some (kept.Closed closed)) own = own
 
 -- the bank that a place keeps after it served a request, if it keeps one
 kept_own : (node : ℕ) (delta : Option ℕ) (place : Place) (member : ℕ) (asked : Request) → IsLawful place.layout
-    → slice_get place.layout.members member ≡ Some node → (o : Option Bank) → IsOwnIfOpen node delta place o
+    → slice_get place.layout.members member ≡ Some node → (o : Option KeptBank) → IsOwnIfOpen node delta place o
     → IsOwnIfOpen node delta place (kept_bank o member delta asked)
 kept_own node delta place member asked lawful named (Some bank) own =
     served_own node delta place member asked lawful named (Some bank) own
 kept_own node delta place member asked lawful named None own = go (changes_bank (opened_bank member delta 0) asked)
   where
-    go : (b : Bool) → IsOwnIfOpen node delta place (cond b (Some (bank_after (opened_bank member delta 0) asked)) None)
+    go : (b : Bool) → IsOwnIfOpen node delta place (cond b (Some (kept.Open (bank_after (opened_bank member delta 0) asked))) None)
     go true = served_own node delta place member asked lawful named None tt
     go false = tt
 
@@ -177,6 +184,36 @@ serve_rebuildable heard letter asked is layout known named = go (heard_place hea
           apart = apart_with letter.message.position new heard.places is.apart;
           places = all_with (IsOwnPlace heard.node heard.delta) letter.message.position new heard.places place e
               (record { lawful = at.0.lawful; own = own_as heard.node heard.delta place new new own }) is.places;
+        }
+
+-- A bank is closed
+
+-- what is left of the node's bank is the node's
+closing_own : (node : ℕ) (delta : Option ℕ) (place : Place) (o : Option KeptBank) → IsOwnIfOpen node delta place o
+    → IsOwnIfOpen node delta place (after_closing o)
+closing_own node delta place None own = tt
+closing_own node delta place (Some (kept.Closed closed)) own = own
+closing_own node delta place (Some (kept.Open bank)) own = go (closed_of bank)
+  where
+    go : (left : Option ClosedBank) → IsOwnIfOpen node delta place (closed_or left (Some (kept.Open bank)))
+    go None = own
+    go (Some closed) = (own.member, own.named)
+
+close_rebuildable : (local : LocalObject) (p : ℕ) → IsRebuildable local → IsSome (closing (bank_in (heard_place local.places p)))
+    → IsRebuildable (closed_here local p)
+close_rebuildable local p is can = go (heard_place local.places p) refl can
+  where
+    go : (o : Option Place) → heard_place local.places p ≡ o → IsSome (closing (bank_in o)) → IsRebuildable (closed_here local p)
+    go None e some = absurd (cc)
+    go (Some place) e some =
+        let at = at_place (IsOwnPlace local.node local.delta) local.places p place is.places e in
+        let new = after_closing (bank_in (heard_place local.places p)) in
+        let own : IsOwnIfOpen local.node local.delta place new =
+        subst (λ (o : Option Place). IsOwnIfOpen local.node local.delta place (after_closing (bank_in o))) (sym e)
+        (closing_own local.node local.delta place place.bank at.0.own) in record {
+          apart = apart_with p new local.places is.apart;
+          places = all_with (IsOwnPlace local.node local.delta) p new local.places place e
+              (record { lawful = at.0.lawful; own = own_as local.node local.delta place new new own }) is.places;
         }
 
 -- Calls
@@ -228,3 +265,4 @@ stays_rebuildable local (LocalEvent.Settle id value) is may fit =
     (λ call. record { apart = is.apart; places = is.places })
 stays_rebuildable local (LocalEvent.Answer id) is may fit = record { apart = is.apart; places = is.places }
 stays_rebuildable local (LocalEvent.GiveUp id) is may fit = record { apart = is.apart; places = is.places }
+stays_rebuildable local (LocalEvent.Close position) is may fit = close_rebuildable local position is may

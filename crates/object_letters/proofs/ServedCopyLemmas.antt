@@ -13,7 +13,9 @@ use Rattle.bank.specs.declared.status.Status.TheVariants.{Unset, Pending, Final}
 use Rattle.object_letters.specs.Reached.{after_requests}
 use Rattle.record.specs.Legal.{is_move}
 use Rattle.letter.specs.declared.letter.Letter.{Letter}
-use Rattle.local_object.specs.ChangedBanks.{bank_after, kept_bank}
+use Rattle.local_object.specs.declared.kept_bank.KeptBank.{KeptBank}
+use Rattle.local_object.specs.declared.kept_bank.KeptBank.TheVariants as kept
+use Rattle.local_object.specs.ChangedBanks.{bank_after, kept_after, kept_bank}
 use Rattle.local_object.specs.Doing.{is_member, is_served, names_node}
 use Rattle.local_object.specs.Events.{LocalEvent, all_done, learnt_from, next_in_request, served_here}
 use Rattle.local_object.specs.Local.{LocalObject, Place, bank_here, bank_in, heard_place, layout_here, with_heard, learnt_if}
@@ -93,7 +95,7 @@ module _ (moves : Type 0) (local : LocalObject) where
   heard_if copy p None known towards = towards
   heard_if copy p (Some layout) known towards = heard copy p layout (known layout refl) towards
 
-  put : (copy : LocalObject) (p : ℕ) (bank : Option Bank) → IsTowards moves local copy
+  pub put : (copy : LocalObject) (p : ℕ) (bank : Option KeptBank) → IsTowards moves local copy
       → IsTowards moves local (record copy { places = with_bank_here copy.places p bank })
   put copy p bank towards = record {
     node = towards.node;
@@ -140,18 +142,18 @@ module _ (moves : Type 0) (local : LocalObject) (place : Place) (member : ℕ)
     after_is : after_letter copy letter ≡ (served_here told letter letter.message.body).local
     after_is = ap (λ b. (all_done fragment copy (cond b (LocalEvent.Serve letter ∷ []) [])).local) is_to_copy
 
-    abbrev served : Option Bank
+    abbrev served : Option KeptBank
     served = kept_bank (bank_in (heard_place told.places p)) member told.delta asked
 
     step_towards : IsTowards moves local (after_letter copy letter)
     step_towards = subst (IsTowards moves local) (sym after_is) (put moves local told p served told_towards)
 
-    step_bank : bank_here (after_letter copy letter) p member ≡ bank_after (bank_here copy p member) asked
+    step_bank : bank_here (after_letter copy letter) p member ≡ kept_after (bank_here copy p member) asked
     step_bank =
         ap (λ (c : LocalObject). bank_here c p member) after_is
         ∙ bank_with_here told p served member (ap is_some told_known)
         ∙ kept_served (bank_in (heard_place told.places p)) member told.delta asked
-        ∙ ap (λ (b : Bank). bank_after b asked) (told_bank p member)
+        ∙ ap (λ (b : KeptBank). kept_after b asked) (told_bank p member)
 
     step_others : (q other : ℕ) → (p ≡ q → ⊥) → bank_here (after_letter copy letter) q other ≡ bank_here copy q other
     step_others q other apart =
@@ -163,16 +165,18 @@ module _ (moves : Type 0) (local : LocalObject) (place : Place) (member : ℕ)
 
   pub record IsServed (copy : LocalObject) (qs : List Request) : Type 0 where
     pub towards : IsTowards moves local (after_letters copy (map (letter_to local.places place member) qs))
-    pub bank : bank_here (after_letters copy (map (letter_to local.places place member) qs)) place.position member
-        ≡ after_requests (bank_here copy place.position member) qs
+    pub bank : (b : Bank) → bank_here copy place.position member ≡ kept.Open b
+        → bank_here (after_letters copy (map (letter_to local.places place member) qs)) place.position member
+        ≡ kept.Open (after_requests b qs)
     pub others : (q other : ℕ) → (place.position ≡ q → ⊥)
         → bank_here (after_letters copy (map (letter_to local.places place member) qs)) q other ≡ bank_here copy q other
 
   pub all_served : (copy : LocalObject) → IsTowards moves local copy → (qs : List Request) → IsServed copy qs
-  all_served copy towards [] = record { towards = towards; bank = refl; others = λ q other apart. refl }
+  all_served copy towards [] = record { towards = towards; bank = λ b e. e; others = λ q other apart. refl }
   all_served copy towards (asked ∷ qs) =
       let rest = all_served (after_letter copy (letter_to local.places place member asked)) (step_towards copy towards asked) qs in record {
         towards = rest.towards;
-        bank = rest.bank ∙ ap (λ (b : Bank). after_requests b qs) (step_bank copy towards asked);
+        bank = λ b e.
+            rest.bank (bank_after b asked) (step_bank copy towards asked ∙ ap (λ (k : KeptBank). kept_after k asked) e);
         others = λ q other apart. rest.others q other apart ∙ step_others copy towards asked q other apart;
       }

@@ -6,11 +6,13 @@ use Rattle.layout.specs.Layout.{Layout, IsLawful}
 use Rattle.bank.specs.Bank.{opened_bank}
 use Rattle.encoder.specs.Fragment.{fragment}
 use Rattle.record.specs.Legal.{is_move}
+use Rattle.local_object.specs.declared.kept_bank.KeptBank.TheVariants as kept
 use Rattle.local_object.specs.Local.{LocalObject, bank_here, layout_here, new_local}
 use Rattle.local_object.specs.Events.{LocalEvent, done_here}
 use Rattle.local_object.specs.Doing.{is_moving}
 use Rattle.local_object.specs.May.{MayHappenHere}
 use Rattle.local_object.specs.Restarts.{IsKeptHere}
+use Rattle.object_letters.specs.Closing.{after_closing_all}
 use Rattle.object_letters.specs.Hearing.{after_places}
 use Rattle.object_letters.specs.Leading.{HasNextPosition}
 use Rattle.object_letters.specs.Letters.{after_letters, letters_to}
@@ -23,16 +25,17 @@ pub record IsBlankOf (moves : Type 0) (local copy : LocalObject) : Type 0 where
   pub layouts : (position : ℕ) (layout : Layout) → layout_here copy position ≡ Some layout →
       layout_here local position ≡ Some layout
   pub first : IsSome (layout_here copy 0)
-  pub banks : (position member : ℕ) → bank_here copy position member ≡ opened_bank member local.delta 0
+  pub banks : (position member : ℕ) → bank_here copy position member ≡ kept.Open (opened_bank member local.delta 0)
   pub calls : copy.calls ≡ filter (λ call. is_move call.kind) local.calls
   pub mover : moves → (position : ℕ) (layout : Layout) → layout_here local position ≡ Some layout →
       layout_here copy position ≡ Some layout
 
--- letters lead back to an object, from a copy whose banks have served nothing, if each position has a next one
+-- letters lead back to an object, from a copy whose banks have served nothing, if each position has a next one, and if
+-- the banks that the object has closed are closed at the end
 abbrev pub LettersLeadBack : Type 0
 LettersLeadBack = (mover : ℕ) (local copy : LocalObject) → IsRebuildable local →
     AllByRecursion HasNextPosition local.places → IsBlankOf (local.node ≡ mover) local copy →
-    IsKeptHere (local.node ≡ mover) local (after_letters copy (letters_to local))
+    IsKeptHere (local.node ≡ mover) local (after_closing_all (after_letters copy (letters_to local)) local.places)
 
 -- a new object, where nothing but position 0 matters, and no move is open
 abbrev pub NewIsBlank : Type 0

@@ -3,11 +3,11 @@
 use Rattle.std.specs.Prelude.{ℕ, suc, ◌==◌, List, [], ◌∷◌, ◌++◌, map, Option, None, Some}
 use Rattle.std.specs.List.{position}
 use Rattle.encoder.specs.Fragment.{fragment}
-use Rattle.bank.specs.Bank.{Bank}
 use Rattle.bank.specs.declared.request.Request.{Request}
 use Rattle.mail.specs.declared.message.Body.TheVariants as body
-use Rattle.object_letters.specs.Requests.{requests_to}
+use Rattle.object_letters.specs.Requests.{requests_for}
 use Rattle.letter.specs.declared.letter.Letter.{Letter}
+use Rattle.local_object.specs.declared.kept_bank.KeptBank.{KeptBank}
 use Rattle.local_object.specs.Local.{LocalObject, Place, heard_place, layout_in}
 use Rattle.local_object.specs.Events.{all_done, next_in_request}
 use Rattle.local_object.specs.Doing.{serve_events}
@@ -28,10 +28,10 @@ letter_to heard place member asked = record {
 }
 
 -- the letters that lead to a bank of a place, if there is one, where the node is this member
-abbrev pub bank_letters : (heard : List Place) → Place → (member : Option ℕ) → Option Bank → List Letter
+abbrev pub bank_letters : (heard : List Place) → Place → (member : Option ℕ) → Option KeptBank → List Letter
 bank_letters heard place member None = []
 bank_letters heard place None (Some bank) = []
-bank_letters heard place (Some member) (Some bank) = map (letter_to heard place member) (requests_to bank)
+bank_letters heard place (Some member) (Some bank) = map (letter_to heard place member) (requests_for bank)
 
 -- the letters that lead to what the node keeps in a place
 abbrev pub place_letters : (node : ℕ) → (heard : List Place) → Place → List Letter

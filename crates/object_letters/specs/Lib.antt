@@ -1,3 +1,4 @@
+pub mod Closing
 pub mod Hearing
 pub mod Laws
 pub mod Leading

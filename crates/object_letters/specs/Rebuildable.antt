@@ -5,6 +5,8 @@ use Rattle.layout.specs.Layout.{Layout, IsLawful}
 use Rattle.bank.specs.Bank.{Bank}
 use Rattle.object_letters.specs.Reached.{IsReachedBank}
 use Rattle.letter.specs.declared.letter.Letter.{Letter}
+use Rattle.local_object.specs.declared.kept_bank.KeptBank.{KeptBank}
+use Rattle.local_object.specs.declared.kept_bank.KeptBank.TheVariants as kept
 use Rattle.local_object.specs.Local.{LocalObject, Place}
 use Rattle.local_object.specs.Events.{LocalEvent}
 
@@ -25,10 +27,16 @@ pub record IsOwnBank (node : ℕ) (delta : Option ℕ) (place : Place) (bank : B
   pub limited : bank.delta ≡ delta
   pub reached : IsReachedBank member bank
 
--- if a place has a bank, it was opened for the member that the node is, and came to be by requests to this member
-abbrev pub IsOwnIfOpen : (node : ℕ) → (delta : Option ℕ) → Place → Option Bank → Type 0
+-- what is kept of a bank of a place is the node's: an open bank was opened for the member that the node is, and has
+-- served requests; if it is closed, the node is a member
+abbrev pub IsOwnKept : (node : ℕ) → (delta : Option ℕ) → Place → KeptBank → Type 0
+IsOwnKept node delta place (kept.Open bank) = IsOwnBank node delta place bank
+IsOwnKept node delta place (kept.Closed closed) = (member : ℕ) × (slice_get place.layout.members member ≡ Some node)
+
+-- if a place has a bank, it is the node's
+abbrev pub IsOwnIfOpen : (node : ℕ) → (delta : Option ℕ) → Place → Option KeptBank → Type 0
 IsOwnIfOpen node delta place None = Unit {0}
-IsOwnIfOpen node delta place (Some bank) = IsOwnBank node delta place bank
+IsOwnIfOpen node delta place (Some bank) = IsOwnKept node delta place bank
 
 -- the layout of a place is lawful, and its bank came to be by requests to the node
 pub record IsOwnPlace (node : ℕ) (delta : Option ℕ) (place : Place) : Type 0 where

@@ -15,6 +15,9 @@ use Rattle.bank.specs.declared.status.Pointer.{Pointer}
 use Rattle.bank.specs.declared.status.Pointer.TheVariants.{Unset, Pending, Final}
 use Rattle.bank.specs.declared.status.Status.TheVariants as status
 use Rattle.bank.specs.Bank.{Bank, empty_piece}
+use Rattle.closed_bank.specs.Restore.{requests_to_closed}
+use Rattle.local_object.specs.declared.kept_bank.KeptBank.{KeptBank}
+use Rattle.local_object.specs.declared.kept_bank.KeptBank.TheVariants as kept
 
 -- the request that raises an unset pointer to this one, if it is not unset
 abbrev pub pointer_requests : Pointer → List Request
@@ -50,6 +53,12 @@ rows_requests (entry ∷ entries) = row_requests entry.0 entry.1 ++ rows_request
 -- the requests that lead a newly opened bank to this bank
 abbrev pub requests_to : Bank → List Request
 requests_to bank = pointer_requests bank.pointer ++ rows_requests (map.entries bank.rows)
+
+-- the requests that lead a newly opened bank to what a node keeps of one, or, if that is closed, to a bank that closes
+-- to it
+abbrev pub requests_for : KeptBank → List Request
+requests_for (kept.Open bank) = requests_to bank
+requests_for (kept.Closed closed) = requests_to_closed closed
 
 -- the number of bytes of the piece in a request, or 0 where it has none
 abbrev pub brought_bytes : Request → ℕ

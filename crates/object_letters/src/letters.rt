@@ -1,23 +1,23 @@
 //! The letters that lead to an object.
 ghost use Rattle.std.specs.Prelude.{◌≡◌, ◌==◌, ◌++◌, suc, map, position, MatchOption, None, IfOk, IfErr, OnOk};
 ghost use Rattle.tag.specs.declared.refusal.Refusal.TheVariants.{NoMemory};
-ghost use Rattle.object_letters.specs.Requests.{requests_to};
+ghost use Rattle.object_letters.specs.Requests.{requests_for};
 ghost use Rattle.local_object.specs.Distinct.{IsPlaceAt};
 ghost use Rattle.local_object.specs.Events.{next_in_request};
 ghost use Rattle.local_object.specs.Local.{heard_place, layout_in};
 ghost use Rattle.object_letters.specs.Letters.{letter_to, letters_as, place_letters};
 
 use crate::requests_of;
-use bank::{Bank, Request, Status};
+use bank::{Request, Status};
 use letter::{Letter, SharedLayout};
-use local_object::{LocalObject, Place};
+use local_object::{KeptBank, LocalObject, Place};
 use mail::{Body, Message};
 use std::alloc::Global;
 use tag::Refusal;
 
-/// The letters that lead a new object of a node to this one, if the node serves them in their order: the banks are then
-/// the same. `number` is that of the object's node. The object's calls are in no letter, nor are positions without a
-/// bank.
+/// The letters that lead a new object of a node to this one, if the node serves them in their order, and then closes
+/// the banks that this object has closed: the banks are then the same. `number` is that of the object's node. The
+/// object's calls are in no letter, nor are positions without a bank.
 ///
 /// The pieces in the letters share their bytes with those of the banks. `NoMemory` is the only refusal.
 pub fn letters_of(alloc: Global, number: u8, local: &LocalObject) -> Result<Vec<Letter>, Refusal>
@@ -58,18 +58,34 @@ fn push_bank(
     places: &[Place],
     place: &Place,
     member: u8,
-    bank: &Bank,
+    bank: &KeptBank,
 ) -> Result<(), Refusal>
     ensures letters { OnOk result
-        (letters.new.items ≡ letters.old.items ++ map (letter_to places.now place.now member) (requests_to bank.now)) }
+        (letters.new.items ≡ letters.old.items ++ map (letter_to places.now place.now member) (requests_for bank.now)) }
 
     ensures refused { IfErr result (λ e. e ≡ NoMemory) }
 {
-    let requests = requests_of(alloc, bank)?;
+    let requests = requests_for(alloc, bank)?;
     for request in requests {
         letters.push(letter_for(places, place, member, request)?)?;
     }
     Ok(())
+}
+
+// The requests that lead a newly opened bank to what is kept of one.
+fn requests_for(alloc: Global, bank: &KeptBank) -> Result<Vec<Request>, Refusal>
+    ensures requests { IfOk result (λ requests. requests.items ≡ requests_for bank.now) }
+    ensures refused { IfErr result (λ e. e ≡ NoMemory) }
+{
+    match bank {
+        KeptBank::Open(bank) => requests_of(alloc, bank),
+        KeptBank::Closed(closed) => {
+            let mut requests = Vec::new(alloc);
+            requests.push(Request::Spread(Status::Final))?;
+            requests.push(Request::Finalize(closed.greatest()))?;
+            Ok(requests)
+        }
+    }
 }
 
 // The request as a letter to this member of a place.

@@ -1,5 +1,5 @@
 use Rattle.std.proofs.Common.{◌≡◌}
-use Rattle.object_letters.proofs.PlaceLetterLemmas.{letters_lead}
+use Rattle.object_letters.proofs.ClosedCopyLemmas.{letters_lead}
 use Rattle.object_letters.proofs.laws.letters_lead_back.Goals as goal
 
 pub returns : goal.returns
