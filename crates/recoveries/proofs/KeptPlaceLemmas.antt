@@ -3,8 +3,8 @@ use Rattle.std.proofs.Common.{◌≡◌, ℕ, suc, ◌⊎◌, inl, inr, Bool, tr
 use Rattle.std.proofs.Common.{slice_get, refl, sym, subst, ap, ◌∙◌}
 use Rattle.std.proofs.lemmas.Option.{same_Some}
 use Rattle.layout.specs.Layout.{Layout}
-use Rattle.bank.specs.Bank.{Bank}
 use Rattle.letter.specs.declared.letter.Letter.{Letter}
+use Rattle.local_object.specs.declared.kept_bank.KeptBank.{KeptBank}
 use Rattle.local_object.specs.Local.{LocalObject, bank_here, bank_or_opened, layout_here, with_heard, learnt_if, with_bank_here}
 use Rattle.local_object.specs.Events.{learnt_from}
 use Rattle.local_object.specs.Agreement.{agrees, knows_all_of}
@@ -164,7 +164,7 @@ module _ (moves : Type 0) (local copy : LocalObject) (kept : IsKeptHere moves lo
 
 -- A bank changes
 
-module _ (moves : Type 0) (local copy : LocalObject) (kept : IsKeptHere moves local copy) (p : ℕ) (bank other : Option Bank) where
+module _ (moves : Type 0) (local copy : LocalObject) (kept : IsKeptHere moves local copy) (p : ℕ) (bank other : Option KeptBank) where
   -- the copy has this bank as the member that the node is at the position
   abbrev AreOneBank : Type 0
   AreOneBank = (member : ℕ) (layout : Layout) → layout_here local p ≡ Some layout →

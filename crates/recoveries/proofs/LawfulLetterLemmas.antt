@@ -2,11 +2,11 @@
 use Rattle.std.proofs.Common.{◌≡◌, ℕ, zero, suc, List, [], ◌∷◌, map, Option, None, Some, slice_get, refl, subst}
 use Rattle.std.specs.List.{AllByRecursion}
 use Rattle.bank.specs.Bank.{empty_piece}
-use Rattle.bank.specs.Serve.{reply_to}
 use Rattle.bank.specs.declared.kind.Kind.{Kind}
 use Rattle.bank.specs.declared.kind.Kind.TheVariants.{Next, Spread}
 use Rattle.bank.specs.declared.reply.Answer.{Answer as BankAnswer}
 use Rattle.bank.specs.declared.reply.Answer.TheVariants as answer
+use Rattle.bank.specs.declared.reply.Reply.{Reply}
 use Rattle.bank.specs.declared.request.Request.{Request}
 use Rattle.bank.specs.declared.request.Request.TheVariants as request
 use Rattle.bank.specs.declared.status.Status.{Status}
@@ -23,7 +23,8 @@ use Rattle.record.specs.declared.stage.Stage.{Stage}
 use Rattle.record.specs.Sending.{request_to, requests}
 use Rattle.letter.specs.declared.letter.Letter.{Letter}
 use Rattle.local_object.specs.Events.{LocalEvent, advanced_at, advanced_here, begun_here, done_here, if_pointed, learnt_from, letter_of}
-use Rattle.local_object.specs.Events.{next_in_answer, next_in_request, on_open_call, pieces_here, served_here, silent}
+use Rattle.local_object.specs.Events.{next_in_answer, next_in_request, on_open_call, pieces_here, reply_letters, served_here, silent}
+use Rattle.local_object.specs.KeptBanks.{kept_reply}
 use Rattle.local_object.specs.Local.{LocalObject, Place, bank_here, heard_place, last_position, layout_here, layout_in, with_heard}
 use Rattle.local_object.specs.May.{MayHappenHere}
 use Rattle.local_object.specs.Resent.{IsResent, current_letters}
@@ -100,11 +101,14 @@ silent_lawful local (Some call) change = tt
 
 served_lawful : (local : LocalObject) (letter : Letter) (b : Body) → IsRebuildable local → IsLawful letter.layout →
     AllByRecursion HasLawfulLayouts (served_here local letter b).sent
-served_lawful local letter (body.Request asked) is lawful =
-    let q = letter.message.position in
-    let next = answer_lawful (reply_to (bank_here local q letter.message.member) asked 0).answer (layout_here local (suc q))
-    (known_lawful local is (suc q)) in
-    ((lawful, next), tt)
+served_lawful local letter (body.Request asked) is lawful = go (kept_reply (bank_here local q letter.message.member) asked)
+  where
+    q : ℕ
+    q = letter.message.position
+
+    go : (o : Option Reply) → AllByRecursion HasLawfulLayouts (reply_letters local letter o)
+    go None = tt
+    go (Some reply) = ((lawful, answer_lawful reply.answer (layout_here local (suc q)) (known_lawful local is (suc q))), tt)
 served_lawful local letter (body.Reply kind made) is lawful = tt
 
 pub event_lawful : (local : LocalObject) (event : LocalEvent) → IsRebuildable local → MayHappenHere fragment local event →
@@ -126,6 +130,7 @@ event_lawful local (LocalEvent.Take letter) is may fit =
 event_lawful local (LocalEvent.Settle id value) is may fit = silent_lawful local (open_call local.calls id) _
 event_lawful local (LocalEvent.Answer id) is may fit = tt
 event_lawful local (LocalEvent.GiveUp id) is may fit = tt
+event_lawful local (LocalEvent.Close position) is may fit = tt
 
 -- Letters that are sent again
 

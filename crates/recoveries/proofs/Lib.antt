@@ -6,6 +6,7 @@ pub mod ClientCallLemmas
 pub mod TakenReplyLemmas
 pub mod ServedLetterLemmas
 pub mod BegunCallLemmas
+pub mod ClosedBankLemmas
 pub mod NodeCopyLemmas
 pub mod LoggedLemmas
 pub mod RecoveredLemmas

@@ -43,6 +43,7 @@ sooner_logged a b c (LogRecord.Moves name id layout ∷ records) later ids =
 sooner_logged a b c (LogRecord.Serves name letter ∷ records) later ids = sooner_logged a b c records later ids
 sooner_logged a b c (LogRecord.Takes name letter ∷ records) later ids = sooner_logged a b c records later ids
 sooner_logged a b c (LogRecord.Hears name position layout ∷ records) later ids = sooner_logged a b c records later ids
+sooner_logged a b c (LogRecord.Closes name position ∷ records) later ids = sooner_logged a b c records later ids
 
 pub logged_then : (a b c : CallIds) (first second : List LogRecord) → HaveLoggedIds a first b → HaveLoggedIds b second c →
     HaveLoggedIds a (first ++ second) c
@@ -53,6 +54,7 @@ logged_then a b c (LogRecord.Moves name id layout ∷ first) second x y =
 logged_then a b c (LogRecord.Serves name letter ∷ first) second x y = logged_then a b c first second x y
 logged_then a b c (LogRecord.Takes name letter ∷ first) second x y = logged_then a b c first second x y
 logged_then a b c (LogRecord.Hears name position layout ∷ first) second x y = logged_then a b c first second x y
+logged_then a b c (LogRecord.Closes name position ∷ first) second x y = logged_then a b c first second x y
 
 -- What a node does that gives one id or none
 
@@ -68,6 +70,7 @@ none_logged before after (LogRecord.Starts ∷ records) none same = absurd (let 
 none_logged before after (LogRecord.Moves name id layout ∷ records) none same = absurd (let e = none.0.1 in cc)
 none_logged before after (LogRecord.Serves name letter ∷ records) none same = none_logged before after records none.1 same
 none_logged before after (LogRecord.Takes name letter ∷ records) none same = none_logged before after records none.1 same
+none_logged before after (LogRecord.Closes name position ∷ records) none same = none_logged before after records none.1 same
 none_logged before after (LogRecord.Hears name position layout ∷ records) none same =
     none_logged before after records none.1 same
 

@@ -4,12 +4,13 @@ use Rattle.std.proofs.Common.{refl, sym, subst, ap, ◌∙◌}
 use Rattle.std.proofs.lemmas.Bool.{lt-ltb}
 use Rattle.deeds.specs.CallId.{CallIds, with_next_epoch}
 use Rattle.encoder.specs.Fragment.{fragment}
-use Rattle.local_object.specs.Doing.{give_up_events, serve_events}
+use Rattle.local_object.specs.Doing.{close_events, give_up_events, serve_events}
 use Rattle.local_object.specs.Events.{LocalEvent, all_done}
 use Rattle.local_object.specs.Local.{LocalObject}
 use Rattle.local_object.specs.Restarts.{IsKeptHere}
 use Rattle.deeds.specs.Kept.{KeptNode}
 use Rattle.recoveries.specs.Copies.{IsCopyOf, IsLogged}
+use Rattle.recoveries.specs.Laws.{ClosesAreLogged}
 use Rattle.recoveries.specs.Laws.{GivenUpNeedsNoRecord, MovesAreLogged, ReadsNeedNoRecord, SameNeedsNoRecord, ServedIsLogged}
 use Rattle.recoveries.specs.Laws.{StartsAreLogged, TakenIsLogged, TakenNeedsNoRecord, UnchangedNeedsNoRecord, WritesNeedNoRecord}
 use Rattle.recoveries.specs.Records.{IsNamedOutcome, IsKeptUnder, IsStarted, LogRecord, RecoversOne}
@@ -18,6 +19,7 @@ use Rattle.recoveries.proofs.TakenReplyLemmas.{move_takes}
 use Rattle.recoveries.proofs.ClientCallLemmas.{client_takes}
 use Rattle.recoveries.proofs.ServedLetterLemmas.{both_serve, serves_alone}
 use Rattle.recoveries.proofs.BegunCallLemmas.{given_up, move_begins, read_begins, write_begins}
+use Rattle.recoveries.proofs.ClosedBankLemmas.{both_close}
 use Rattle.recoveries.proofs.NodeCopyLemmas.{Moves, object_copy, put_alone, put_both, same_both, same_self}
 
 -- one record is carried out again
@@ -114,6 +116,16 @@ moves_logged old new name id layout here free done =
     (done_put old name (LocalEvent.BeginMove id layout ∷ []) new done)
     (done_put copy name (LocalEvent.BeginMove id layout ∷ []) copied again)
     (move_begins (Moves old) here (old.objects name) (copy.objects name) (object_copy old copy is name) id layout free))
+
+pub closes_logged : ClosesAreLogged
+closes_logged old new name position done =
+    one_record old new (LogRecord.Closes name position)
+    (λ copy copied is again. put_both old new copy copied name
+    (all_done fragment (old.objects name) (close_events (old.objects name) position)).local
+    (all_done fragment (copy.objects name) (close_events (copy.objects name) position)).local is
+    (done_put old name (close_events (old.objects name) position) new done)
+    (done_put copy name (close_events (copy.objects name) position) copied again)
+    (both_close (Moves old) (old.objects name) (copy.objects name) (object_copy old copy is name) position))
 
 -- What needs none
 

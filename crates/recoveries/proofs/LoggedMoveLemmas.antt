@@ -78,6 +78,8 @@ moves_given before after (LogRecord.Serves name letter ∷ records) within ids =
 moves_given before after (LogRecord.Takes name letter ∷ records) within ids = moves_given before after records within ids
 moves_given before after (LogRecord.Hears name position layout ∷ records) within ids =
     moves_given before after records within ids
+moves_given before after (LogRecord.Closes name position ∷ records) within ids =
+    moves_given before after records within ids
 
 -- an id that was given differs from one that is given later
 pub given_apart : (ids : CallIds) (id other : ℕ) → HasRanges ids → WasGiven ids id → GivenFrom ids other → nat_eq id other ≡ false
@@ -136,6 +138,8 @@ logged_later before after (LogRecord.Takes name letter ∷ records) within then 
     logged_later before after records within then ids
 logged_later before after (LogRecord.Hears name position layout ∷ records) within then ids =
     logged_later before after records within then ids
+logged_later before after (LogRecord.Closes name position ∷ records) within then ids =
+    logged_later before after records within then ids
 
 -- and the ids of the moves were given by then
 pub moves_were_given : (before after : CallIds) (records : List LogRecord) → HasRanges before → HasRanges after →
@@ -160,6 +164,8 @@ moves_were_given before after (LogRecord.Serves name letter ∷ records) within 
 moves_were_given before after (LogRecord.Takes name letter ∷ records) within then ids =
     moves_were_given before after records within then ids
 moves_were_given before after (LogRecord.Hears name position layout ∷ records) within then ids =
+    moves_were_given before after records within then ids
+moves_were_given before after (LogRecord.Closes name position ∷ records) within then ids =
     moves_were_given before after records within then ids
 
 -- Lists without doubles
@@ -190,6 +196,8 @@ distinct_moves before after (LogRecord.Serves name letter ∷ records) within id
 distinct_moves before after (LogRecord.Takes name letter ∷ records) within ids = distinct_moves before after records within ids
 distinct_moves before after (LogRecord.Hears name position layout ∷ records) within ids =
     distinct_moves before after records within ids
+distinct_moves before after (LogRecord.Closes name position ∷ records) within ids =
+    distinct_moves before after records within ids
 
 epochs_rise : (before after : CallIds) (records : List LogRecord) → HaveLoggedIds before records after →
     after.epoch ≡ before.epoch + epochs_in records
@@ -204,6 +212,7 @@ epochs_rise before after (LogRecord.Moves name id layout ∷ records) ids =
 epochs_rise before after (LogRecord.Serves name letter ∷ records) ids = epochs_rise before after records ids
 epochs_rise before after (LogRecord.Takes name letter ∷ records) ids = epochs_rise before after records ids
 epochs_rise before after (LogRecord.Hears name position layout ∷ records) ids = epochs_rise before after records ids
+epochs_rise before after (LogRecord.Closes name position ∷ records) ids = epochs_rise before after records ids
 
 pub logged_differ : LoggedIdsDiffer
 logged_differ before after records within ids = (

@@ -39,6 +39,7 @@ event_fit got name (LocalEvent.Advance id) lawful fed = tt
 event_fit got name (LocalEvent.Settle id value) lawful fed = tt
 event_fit got name (LocalEvent.Answer id) lawful fed = tt
 event_fit got name (LocalEvent.GiveUp id) lawful fed = tt
+event_fit got name (LocalEvent.Close position) lawful fed = tt
 
 named_lawful : (name : List ℕ) (letters : List Letter) → AllByRecursion HasLawfulLayouts letters →
     AllByRecursion IsLawfulLetter (with_names name letters)

@@ -111,6 +111,11 @@ module _ (q : ℕ) (layout : Layout) where
       (λ call. record { node = refl; delta = refl; known = λ e. e })
   event_same local (LocalEvent.Answer id) = record { node = refl; delta = refl; known = λ e. e }
   event_same local (LocalEvent.GiveUp id) = record { node = refl; delta = refl; known = λ e. e }
+  event_same local (LocalEvent.Close position) = record {
+    node = refl;
+    delta = refl;
+    known = λ e. layout_with local position _ q ∙ e;
+  }
 
 -- Events keep an object the node's own
 

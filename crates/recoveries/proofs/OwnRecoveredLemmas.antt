@@ -9,7 +9,7 @@ use Rattle.open_calls.proofs.ListLemmas.{all_append}
 use Rattle.encoder.specs.Fragment.{fragment}
 use Rattle.letter.specs.declared.letter.Letter.{Letter}
 use Rattle.local_object.specs.declared.progress.Ended.{Ended}
-use Rattle.local_object.specs.Doing.{is_served, is_taken, serve_events}
+use Rattle.local_object.specs.Doing.{can_close, close_events, is_served, is_taken, serve_events}
 use Rattle.local_object.specs.Events.{LocalEvent, all_done}
 use Rattle.local_object.specs.Going.{next_if}
 use Rattle.layout.specs.Layout.{Layout}
@@ -30,6 +30,13 @@ serve_fit local letter lawful = go (is_served local letter)
   where
     go : (b : Bool) → AllByRecursion IsFit (cond b (LocalEvent.Serve letter ∷ []) [])
     go true = (lawful, tt)
+    go false = tt
+
+close_fit : (local : LocalObject) (position : ℕ) → AllByRecursion IsFit (close_events local position)
+close_fit local position = go (can_close local position)
+  where
+    go : (b : Bool) → AllByRecursion IsFit (cond b (LocalEvent.Close position ∷ []) [])
+    go true = (tt, tt)
     go false = tt
 
 -- the events by which a call goes on have no letter
@@ -97,6 +104,9 @@ one_own old new (LogRecord.Takes name letter) lawful done own =
     take_own old new name letter done.local done.sent done.ended lawful done.put own (is_taken (old.objects name) letter) done.taken
 one_own old new (LogRecord.Moves name id layout) lawful done own =
     done_own old new name done.local (LocalEvent.BeginMove id layout ∷ []) done.sent (tt, tt) done.done done.put own
+one_own old new (LogRecord.Closes name position) lawful done own =
+    done_own old new name done.local (close_events (old.objects name) position) done.sent
+    (close_fit (old.objects name) position) done.done done.put own
 one_own old new (LogRecord.Hears name position layout) lawful heard own = hear_own old new name position layout heard own
 
 pub recovered_own : RecoveringKeepsOwn

@@ -1,7 +1,7 @@
 -- Records carried out again: from or to a node that keeps the same, and two lists of records in a row.
 use Rattle.std.proofs.Common.{ℕ, suc, ◌<◌, ◌^◌, cond, List, [], ◌∷◌, sym, subst, ap, ap₂, ◌∙◌}
 use Rattle.deeds.specs.CallId.{CallIds}
-use Rattle.local_object.specs.Doing.{IsOutcome, is_taken, serve_events}
+use Rattle.local_object.specs.Doing.{IsOutcome, close_events, is_taken, serve_events}
 use Rattle.local_object.specs.Events.{LocalEvent}
 use Rattle.local_object.specs.Local.{LocalObject, with_heard}
 use Rattle.local_object.specs.Taking.{IsReplyOutcome}
@@ -43,6 +43,7 @@ module _ (a b c : KeptNode) (same : IsSame a b) where
       }
   one_from (LogRecord.Serves name letter) done = done_from name (λ local. serve_events local letter) done
   one_from (LogRecord.Moves name id layout) done = done_from name (λ local. LocalEvent.BeginMove id layout ∷ []) done
+  one_from (LogRecord.Closes name position) done = done_from name (λ local. close_events local position) done
   one_from (LogRecord.Hears name position layout) heard = record {
     lawful = heard.lawful;
     put = put_from name (with_heard (a.objects name) position layout)

@@ -4,10 +4,11 @@ use Rattle.std.proofs.Common.{refl, ap, ◌∙◌, arith}
 use Rattle.letter.specs.declared.letter.Letter.{Letter}
 use Rattle.local_object.specs.Local.{Place}
 use Rattle.deeds.specs.Kept.{KeptNode}
+use Rattle.object_letters.specs.Closing.{is_closed}
 use Rattle.object_letters.specs.Letters.{letters_as}
 use Rattle.recoveries.specs.LoggedIds.{epochs_in, moves_in}
 use Rattle.recoveries.specs.Records.{LogRecord}
-use Rattle.recoveries.specs.RewrittenRecords.{epoch_records, object_records, place_records, places_records}
+use Rattle.recoveries.specs.RewrittenRecords.{close_records, closes_records, epoch_records, object_records, place_records, places_records}
 use Rattle.recoveries.specs.RewrittenRecords.{records_of_name, rewritten_records}
 
 -- Records, one after another
@@ -19,6 +20,7 @@ epochs_append (LogRecord.Serves name letter ∷ xs) ys = epochs_append xs ys
 epochs_append (LogRecord.Takes name letter ∷ xs) ys = epochs_append xs ys
 epochs_append (LogRecord.Moves name id layout ∷ xs) ys = epochs_append xs ys
 epochs_append (LogRecord.Hears name position layout ∷ xs) ys = epochs_append xs ys
+epochs_append (LogRecord.Closes name position ∷ xs) ys = epochs_append xs ys
 
 pub moves_append : (xs ys : List LogRecord) → moves_in (xs ++ ys) ≡ moves_in xs ++ moves_in ys
 moves_append [] ys = refl
@@ -27,6 +29,7 @@ moves_append (LogRecord.Serves name letter ∷ xs) ys = moves_append xs ys
 moves_append (LogRecord.Takes name letter ∷ xs) ys = moves_append xs ys
 moves_append (LogRecord.Moves name id layout ∷ xs) ys = ap (λ ids. id ∷ ids) (moves_append xs ys)
 moves_append (LogRecord.Hears name position layout ∷ xs) ys = moves_append xs ys
+moves_append (LogRecord.Closes name position ∷ xs) ys = moves_append xs ys
 
 -- A log that is written anew
 
@@ -62,13 +65,27 @@ letters_told : (name : List ℕ) (letters : List Letter) → TellsEpochs 0 (map 
 letters_told name [] = (refl, refl)
 letters_told name (letter ∷ letters) = letters_told name letters
 
+close_told : (name : List ℕ) (place : Place) → TellsEpochs 0 (close_records name place)
+close_told name place = go (is_closed place.bank)
+  where
+    go : (b : Bool) → TellsEpochs 0 (cond b (LogRecord.Closes name place.position ∷ []) [])
+    go true = (refl, refl)
+    go false = (refl, refl)
+
+closes_told : (name : List ℕ) (places : List Place) → TellsEpochs 0 (closes_records name places)
+closes_told name [] = (refl, refl)
+closes_told name (place ∷ places) =
+    both 0 0 (close_records name place) (closes_records name places) (close_told name place) (closes_told name places)
+
 objects_told : (node : KeptNode) (names : List (List ℕ)) → TellsEpochs 0 (object_records node names)
 objects_told node [] = (refl, refl)
 objects_told node (name ∷ names) =
     let local = node.objects name in
+    let letters = map (LogRecord.Serves name) (letters_as node.ids.node local) in
     both 0 0 (records_of_name node.ids.node name local) (object_records node names)
-    (both 0 0 (places_records name local.places) (map (LogRecord.Serves name) (letters_as node.ids.node local))
-    (places_told name local.places) (letters_told name (letters_as node.ids.node local))) (objects_told node names)
+    (both 0 0 (places_records name local.places) (letters ++ closes_records name local.places) (places_told name local.places)
+    (both 0 0 letters (closes_records name local.places) (letters_told name (letters_as node.ids.node local))
+    (closes_told name local.places))) (objects_told node names)
 
 -- a log that is written anew says that as many epochs began as did, and that no move did
 pub rewritten_told : (node : KeptNode) (names : List (List ℕ)) → TellsEpochs node.ids.epoch (rewritten_records node names)

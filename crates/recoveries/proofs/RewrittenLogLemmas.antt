@@ -3,11 +3,12 @@ use Rattle.std.proofs.Common.{◌≡◌, ℕ, Bool, true, false, List, Option, r
 use Rattle.local_object.specs.Local.{LocalObject, new_local}
 use Rattle.deeds.specs.Kept.{KeptNode, new_node}
 use Rattle.local_object.specs.Restarts.{IsKeptHere}
+use Rattle.object_letters.specs.Closing.{after_closing_all}
 use Rattle.object_letters.specs.Hearing.{after_places}
 use Rattle.object_letters.specs.Letters.{after_letters, letters_as, letters_to}
 use Rattle.object_letters.proofs.HearingLemmas.{heard_blank}
 use Rattle.object_letters.proofs.LeadableLemmas.{have_next, not_moving}
-use Rattle.object_letters.proofs.PlaceLetterLemmas.{letters_lead}
+use Rattle.object_letters.proofs.ClosedCopyLemmas.{letters_lead}
 use Rattle.recoveries.specs.RewrittenLaws.{RewrittenLogsRecord}
 use Rattle.recoveries.specs.RewrittenRecords.{epoch_records, is_among, object_records}
 use Rattle.recoveries.specs.RewritingNodes.{AreHeardNames, CanBeWrittenAnew, HasOwnObjects}
@@ -19,7 +20,8 @@ module _ (node : KeptNode) (names : List (List ℕ)) (heard : AreHeardNames node
   abbrev new_object : List ℕ → LocalObject
   new_object name = new_local node.ids.node node.file.delta (node.file.first name)
 
-  -- a new object that hears of the positions of an object, and serves the letters to its banks, is led back
+  -- a new object that hears of the positions of an object, serves the letters to its banks, and closes those that the
+  -- object has closed, is led back
   led : (name : List ℕ) → IsKeptHere (node.ids.node ≡ node.file.mover) (node.objects name)
       (rebuilt node.ids.node (node.objects name) (new_object name))
   led name =
@@ -29,9 +31,10 @@ module _ (node : KeptNode) (names : List (List ℕ)) (heard : AreHeardNames node
       let new : new_local local.node local.delta (node.file.first name) ≡ new_object name =
       ap (λ (n : ℕ). new_local n local.delta (node.file.first name)) own.node
       ∙ ap (λ (d : Option ℕ). new_local node.ids.node d (node.file.first name)) own.limit in
-      subst (λ (n : ℕ). IsKeptHere moves local (after_letters (after_places (new_object name) local.places) (letters_as n local)))
-      own.node
-      (subst (λ (copy : LocalObject). IsKeptHere moves local (after_letters (after_places copy local.places) (letters_to local))) new
+      subst (λ (n : ℕ). IsKeptHere moves local
+      (after_closing_all (after_letters (after_places (new_object name) local.places) (letters_as n local)) local.places)) own.node
+      (subst (λ (copy : LocalObject). IsKeptHere moves local
+      (after_closing_all (after_letters (after_places copy local.places) (letters_to local)) local.places)) new
       (letters_lead moves local (after_places (new_local local.node local.delta (node.file.first name)) local.places)
       own.rebuildable (have_next local (able name))
       (heard_blank moves local (node.file.first name) own.first (not_moving local (able name)) own.rebuildable)))

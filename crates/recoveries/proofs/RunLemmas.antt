@@ -4,7 +4,7 @@ use Rattle.std.proofs.Common.{refl, sym, subst, ap, ◌∙◌, arith}
 use Rattle.encoder.specs.Fragment.{fragment}
 use Rattle.letter.specs.declared.letter.Letter.{Letter}
 use Rattle.local_object.specs.declared.progress.Ended.{Ended}
-use Rattle.local_object.specs.Doing.{is_taken, serve_events}
+use Rattle.local_object.specs.Doing.{close_events, is_taken, serve_events}
 use Rattle.local_object.specs.Events.{LocalEvent, all_done, done_here}
 use Rattle.local_object.specs.Local.{LocalObject, with_heard}
 use Rattle.local_object.specs.Taking.{IsReplyOutcome, repeats}
@@ -87,6 +87,8 @@ module _ (a b c d : KeptNode) (same : IsSame a b) where
   one_recovered (LogRecord.Hears name position layout) first second =
       one_put a b c d name (with_heard (a.objects name) position layout) (with_heard (b.objects name) position layout) same
       first.put second.put (ap (λ (l : LocalObject). with_heard l position layout) (same.objects name))
+  one_recovered (LogRecord.Closes name position) first second =
+      one_done name (λ local. close_events local position) first second
   one_recovered (LogRecord.Takes name letter) first second =
       one_put a b c d name first.local second.local same first.put second.put
       (one_taken (is_taken (a.objects name) letter) (a.objects name) letter first.local second.local first.sent second.sent

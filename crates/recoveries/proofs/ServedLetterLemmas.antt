@@ -3,7 +3,6 @@ use Rattle.std.proofs.Common.{◌≡◌, ℕ, suc, ◌+◌, ◌^◌, Bool, true,
 use Rattle.std.proofs.Common.{is_some, slice_get, refl, sym, subst, ap, ◌∙◌}
 use Rattle.std.proofs.lemmas.Option.{same_Some}
 use Rattle.std.specs.List.{filter, list_any}
-use Rattle.bank.specs.Bank.{Bank}
 use Rattle.bank.specs.declared.request.Request.{Request}
 use Rattle.mail.specs.declared.message.Body.{Body}
 use Rattle.mail.specs.declared.message.Body.TheVariants as body
@@ -11,7 +10,8 @@ use Rattle.encoder.specs.Fragment.{fragment}
 use Rattle.layout.specs.Layout.{Layout, IsLawful}
 use Rattle.letter.specs.declared.letter.Letter.{Letter}
 use Rattle.local_object.specs.Agreement.{agrees, knows_all_of}
-use Rattle.local_object.specs.ChangedBanks.{bank_after, kept_bank}
+use Rattle.local_object.specs.declared.kept_bank.KeptBank.{KeptBank}
+use Rattle.local_object.specs.ChangedBanks.{kept_after, kept_bank}
 use Rattle.local_object.specs.Changing.{IsUnchangedBy, after_serving}
 use Rattle.local_object.specs.Doing.{is_member, is_served, names_node, serve_events}
 use Rattle.mail.specs.Message.{is_request}
@@ -53,7 +53,7 @@ module _ (moves : Type 0) (local copy : LocalObject) (is : IsObjectCopy moves lo
   second = learnt_from copy letter
 
   -- the bank that one of them keeps at the letter's position after it served a request
-  abbrev kept_by : LocalObject → Request → Option Bank
+  abbrev kept_by : LocalObject → Request → Option KeptBank
   kept_by it asked = kept_bank (bank_in (heard_place it.places letter.message.position)) letter.message.member it.delta asked
 
   known_first : layout_here first letter.message.position ≡ Some letter.layout
@@ -107,7 +107,7 @@ module _ (moves : Type 0) (local copy : LocalObject) (is : IsObjectCopy moves lo
       ∙ ap Some (node_heard local letter)) in
       subst (λ m. bank_or_opened (kept_by second asked) m second.delta ≡ bank_or_opened (kept_by first asked) m first.delta) same
       (kept_served (bank_in (heard_place second.places position)) letter.message.member second.delta asked
-      ∙ ap (λ b. bank_after b asked) (one_bank e)
+      ∙ ap (λ b. kept_after b asked) (one_bank e)
       ∙ sym (kept_served (bank_in (heard_place first.places position)) letter.message.member first.delta asked))
 
   served_both : is_served local letter ≡ true → (b : Body) →

@@ -9,9 +9,11 @@ use Rattle.deeds.proofs.NameLemmas.{names_decided, other_named, own_named, same_
 use Rattle.recoveries.specs.Records.{IsKeptUnder, IsSame, LogRecord, Recovers}
 use Rattle.recoveries.proofs.LoggedLemmas.{started_epoch, started_number}
 use Rattle.recoveries.proofs.NodeCopyLemmas.{same_self}
+use Rattle.object_letters.specs.Closing.{after_close, after_closing_all, after_place_closed, is_closed}
 use Rattle.object_letters.specs.Hearing.{after_place, after_places}
 use Rattle.object_letters.specs.Letters.{after_letter, after_letters, letters_as}
-use Rattle.recoveries.specs.RewrittenRecords.{epoch_records, is_among, records_of_name, object_records, place_records, places_records}
+use Rattle.recoveries.specs.RewrittenRecords.{close_records, closes_records, epoch_records, is_among, records_of_name, object_records}
+use Rattle.recoveries.specs.RewrittenRecords.{place_records, places_records}
 use Rattle.recoveries.specs.RewritingNodes.{AreDistinctNames}
 
 -- records that follow others
@@ -119,20 +121,51 @@ all_served_to name (letter ∷ letters) old new recovers =
     changed_under old middle new name (after_letter (old.objects name) letter) (λ local. after_letters local letters)
     one (all_served_to name letters middle new recovers.2)
 
+-- Banks of the object of a name that are closed
+
+-- the bank of one place, or none
+place_closed : (name : List ℕ) (place : Place) (old new : KeptNode) → Recovers (close_records name place) old new
+    → IsKeptUnder old name (after_place_closed (old.objects name) place) new
+place_closed name place old new recovers = go (is_closed place.bank) recovers
+  where
+    go : (b : Bool) → Recovers (cond b (LogRecord.Closes name place.position ∷ []) []) old new
+        → IsKeptUnder old name (cond b (after_close (old.objects name) place.position) (old.objects name)) new
+    go false same = same_under old new name same
+    go true closed =
+        let middle = closed.0 in
+        let one : IsKeptUnder old name (after_close (old.objects name) place.position) middle =
+        subst (λ (l : LocalObject). IsKeptUnder old name l middle) closed.1.done.local closed.1.put in
+        changed_under old middle new name (after_close (old.objects name) place.position) (λ local. local) one
+        (same_under middle new name closed.2)
+
+-- the banks of some places
+all_closed_at : (name : List ℕ) (places : List Place) (old new : KeptNode) → Recovers (closes_records name places) old new
+    → IsKeptUnder old name (after_closing_all (old.objects name) places) new
+all_closed_at name [] old new recovers = same_under old new name recovers
+all_closed_at name (place ∷ places) old new recovers =
+    let parts = parted (close_records name place) (closes_records name places) old new recovers in
+    changed_under old parts.0 new name (after_place_closed (old.objects name) place) (λ local. after_closing_all local places)
+    (place_closed name place old parts.0 parts.1) (all_closed_at name places parts.0 new parts.2)
+
 -- All records of the object of a name
 
--- what a copy of an object is after it hears of its positions, and then serves the letters to its banks
+-- what a copy of an object is after it hears of its positions, serves the letters to its banks, and closes banks
 abbrev pub rebuilt : (node : ℕ) → (local copy : LocalObject) → LocalObject
-rebuilt node local copy = after_letters (after_places copy local.places) (letters_as node local)
+rebuilt node local copy = after_closing_all (after_letters (after_places copy local.places) (letters_as node local)) local.places
 
 -- the records make the object of the name that
 name_rebuilt : (node : ℕ) (name : List ℕ) (local : LocalObject) (old new : KeptNode)
     → Recovers (records_of_name node name local) old new → IsKeptUnder old name (rebuilt node local (old.objects name)) new
 name_rebuilt node name local old new recovers =
-    let parts = parted (places_records name local.places) (map (LogRecord.Serves name) (letters_as node local)) old new recovers in
+    let served = map (LogRecord.Serves name) (letters_as node local) in
+    let parts = parted (places_records name local.places) (served ++ closes_records name local.places) old new recovers in
+    let more = parted served (closes_records name local.places) parts.0 new parts.2 in
     changed_under old parts.0 new name (after_places (old.objects name) local.places)
-    (λ copy. after_letters copy (letters_as node local)) (all_heard_at name local.places old parts.0 parts.1)
-    (all_served_to name (letters_as node local) parts.0 new parts.2)
+    (λ copy. after_closing_all (after_letters copy (letters_as node local)) local.places)
+    (all_heard_at name local.places old parts.0 parts.1)
+    (changed_under parts.0 more.0 new name (after_letters (parts.0.objects name) (letters_as node local))
+    (λ copy. after_closing_all copy local.places) (all_served_to name (letters_as node local) parts.0 more.0 more.1)
+    (all_closed_at name local.places more.0 new more.2))
 
 -- The records of all names
 

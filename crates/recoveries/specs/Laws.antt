@@ -5,8 +5,8 @@ use Rattle.std.specs.Prelude.{◌≡◌, ℕ, true, false, List, [], ◌∷◌, 
 use Rattle.layout.specs.Layout.{Layout}
 use Rattle.letter.specs.declared.letter.Letter.{Letter}
 use Rattle.local_object.specs.Changing.{IsUnchangedBy}
-use Rattle.local_object.specs.Doing.{give_up_events, has_move_open, move_refusal, read_refusal, serve_events}
-use Rattle.local_object.specs.Doing.{write_refusal}
+use Rattle.local_object.specs.Doing.{close_events, give_up_events, has_move_open, move_refusal, read_refusal}
+use Rattle.local_object.specs.Doing.{serve_events, write_refusal}
 use Rattle.local_object.specs.Events.{LocalEvent}
 use Rattle.deeds.specs.Kept.{FileOfNames, KeptNode, new_node}
 use Rattle.deeds.specs.Restarts.{IsRestarted}
@@ -37,6 +37,12 @@ MovesAreLogged = (old new : KeptNode) (name : List ℕ) (id : ℕ) (layout : Lay
     old.ids.node ≡ old.file.mover → move_refusal (old.objects name) id ≡ None →
     IsNamedOutcome old name (LocalEvent.BeginMove id layout ∷ []) new →
     IsLogged old (LogRecord.Moves name id layout ∷ []) new
+
+-- a bank that is closed
+abbrev pub ClosesAreLogged : Type 0
+ClosesAreLogged = (old new : KeptNode) (name : List ℕ) (position : ℕ) →
+    IsNamedOutcome old name (close_events (old.objects name) position) new →
+    IsLogged old (LogRecord.Closes name position ∷ []) new
 
 -- What needs no record
 

@@ -4,21 +4,23 @@ use Rattle.layout.specs.Layout.{IsLawful, Layout}
 use Rattle.deeds.specs.CallId.{with_next_epoch}
 use Rattle.letter.specs.declared.letter.Letter.{Letter}
 use Rattle.local_object.specs.declared.progress.Ended.{Ended}
-use Rattle.local_object.specs.Doing.{IsOutcome, is_taken, serve_events}
+use Rattle.local_object.specs.Doing.{IsOutcome, close_events, is_taken, serve_events}
 use Rattle.local_object.specs.Events.{LocalEvent}
 use Rattle.local_object.specs.Local.{LocalObject, with_heard}
 use Rattle.local_object.specs.Taking.{IsReplyOutcome}
 use Rattle.deeds.specs.Kept.{KeptNode}
 use Rattle.deeds.specs.Named.{with_named}
 
--- what a log records: an epoch of ids began, or an object, which the record names, served a letter, took one, or began
--- a move; or, in a log that was rewritten, the node had heard of a position of the object, with this layout
+-- what a log records: an epoch of ids began, or an object, which the record names, served a letter, took one, began a
+-- move, or closed its bank of a position; or, in a log that was rewritten, the node had heard of a position of the
+-- object, with this layout
 pub data LogRecord : Type 0 where
   Starts : LogRecord
   Serves : (name : List ℕ) → Letter → LogRecord
   Takes : (name : List ℕ) → Letter → LogRecord
   Moves : (name : List ℕ) → (id : ℕ) → Layout → LogRecord
   Hears : (name : List ℕ) → (position : ℕ) → Layout → LogRecord
+  Closes : (name : List ℕ) → (position : ℕ) → LogRecord
 
 -- a node keeps the same of all objects as before, with the same cluster file and number, in the same epoch
 pub record IsSame (old new : KeptNode) : Type 0 where
@@ -70,6 +72,8 @@ RecoversOne (LogRecord.Serves name letter) old new =
 RecoversOne (LogRecord.Takes name letter) old new = IsNamedReplyOutcome old name letter new
 RecoversOne (LogRecord.Moves name id layout) old new = IsNamedOutcome old name (LocalEvent.BeginMove id layout ∷ []) new
 RecoversOne (LogRecord.Hears name position layout) old new = IsNamedHearing old name position layout new
+RecoversOne (LogRecord.Closes name position) old new =
+    IsNamedOutcome old name (close_events (old.objects name) position) new
 
 -- the node carried out these records again, one after another
 abbrev pub Recovers : List LogRecord → (old new : KeptNode) → Type 0

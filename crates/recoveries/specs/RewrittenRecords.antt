@@ -4,6 +4,7 @@ use Rattle.std.specs.Prelude.{ℕ, zero, suc, ◌==◌, Bool, true, false, if◌
 use Rattle.deeds.specs.Kept.{KeptNode}
 use Rattle.deeds.specs.Named.{is_same_name}
 use Rattle.local_object.specs.Local.{LocalObject, Place}
+use Rattle.object_letters.specs.Closing.{is_closed}
 use Rattle.object_letters.specs.Letters.{letters_as}
 use Rattle.recoveries.specs.Records.{LogRecord}
 
@@ -27,10 +28,21 @@ abbrev pub places_records : (name : List ℕ) → List Place → List LogRecord
 places_records name [] = []
 places_records name (place ∷ places) = place_records name place ++ places_records name places
 
--- the node of this number hears of the positions of an object, and then serves the letters that lead to its banks
+-- the node closes its bank of a place of the object of this name, if the bank of the place is closed
+abbrev pub close_records : (name : List ℕ) → Place → List LogRecord
+close_records name place = if is_closed place.bank then LogRecord.Closes name place.position ∷ [] else []
+
+-- the node closes its banks of these places
+abbrev pub closes_records : (name : List ℕ) → List Place → List LogRecord
+closes_records name [] = []
+closes_records name (place ∷ places) = close_records name place ++ closes_records name places
+
+-- the node of this number hears of the positions of an object, serves the letters that lead to its banks, and closes
+-- those that the object has closed
 abbrev pub records_of_name : (node : ℕ) → (name : List ℕ) → LocalObject → List LogRecord
 records_of_name node name local =
-    places_records name local.places ++ map (LogRecord.Serves name) (letters_as node local)
+    places_records name local.places
+    ++ (map (LogRecord.Serves name) (letters_as node local) ++ closes_records name local.places)
 
 -- the records of the objects of these names
 abbrev pub object_records : KeptNode → (names : List (List ℕ)) → List LogRecord

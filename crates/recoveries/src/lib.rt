@@ -4,7 +4,9 @@
 //! empty body.
 #![tactic(auto)]
 
-pub use logged::{moves_are_logged, served_is_logged, starts_are_logged, taken_is_logged};
+pub use logged::{
+    closes_are_logged, moves_are_logged, served_is_logged, starts_are_logged, taken_is_logged,
+};
 pub use own_calls::{
     handling_keeps_own_calls, logged_ids_differ, new_nodes_have_own_calls,
     restarting_keeps_own_calls,

@@ -1,5 +1,6 @@
 //! What a node does that its log has to record.
-ghost use Rattle.recoveries.specs.Laws.{MovesAreLogged, ServedIsLogged, StartsAreLogged, TakenIsLogged};
+ghost use Rattle.recoveries.specs.Laws.{ClosesAreLogged, MovesAreLogged, ServedIsLogged, StartsAreLogged};
+ghost use Rattle.recoveries.specs.Laws.{TakenIsLogged};
 
 /// A law: for an epoch that begins, the record `Starts` is enough.
 pub fn starts_are_logged()
@@ -19,4 +20,9 @@ pub fn taken_is_logged()
 /// A law: for a move that begins, the record `Moves` is enough.
 pub fn moves_are_logged()
     ensures { MovesAreLogged }
+{}
+
+/// A law: for a bank that is closed, the record `Closes` is enough.
+pub fn closes_are_logged()
+    ensures { ClosesAreLogged }
 {}
