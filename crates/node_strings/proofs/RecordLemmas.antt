@@ -10,6 +10,7 @@ use Rattle.node_strings.specs.Parts.{then_read, number_or_none, layout_or_none, 
 use Rattle.node_strings.specs.declared.record.Record.{Record}
 use Rattle.node_strings.specs.declared.record.Record.TheVariants as kept
 use Rattle.node_strings.specs.Record.{HasPartsInRange, record_strings, start_record, cluster_record, hear_record, move_record}
+use Rattle.node_strings.specs.Record.{close_record}
 use Rattle.node_strings.specs.Record.{record_from, record_at}
 use Rattle.node_strings.proofs.PartLemmas.{some_is, bind_some, is_word, number_ok, number_again, layout_ok, layout_again}
 use Rattle.node_strings.proofs.PartLemmas.{digest_ok, digest_again}
@@ -80,6 +81,21 @@ hear_ok word (position ∷ name ∷ layout ∷ []) it w e =
     )
 hear_ok word (position ∷ name ∷ layout ∷ more ∷ rest) it w e = absurd cc
 
+close_ok : (word : List ℕ) (rest : Strings) (it : Record) → word ≡ codes "close" → close_record rest ≡ Some it
+    → AreStringsOfRecord (word ∷ rest) it
+unfolding close_record
+close_ok word [] it w e = absurd cc
+close_ok word (position ∷ []) it w e = absurd cc
+close_ok word (position ∷ name ∷ []) it w e =
+    let a = bind_some (number_or_none (2 ^ 32 - 1) position) (λ n. Some (kept.Close n name)) it e in
+    let n = number_ok (2 ^ 32 - 1) position a.0 (omega arith) (omega arith) a.1 in
+    subst (AreStringsOfRecord (word ∷ position ∷ name ∷ [])) (some_is (kept.Close a.0 name) it a.2) (
+      omega (arith, n.1),
+      ap (λ (s : List ℕ). s ∷ position ∷ name ∷ []) w
+          ∙ ap (λ (s : List ℕ). codes "close" ∷ s ∷ name ∷ []) n.0,
+    )
+close_ok word (position ∷ name ∷ more ∷ rest) it w e = absurd cc
+
 from_ok : (word : List ℕ) (rest : Strings) (it : Record) → record_from word rest ≡ Some it → AreStringsOfRecord (word ∷ rest) it
 unfolding record_from
 from_ok word rest it e =
@@ -93,9 +109,12 @@ from_ok word rest it e =
             | inl h ↦ cluster_ok word rest it h.0 h.1
             | inr e5 ↦ elim (is_word word (codes "move") (move_record rest) _ it e5) [
               | inl h ↦ move_ok word rest it h.0 h.1
-              | inr e6 ↦ elim (is_word word (codes "hear") (hear_record rest) None it e6) [
+              | inr e6 ↦ elim (is_word word (codes "hear") (hear_record rest) _ it e6) [
                 | inl h ↦ hear_ok word rest it h.0 h.1
-                | inr e7 ↦ absurd cc
+                | inr e7 ↦ elim (is_word word (codes "close") (close_record rest) None it e7) [
+                  | inl h ↦ close_ok word rest it h.0 h.1
+                  | inr e8 ↦ absurd cc
+                ]
               ]
             ]
           ]
@@ -126,6 +145,11 @@ unfolding hear_record
 hear_again position name layout is =
     rw (number_again (2 ^ 32 - 1) position (omega (arith, is.0)) (omega arith), layout_again layout is.1) refl
 
+close_again : (position : ℕ) (name : List ℕ) → HasPartsInRange (kept.Close position name)
+    → close_record (decimal position ∷ name ∷ []) ≡ Some (kept.Close position name)
+unfolding close_record
+close_again position name is = rw (number_again (2 ^ 32 - 1) position (omega (arith, is)) (omega arith)) refl
+
 pub record_again : (it : Record) → HasPartsInRange it → record_at (record_strings it) ≡ Some it
 unfolding record_at record_from
 record_again (kept.Cluster digest node) is = cluster_again digest node is
@@ -134,6 +158,7 @@ record_again (kept.Serve frame) is = refl
 record_again (kept.Take frame) is = refl
 record_again (kept.Move id name layout) is = move_again id name layout is
 record_again (kept.Hear position name layout) is = hear_again position name layout is
+record_again (kept.Close position name) is = close_again position name is
 
 -- ---- for the function's contract
 

@@ -20,12 +20,14 @@ record_strings (kept.Take frame) = codes "take" ∷ frame
 record_strings (kept.Move id name layout) = codes "move" ∷ decimal id ∷ name ∷ layout_string layout ∷ []
 record_strings (kept.Hear position name layout) =
     codes "hear" ∷ decimal position ∷ name ∷ layout_string layout ∷ []
+record_strings (kept.Close position name) = codes "close" ∷ decimal position ∷ name ∷ []
 
 -- the parts of a record have their ranges
 abbrev pub HasPartsInRange : Record → Type 0
 HasPartsInRange (kept.Cluster digest node) = (length digest ≡ DIGEST_LENGTH) × (node < 2 ^ 8)
 HasPartsInRange (kept.Move id name layout) = (id < 2 ^ 64) × IsLawful layout
 HasPartsInRange (kept.Hear position name layout) = (position < 2 ^ 32) × IsLawful layout
+HasPartsInRange (kept.Close position name) = position < 2 ^ 32
 HasPartsInRange it = Unit {0}
 
 -- the record of a start, if no string is left
@@ -54,6 +56,12 @@ hear_record (position ∷ name ∷ layout ∷ []) =
     (λ there. Some (kept.Hear number name there)))
 hear_record strings = None
 
+-- the record of a bank that the node closed
+unfoldable pub close_record : Strings → Option Record
+close_record (position ∷ name ∷ []) =
+    then_read (number_or_none (2 ^ 32 - 1) position) (λ number. Some (kept.Close number name))
+close_record strings = None
+
 -- the record with this word and these strings after it
 unfoldable pub record_from : List ℕ → Strings → Option Record
 record_from word rest =
@@ -63,7 +71,8 @@ record_from word rest =
     else (if bytes_eq word (codes "cluster") then cluster_record rest
     else (if bytes_eq word (codes "move") then move_record rest
     else (if bytes_eq word (codes "hear") then hear_record rest
-    else None)))))
+    else (if bytes_eq word (codes "close") then close_record rest
+    else None))))))
 
 -- the record whose strings these are
 unfoldable pub record_at : Strings → Option Record

@@ -2,7 +2,7 @@
 ghost use Rattle.std.specs.Prelude.{◌≡◌, IfSome, Some};
 ghost use Rattle.node_strings.specs.declared.record.Record.{Record as Kept};
 ghost use Rattle.node_strings.specs.Record.{HasPartsInRange, record_strings, record_at, record_from, start_record};
-ghost use Rattle.node_strings.specs.Record.{cluster_record, hear_record, move_record};
+ghost use Rattle.node_strings.specs.Record.{close_record, cluster_record, hear_record, move_record};
 
 use crate::is_text;
 use crate::parts::{digest_of, layout_of, number_of, split, string_of};
@@ -50,6 +50,8 @@ fn read_behind(word: &[u8], rest: Frame) -> Option<Record>
         move_of(rest.into_strings())
     } else if is_text(word, b"hear") {
         hear_of(rest.into_strings())
+    } else if is_text(word, b"close") {
+        close_of(rest.into_strings())
     } else {
         None
     }
@@ -109,4 +111,16 @@ fn hear_of(mut strings: Vec<Bytes>) -> Option<Record>
         name,
         layout,
     })
+}
+
+#[tactic(auto, unfolding(crate::specs::Record::close_record))]
+fn close_of(mut strings: Vec<Bytes>) -> Option<Record>
+    ensures { result ≡ close_record strings.items }
+{
+    if strings.len() != 2 {
+        return None;
+    }
+    let position = number_of(&strings[0], u64::from(u32::MAX))? as u32;
+    let name = strings.swap_remove(1);
+    Some(Record::Close { position, name })
 }

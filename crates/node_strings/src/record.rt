@@ -32,4 +32,9 @@ pub enum Record {
         name: Bytes,
         layout: Layout,
     },
+    /// The node closed its bank of this position of the object of this name: it dropped the pieces that it kept there.
+    Close {
+        position: u32,
+        name: Bytes,
+    },
 }

@@ -52,6 +52,11 @@ fn push_record(alloc: Global, strings: &mut Vec<Bytes>, it: &Record) -> Result<(
             push_shared(strings, name)?;
             push_layout(alloc, strings, layout)
         }
+        Record::Close { position, name } => {
+            push_word(strings, b"close")?;
+            push_number(alloc, strings, u64::from(*position))?;
+            push_shared(strings, name)
+        }
     }
 }
 
