@@ -1,30 +1,26 @@
 -- The entries of a log that is written anew.
-use Rattle.std.proofs.Common.{◌==◌, Bool, true, false, cond}
 use Rattle.std.proofs.Common.{◌≡◌, ◌<◌, ◌+◌, ℕ, zero, suc, List, [], ◌∷◌, ◌++◌, map, take, length, add-one}
 use Rattle.std.proofs.Common.{Some, Result, Ok, Err, OnOk, slice_get, get_or, append_assoc, refl, sym, subst, ap, ◌∙◌}
 use Rattle.std.proofs.lemmas.List.{append-nil, map-append}
 use Rattle.std.proofs.lemmas.Option.{slice_get-get_or}
 use Rattle.std.specs.List.{AllByRecursion}
 use Rattle.letter.specs.declared.letter.Letter.{Letter}
-use Rattle.local_object.specs.Local.{LocalObject, Place}
 use Rattle.deeds.specs.Kept.{KeptNode}
 use Rattle.open_calls.proofs.ListLemmas.{all_append}
 use Rattle.node_effects.specs.Errors.{WritesOrFails}
 use Rattle.node_effects.specs.declared.error.NodeError.{NodeError}
 use Rattle.node_effects.proofs.ErrorLemmas.{start_fits}
 use Rattle.node_keeper.specs.Objects.{heard_names}
-use Rattle.object_letters.specs.Letters.{letters_as}
 use Rattle.recoveries.specs.Records.{LogRecord}
-use Rattle.recoveries.specs.RewrittenRecords.{epoch_records, object_records, place_records, places_records}
+use Rattle.recoveries.specs.RewrittenRecords.{epoch_records, object_records}
 use Rattle.recoveries.specs.RewrittenRecords.{records_of_name}
 use Rattle.node_strings.specs.Strings.{Strings}
 use Rattle.node_keeper.specs.Anew.{name_records}
 use Rattle.node_keeper.specs.Fitting.{IsLoggable}
 use Rattle.node_keeper.specs.Keeping.{kept_of}
-use Rattle.node_keeper.specs.Logging.{IsReadBack, log_entry_of}
+use Rattle.node_keeper.specs.Logging.{log_entry_of}
 use Rattle.node_keeper.specs.declared.keeper.Keeper.{Keeper}
 use Rattle.node_keeper.proofs.FittingLemmas.{unwritten_more}
-use Rattle.node_keeper.proofs.ReadLemmas.{hear_read, serve_read, start_read}
 
 pub all_first : {A : Type 0} (P : A → Type 0) (xs ys : List A) → AllByRecursion P (xs ++ ys) → AllByRecursion P xs
 all_first P [] ys all = tt
@@ -65,7 +61,7 @@ epochs_push zero = refl
 epochs_push (suc count) = ap (λ (rs : List LogRecord). LogRecord.Starts ∷ rs) (epochs_push count)
 
 -- the records of an object
-abbrev records_at : KeptNode → (name : List ℕ) → List LogRecord
+abbrev pub records_at : KeptNode → (name : List ℕ) → List LogRecord
 records_at node name = records_of_name node.ids.node name (node.objects name)
 
 objects_push : (node : KeptNode) (names : List (List ℕ)) (name : List ℕ) →
@@ -163,64 +159,3 @@ pub letter_at : (digest name : List ℕ) (letters : List Letter) (i : ℕ) (lett
 letter_at digest name letters i letter at all =
     letter_there digest name letters i letter
     (slice_get-get_or letters i letter at.0 ∙ ap (λ (l : Letter). Some l) (sym at.1)) all
-
--- Records are read back
-
-epochs_read : (digest : List ℕ) (count : ℕ) → AllByRecursion (IsReadBack digest) (epoch_records count)
-epochs_read digest zero = tt
-epochs_read digest (suc count) = (start_read digest, epochs_read digest count)
-
-letters_read : (digest name : List ℕ) (letters : List Letter) →
-    AllByRecursion (IsLoggable digest) (map (LogRecord.Serves name) letters) →
-    AllByRecursion (IsReadBack digest) (map (LogRecord.Serves name) letters)
-letters_read digest name [] all = tt
-letters_read digest name (letter ∷ letters) all =
-    (serve_read digest (record { name = name; letter = letter }) all.0, letters_read digest name letters all.1)
-
--- a position that the object of a name has heard of, if it is one of which there is a record
-place_read : (digest name : List ℕ) (place : Place) → AllByRecursion (IsLoggable digest) (place_records name place) →
-    AllByRecursion (IsReadBack digest) (place_records name place)
-place_read digest name place all = go (place.position == 0) all
-  where
-    those : Bool → List LogRecord
-    those b = cond b [] (LogRecord.Hears name place.position place.layout ∷ [])
-
-    go : (b : Bool) → AllByRecursion (IsLoggable digest) (those b) → AllByRecursion (IsReadBack digest) (those b)
-    go true all = tt
-    go false all = (hear_read digest name place.position place.layout all.0, tt)
-
--- all positions that it has heard of
-places_read : (digest name : List ℕ) (places : List Place) → AllByRecursion (IsLoggable digest) (places_records name places) →
-    AllByRecursion (IsReadBack digest) (places_records name places)
-places_read digest name [] all = tt
-places_read digest name (place ∷ places) all =
-    let rest = places_records name places in
-    all_append (IsReadBack digest) (place_records name place) rest
-    (place_read digest name place (all_first (IsLoggable digest) (place_records name place) rest all))
-    (places_read digest name places (all_second (IsLoggable digest) (place_records name place) rest all))
-
--- all records of the object of a name
-name_read : (digest : List ℕ) (node : ℕ) (name : List ℕ) (local : LocalObject) →
-    AllByRecursion (IsLoggable digest) (records_of_name node name local) →
-    AllByRecursion (IsReadBack digest) (records_of_name node name local)
-name_read digest node name local all =
-    let first = places_records name local.places in
-    let rest = map (LogRecord.Serves name) (letters_as node local) in
-    all_append (IsReadBack digest) first rest (places_read digest name local.places (all_first (IsLoggable digest) first rest all))
-    (letters_read digest name (letters_as node local) (all_second (IsLoggable digest) first rest all))
-
-objects_read : (digest : List ℕ) (node : KeptNode) (names : List (List ℕ)) →
-    AllByRecursion (IsLoggable digest) (object_records node names) → AllByRecursion (IsReadBack digest) (object_records node names)
-objects_read digest node [] all = tt
-objects_read digest node (name ∷ names) all =
-    let rest = object_records node names in
-    all_append (IsReadBack digest) (records_at node name) rest
-    (name_read digest node.ids.node name (node.objects name) (all_first (IsLoggable digest) (records_at node name) rest all))
-    (objects_read digest node names (all_second (IsLoggable digest) (records_at node name) rest all))
-
-pub anew_read : (digest : List ℕ) (node : KeptNode) (names : List (List ℕ)) →
-    AllByRecursion (IsLoggable digest) (object_records node names) →
-    AllByRecursion (IsReadBack digest) (epoch_records node.ids.epoch ++ object_records node names)
-anew_read digest node names all =
-    all_append (IsReadBack digest) (epoch_records node.ids.epoch) (object_records node names)
-    (epochs_read digest node.ids.epoch) (objects_read digest node names all)

@@ -33,18 +33,18 @@ use Rattle.node_keeper.proofs.ReadLemmas.{serve_read, take_read}
 use Rattle.node_keeper.proofs.RequestLemmas.{all_reply, done_asks}
 use Rattle.node_keeper.proofs.SendingLemmas.{asked_addressed, going_letters, replied_addressed}
 
-few_of : (b : Bool) (one : LogRecord) → AreFew (cond b (one ∷ []) [])
+pub few_of : (b : Bool) (one : LogRecord) → AreFew (cond b (one ∷ []) [])
 few_of true one = inr (one, refl)
 few_of false one = inl refl
 
 -- a record that can go to the log, if it does, is read back
-read_if : (digest : List ℕ) (one : LogRecord) → (IsLoggable digest one → IsReadBack digest one) → (b : Bool) →
+pub read_if : (digest : List ℕ) (one : LogRecord) → (IsLoggable digest one → IsReadBack digest one) → (b : Bool) →
     AllByRecursion (IsLoggable digest) (cond b (one ∷ []) []) → AllByRecursion (IsReadBack digest) (cond b (one ∷ []) [])
 read_if digest one reads true fits = (reads fits.0, tt)
 read_if digest one reads false fits = tt
 
 -- a record that tells of no id
-idless_if : (one : LogRecord) → TellsNoId one → (b : Bool) → AllByRecursion TellsNoId (cond b (one ∷ []) [])
+pub idless_if : (one : LogRecord) → TellsNoId one → (b : Bool) → AllByRecursion TellsNoId (cond b (one ∷ []) [])
 idless_if one none true = (none, tt)
 idless_if one none false = tt
 

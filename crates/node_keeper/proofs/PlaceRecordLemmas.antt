@@ -8,7 +8,7 @@ use Rattle.node_strings.specs.Strings.{Strings}
 use Rattle.object_letters.specs.Letters.{letters_as}
 use Rattle.open_calls.proofs.ListLemmas.{all_append}
 use Rattle.recoveries.specs.Records.{LogRecord}
-use Rattle.recoveries.specs.RewrittenRecords.{place_records, places_records, records_of_name}
+use Rattle.recoveries.specs.RewrittenRecords.{closes_records, place_records, places_records, records_of_name}
 use Rattle.node_keeper.specs.Fitting.{IsLoggable}
 use Rattle.node_keeper.specs.Logging.{log_entry_of}
 use Rattle.node_keeper.proofs.AnewLemmas.{all_first, all_second, entries_more}
@@ -52,13 +52,15 @@ places_part P name (first ∷ places) (suc i) place less all =
     places_part P name places i place (omega arith)
     (all_second P (place_records name first) (places_records name places) all)
 
--- the entries of an object: those of its positions, and then those of its letters
+-- the entries of an object: those of its positions, then those of its letters, and then those of its closed banks
 pub object_appended : {T E : Type 0} (digest name : List ℕ) (node : ℕ) (local : LocalObject)
-    (before now after : List Strings) (result : Result T E) →
-    now ≡ before ++ map (log_entry_of digest) (places_records name local.places) →
-    OnOk result (after ≡ now ++ map (log_entry_of digest) (map (LogRecord.Serves name) (letters_as node local))) →
+    (before mid now after : List Strings) (result : Result T E) →
+    mid ≡ before ++ map (log_entry_of digest) (places_records name local.places) →
+    now ≡ mid ++ map (log_entry_of digest) (map (LogRecord.Serves name) (letters_as node local)) →
+    OnOk result (after ≡ now ++ map (log_entry_of digest) (closes_records name local.places)) →
     OnOk result (after ≡ before ++ map (log_entry_of digest) (records_of_name node name local))
-object_appended digest name node local before now after (Ok x) first second =
-    entries_more digest before now after (places_records name local.places)
-    (map (LogRecord.Serves name) (letters_as node local)) first second
-object_appended digest name node local before now after (Err e) first second = second
+object_appended digest name node local before mid now after (Ok x) first second third =
+    let letters = map (LogRecord.Serves name) (letters_as node local) in
+    entries_more digest before mid after (places_records name local.places) (letters ++ closes_records name local.places) first
+    (entries_more digest mid now after letters (closes_records name local.places) second third)
+object_appended digest name node local before mid now after (Err e) first second third = third

@@ -10,7 +10,7 @@ use Rattle.deeds.specs.CallId.{CallIds}
 use Rattle.open_calls.specs.OpenCalls.{NodeCall, open_call}
 use Rattle.letter.specs.declared.letter.Letter.{Letter}
 use Rattle.local_object.specs.declared.progress.Ended.{Ended}
-use Rattle.local_object.specs.Doing.{IsOutcome, give_up_events, gives_up, is_served, serve_events}
+use Rattle.local_object.specs.Doing.{IsOutcome, can_close, close_events, give_up_events, gives_up, is_served, serve_events}
 use Rattle.local_object.specs.Ended.{all_told}
 use Rattle.local_object.specs.Events.{LocalEvent, all_done}
 use Rattle.local_object.specs.Going.{next_if}
@@ -191,3 +191,15 @@ module _ (got : List Named) (name : List ℕ) (id : ℕ) (local : LocalObject) w
 
   pub give_up_told : all_told fragment local (give_up_events local id) ≡ []
   give_up_told = untold_if local (LocalEvent.GiveUp id) refl (gives_up local id)
+
+-- Closing
+
+module _ (got : List Named) (name : List ℕ) (position : ℕ) (local : LocalObject) where
+  pub close_fed : AllByRecursion (IsEventLetterKnown got name) (close_events local position)
+  close_fed = if_all (IsEventLetterKnown got name) (LocalEvent.Close position) (can_close local position) tt
+
+  pub close_none : AllByRecursion BeginsNone (close_events local position)
+  close_none = if_all BeginsNone (LocalEvent.Close position) (can_close local position) refl
+
+  pub close_told : all_told fragment local (close_events local position) ≡ []
+  close_told = untold_if local (LocalEvent.Close position) refl (can_close local position)

@@ -38,6 +38,14 @@ move_read digest name id layout fits range lawful = record {
   same = ap deeds_if (record_again (record_of.Move id name layout) (range, lawful));
 }
 
+-- a bank that the node closes
+pub close_read : (digest name : List ℕ) (position : ℕ) → IsLoggable digest (LogRecord.Closes name position) →
+    IsReadBack digest (LogRecord.Closes name position)
+close_read digest name position fits = record {
+  entry = fits.entry;
+  same = ap deeds_if (record_again (record_of.Close position name) fits.message);
+}
+
 -- a position that the node has heard of
 pub hear_read : (digest name : List ℕ) (position : ℕ) (layout : Layout) →
     IsLoggable digest (LogRecord.Hears name position layout) → IsReadBack digest (LogRecord.Hears name position layout)

@@ -5,6 +5,7 @@ use Rattle.std.specs.List.{AllByRecursion}
 use Rattle.bank.specs.Bank.{empty_piece}
 use Rattle.bank.specs.declared.kind.Kind.{Kind}
 use Rattle.bank.specs.declared.kind.Kind.TheVariants.{Next, Spread}
+use Rattle.bank.specs.declared.reply.Reply.{Reply}
 use Rattle.bank.specs.declared.status.Status.TheVariants.{Pending}
 use Rattle.encoder.specs.Fragment.{fragment}
 use Rattle.layout.specs.Layout.{Layout}
@@ -22,8 +23,9 @@ use Rattle.letter.specs.declared.letter.Letter.{Letter}
 use Rattle.mail.specs.Message.{is_request}
 use Rattle.local_object.specs.Doing.{IsOutcome, is_served, serve_events}
 use Rattle.local_object.specs.Events.{LocalEvent, advanced_at, advanced_here, all_done, begun_here, done_here, learnt_from, letter_of}
-use Rattle.local_object.specs.Events.{on_open_call, pieces_here, served_here, silent}
-use Rattle.local_object.specs.Local.{LocalObject, last_position, layout_here, with_heard}
+use Rattle.local_object.specs.Events.{on_open_call, pieces_here, reply_letters, served_here, silent}
+use Rattle.local_object.specs.KeptBanks.{kept_reply}
+use Rattle.local_object.specs.Local.{LocalObject, bank_here, last_position, layout_here, with_heard}
 use Rattle.local_object.specs.Resent.{IsResent, current_letters}
 use Rattle.deeds.specs.Ids.{begun_id}
 use Rattle.open_calls.proofs.ListLemmas.{all_append, all_weaker}
@@ -93,6 +95,7 @@ event_asks local (LocalEvent.Take letter) none =
 event_asks local (LocalEvent.Settle id value) none = silent_asks local (open_call local.calls id) _
 event_asks local (LocalEvent.Answer id) none = tt
 event_asks local (LocalEvent.GiveUp id) none = tt
+event_asks local (LocalEvent.Close position) none = tt
 
 all_ask : (local : LocalObject) (events : List LocalEvent) → AllByRecursion ServesNone events →
     AllByRecursion Asks (all_done fragment local events).sent
@@ -118,6 +121,7 @@ begins_serve_none (LocalEvent.Take letter) other is = tt
 begins_serve_none (LocalEvent.Settle id value) other is = tt
 begins_serve_none (LocalEvent.Answer id) other is = tt
 begins_serve_none (LocalEvent.GiveUp id) other is = tt
+begins_serve_none (LocalEvent.Close position) other is = tt
 
 -- Letters that are sent again
 
@@ -140,7 +144,12 @@ resent_ask local letters resent =
 
 served_replies : (local : LocalObject) (letter : Letter) (message : Body) →
     AllByRecursion Replies ((served_here local letter message).sent ++ [])
-served_replies local letter (body.Request asked) = (refl, tt)
+served_replies local letter (body.Request asked) =
+    go (kept_reply (bank_here local letter.message.position letter.message.member) asked)
+  where
+    go : (made : Option Reply) → AllByRecursion Replies (reply_letters local letter made ++ [])
+    go None = tt
+    go (Some made) = (refl, tt)
 served_replies local letter (body.Reply kind made) = tt
 
 pub all_reply : (local new : LocalObject) (letter : Letter) (replies : List Letter) →

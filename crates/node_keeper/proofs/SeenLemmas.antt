@@ -12,7 +12,8 @@ use Rattle.node_effects.specs.declared.notice.Notice.{Notice}
 use Rattle.node_effects.specs.declared.work.Work.{Work}
 use Rattle.node_keeper.specs.Acts.{ClientsSee, GivesId}
 use Rattle.node_keeper.specs.Beginning.{BeginsCall, Beginning, seen_of_begun}
-use Rattle.node_keeper.specs.Delivering.{DeliversAs, DeliversLetter, delivered_of, notices_of, told_by, was_dropped}
+use Rattle.node_keeper.specs.Closing.{ClosesLeft, left_between}
+use Rattle.node_keeper.specs.Delivering.{DeliversAs, DeliversLetter, TakesAndCloses, delivered_of, notices_of, told_by, was_dropped}
 use Rattle.node_keeper.specs.Keeping.{heeds, kept_of}
 use Rattle.node_keeper.specs.declared.delivered.Begun.{Begun}
 use Rattle.node_keeper.specs.declared.delivered.Begun.TheVariants as begun
@@ -43,6 +44,18 @@ never_dropped : (ended : Option Ended) → was_dropped (delivered_of ended) ≡ 
 never_dropped None = refl
 never_dropped (Some ended) = refl
 
+-- clients see nothing where the node closes a bank
+left_unseen : (name : List ℕ) (left : Option ℕ) (old new : Keeper) (before after : Work) →
+    ClosesLeft name left old before new after → ClientsSee before after []
+left_unseen name None old new before after is = is.1.notices
+left_unseen name (Some position) old new before after is = is.grown.notices
+
+takes_seen : (it : NamedLetter) (old new : Keeper) (before after : Work) (ended : Option Ended) →
+    TakesAndCloses it old before new after ended → ClientsSee before after (notices_of it.name ended)
+takes_seen it old new before after ended is =
+    left_unseen it.name (left_between old.objects is.middle.objects it.name it.letter.message.call) is.middle new is.between after
+    is.closes ∙ append-nil is.between.notices.items ∙ is.takes.grown.notices
+
 module _ (asker : ℕ) (it : NamedLetter) (old new : Keeper) (before after : Work) (result : Delivered) where
   seen_by : (heeded asks : Bool) → DeliversAs heeded asks asker it old before new after result →
       ClientsSee before after (told_by it.name result)
@@ -50,7 +63,7 @@ module _ (asker : ℕ) (it : NamedLetter) (old new : Keeper) (before after : Wor
   seen_by true true is = subst (λ r. ClientsSee before after (told_by it.name r)) (sym is.0) is.1.grown.notices
   seen_by true false is =
       subst (λ r. ClientsSee before after (told_by it.name r)) (sym is.1)
-      (subst (λ ns. ClientsSee before after ns) (sym (told_delivered it.name is.0)) is.2.grown.notices)
+      (subst (λ ns. ClientsSee before after ns) (sym (told_delivered it.name is.0)) (takes_seen it old new before after is.0 is.2))
 
   pub delivers_seen : DeliversLetter asker it old before new after result → ClientsSee before after (told_by it.name result)
   delivers_seen is = seen_by (heeds (kept_of old) (named_of it)) (is_request it.letter.message.body) is
@@ -91,6 +104,19 @@ begins_leaves call old new before after (begun.Open id) is =
     record { to_clients = second.to_clients ∙ first.to_clients; due = second.due ∙ first.due }
 begins_leaves call old new before after (begun.Refused refusal) is = id_leaves old.ids is.id new.ids before after is.gives
 
+left_leaves : (name : List ℕ) (left : Option ℕ) (old new : Keeper) (before after : Work) →
+    ClosesLeft name left old before new after → LeavesClients before after
+left_leaves name None old new before after is = grown_leaves before after _ is.1 refl refl
+left_leaves name (Some position) old new before after is = grown_leaves before after _ is.grown refl refl
+
+takes_leaves : (it : NamedLetter) (old new : Keeper) (before after : Work) (ended : Option Ended) →
+    TakesAndCloses it old before new after ended → LeavesClients before after
+takes_leaves it old new before after ended is =
+    let first = grown_leaves before is.between _ is.takes.grown refl refl in
+    let second = left_leaves it.name (left_between old.objects is.middle.objects it.name it.letter.message.call) is.middle new
+    is.between after is.closes in
+    record { to_clients = second.to_clients ∙ first.to_clients; due = second.due ∙ first.due }
+
 pub delivers_leaves : (asker : ℕ) (it : NamedLetter) (old new : Keeper) (before after : Work) (result : Delivered) →
     DeliversLetter asker it old before new after result → LeavesClients before after
 delivers_leaves asker it old new before after result is =
@@ -99,4 +125,4 @@ delivers_leaves asker it old new before after result is =
     go : (heeded asks : Bool) → DeliversAs heeded asks asker it old before new after result → LeavesClients before after
     go false asks by = grown_leaves before after _ by.2 refl refl
     go true true by = grown_leaves before after _ by.1.grown refl refl
-    go true false by = grown_leaves before after _ by.2.grown refl refl
+    go true false by = takes_leaves it old new before after by.0 by.2

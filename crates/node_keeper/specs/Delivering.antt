@@ -22,6 +22,7 @@ use Rattle.node_effects.specs.declared.work.Work.{Work}
 use Rattle.node_keeper.specs.declared.delivered.Delivered.{Delivered}
 use Rattle.node_keeper.specs.declared.delivered.Delivered.TheVariants as delivered
 use Rattle.node_keeper.specs.Acts.{logged_growth}
+use Rattle.node_keeper.specs.Closing.{ClosesLeft, left_between, left_records}
 use Rattle.node_keeper.specs.Fitting.{CanBeWritten, IsLoggable, IsSendable}
 use Rattle.node_keeper.specs.Keeping.{heeds, kept_of}
 use Rattle.node_keeper.specs.Sendings.{asked, reply_sendings, sent_growth}
@@ -80,6 +81,17 @@ pub record TakesReply (it : NamedLetter) (old : Keeper) (before : Work) (new : K
   pub fits : CanBeWritten old.ids.node old.digest (taken_records old it) (asked old.ids.node it.name letters)
   pub rest : KeepsRest old new
 
+-- a reply was taken, and then the node closed its bank of the position that the reply's call has left behind, if it has
+-- left one
+pub record TakesAndCloses (it : NamedLetter) (old : Keeper) (before : Work) (new : Keeper) (after : Work)
+    (ended : Option Ended) : Type 0 where
+  pub middle : Keeper
+  pub between : Work
+  pub takes : TakesReply it old before middle between ended
+  pub closes : ClosesLeft it.name (left_between old.objects middle.objects it.name it.letter.message.call)
+      middle between new after
+  pub rest : KeepsRest old new
+
 -- what became of a letter that was taken
 abbrev pub delivered_of : Option Ended → Delivered
 delivered_of None = delivered.Handled
@@ -93,7 +105,7 @@ DeliversAs false asks asker it old before new after result =
 DeliversAs true true asker it old before new after result =
     (result ≡ delivered.Handled) × ServesRequest asker it old before new after
 DeliversAs true false asker it old before new after result =
-    (ended : Option Ended) × (result ≡ delivered_of ended) × TakesReply it old before new after ended
+    (ended : Option Ended) × (result ≡ delivered_of ended) × TakesAndCloses it old before new after ended
 
 -- what became of a letter that has come from the node of number `asker`
 abbrev pub DeliversLetter : (asker : ℕ) → NamedLetter → (old : Keeper) → (before : Work) → (new : Keeper) →
@@ -129,11 +141,21 @@ CanTake it keeper =
     IsReplyOutcomeAt keeper.objects it.name it.letter new letters ended →
     AllByRecursion (IsSendable keeper.ids.node keeper.digest) (asked keeper.ids.node it.name letters))
 
+-- everything that has to be written when a reply is taken can be written, and so can the record of the bank that the
+-- node then closes
+abbrev pub CanTakeAndClose : NamedLetter → Keeper → Type 0
+CanTakeAndClose it keeper =
+    CanTake it keeper
+    × ((new : Objects) (letters : List Letter) (ended : List Ended) →
+    IsReplyOutcomeAt keeper.objects it.name it.letter new letters ended →
+    AllByRecursion (IsLoggable keeper.digest) (left_records new it.name
+    (left_between keeper.objects new it.name it.letter.message.call)))
+
 -- all that has to be written for a letter can be written; `heeded` and `asks` say if it is heeded and is a request
 abbrev pub CanDeliverAs : (heeded asks : Bool) → (asker : ℕ) → NamedLetter → Keeper → Type 0
 CanDeliverAs false asks asker it keeper = Unit {0}
 CanDeliverAs true true asker it keeper = CanServe asker it keeper
-CanDeliverAs true false asker it keeper = CanTake it keeper
+CanDeliverAs true false asker it keeper = CanTakeAndClose it keeper
 
 -- all that has to be written for a letter that has come from the node of number `asker` can be written
 abbrev pub CanDeliver : (asker : ℕ) → NamedLetter → Keeper → Type 0

@@ -18,8 +18,8 @@ pub record HasFrame (digest : List ℕ) (send : Sending) : Type 0 where
 abbrev pub IsSendable : (number : ℕ) → (digest : List ℕ) → Sending → Type 0
 IsSendable number digest send = (send.to ≡ number → ⊥) → HasFrame digest send
 
--- the letter in a record, if there is one, is a message between nodes; and a position that the node has heard of fits
--- 32 bits, and its layout is lawful
+-- the letter in a record, if there is one, is a message between nodes; a position that the node has heard of, or whose
+-- bank it closed, fits 32 bits; and the layout of one that it has heard of is lawful
 abbrev pub HasMessage : (digest : List ℕ) → LogRecord → Type 0
 HasMessage digest LogRecord.Starts = Unit {0}
 HasMessage digest (LogRecord.Serves name letter) =
@@ -28,6 +28,7 @@ HasMessage digest (LogRecord.Takes name letter) =
     IsMessage (message_of digest (record { name = name; letter = letter }))
 HasMessage digest (LogRecord.Moves name id layout) = Unit {0}
 HasMessage digest (LogRecord.Hears name position layout) = (position < 2 ^ 32) × IsLawful layout
+HasMessage digest (LogRecord.Closes name position) = position < 2 ^ 32
 
 -- the record can go to the log: what is in it can be written, and its strings are those of an entry
 pub record IsLoggable (digest : List ℕ) (it : LogRecord) : Type 0 where

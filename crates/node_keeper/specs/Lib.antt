@@ -1,10 +1,12 @@
 pub mod Acts
 pub mod Anew
 pub mod Beginning
+pub mod Closing
 pub mod Delivering
 pub mod Doing
 pub mod Fitting
 pub mod Keeping
+pub mod Leaving
 pub mod Logging
 pub mod NextIds
 pub mod Objects

@@ -26,6 +26,7 @@ strings_for digest (LogRecord.Takes name letter) =
     record_strings (record_of.Take (strings_of (message_of digest (record { name = name; letter = letter }))))
 strings_for digest (LogRecord.Moves name id layout) = record_strings (record_of.Move id name layout)
 strings_for digest (LogRecord.Hears name position layout) = record_strings (record_of.Hear position name layout)
+strings_for digest (LogRecord.Closes name position) = record_strings (record_of.Close position name)
 
 -- the entry of a record, in the log of a node with the cluster file of this digest
 abbrev pub log_entry_of : (digest : List ℕ) → LogRecord → Strings
@@ -46,6 +47,7 @@ deeds_of (record_of.Serve frame) = letter_records LogRecord.Serves (message_from
 deeds_of (record_of.Take frame) = letter_records LogRecord.Takes (message_from frame)
 deeds_of (record_of.Move id name layout) = LogRecord.Moves name id layout ∷ []
 deeds_of (record_of.Hear position name layout) = LogRecord.Hears name position layout ∷ []
+deeds_of (record_of.Close position name) = LogRecord.Closes name position ∷ []
 
 -- what a record of a log says that the node did, if there is a record; if there is none, the node did nothing
 abbrev pub deeds_if : Option Record → List LogRecord

@@ -2,9 +2,11 @@
 use Rattle.std.specs.Prelude.{ℕ, Bool, false, not, List, length, slice_range, min, Option, None, Some}
 use Rattle.std.specs.Prelude.{◌==◌, if◌then◌else◌}
 use Rattle.std.specs.List.{filter}
+use Rattle.tag.specs.declared.tag.Tag.{Tag}
 use Rattle.tag.specs.Tag.{opening_tag, tag_eq}
-use Rattle.bank.specs.Bank.{Bank}
 use Rattle.bank.specs.Serve.{greatest_final}
+use Rattle.local_object.specs.declared.kept_bank.KeptBank.{KeptBank}
+use Rattle.local_object.specs.declared.kept_bank.KeptBank.TheVariants as kept
 use Rattle.local_object.specs.Local.{LocalObject, Place, bank_in, heard_place, last_position}
 use Rattle.layout.specs.Layout.{Layout}
 use Rattle.node_keeper.specs.Objects.{first_layout_of, heard_names, objects_of}
@@ -14,11 +16,16 @@ use Rattle.node_keeper.specs.declared.objects.Objects.{Objects}
 abbrev pub last_place : LocalObject → Option Place
 last_place local = heard_place local.places (last_position local)
 
+-- the greatest tag that a bank, open or closed, has finalized
+abbrev pub greatest_kept : KeptBank → Tag
+greatest_kept (kept.Open bank) = greatest_final bank
+greatest_kept (kept.Closed closed) = closed.greatest
+
 -- whether there is a bank, and it has finalized a version that was written: its greatest finalized tag is not the
 -- opening one
-abbrev pub has_written : Option Bank → Bool
+abbrev pub has_written : Option KeptBank → Bool
 has_written None = false
-has_written (Some bank) = not (tag_eq (greatest_final bank) opening_tag)
+has_written (Some bank) = not (tag_eq (greatest_kept bank) opening_tag)
 
 -- whether the node keeps a written version of an object in its bank of the last position of which it has heard
 abbrev pub is_written : LocalObject → Bool

@@ -11,6 +11,7 @@ use cluster_file::{ClusterFile, DIGEST_LENGTH};
 use std::alloc::Global;
 
 mod begin;
+mod closing;
 mod letters;
 mod recovery;
 mod rewriting;

@@ -6,6 +6,7 @@ pub use delivered::{Begun, Delivered};
 pub use entries::push_entry;
 pub use ids::OwnIds;
 pub use keeper::Keeper;
+pub use laws::left_positions_are_final;
 pub use objects::Objects;
 pub use objects::scan::Page;
 
@@ -13,5 +14,6 @@ mod delivered;
 mod entries;
 mod ids;
 mod keeper;
+mod laws;
 mod objects;
 mod post;

@@ -17,6 +17,7 @@ use std::alloc::Global;
 use tag::Refusal;
 
 mod begin;
+mod closing;
 mod heard;
 mod last;
 mod questions;

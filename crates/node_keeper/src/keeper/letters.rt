@@ -36,6 +36,10 @@ impl Keeper {
     /// that moves objects also drops a letter with a layout of which it has not heard. Logs a request that may change a
     /// bank before it is served, and a reply to an open move before the move takes it.
     ///
+    /// A reply may complete the phase in which its call raises the pointer of a position to final. Then that pointer is
+    /// final at a quorum, and no call that begins later needs the pieces of the position. So the node closes its own
+    /// bank of the position, if it keeps an open one whose pointer is final, and logs this first.
+    ///
     /// Fails with `NoMemory`, or with `Unwritable` if the letter is no message.
     pub fn deliver(
         &mut self,
@@ -56,7 +60,7 @@ impl Keeper {
         if is_request(&it.letter) {
             self.serve(sender, it, came, work)
         } else {
-            self.take(it, came, work)
+            self.take_and_close(it, came, work)
         }
     }
 
@@ -110,7 +114,7 @@ impl Keeper {
     }
 
     // Takes a reply, and goes on with its call. A reply to an open move goes to the log first.
-    fn take(
+    pub(crate) fn take(
         &mut self,
         it: NamedLetter,
         came: Option<Frame>,

@@ -1,7 +1,7 @@
 //! Carrying out again what the log records. Nothing is sent, and clients see nothing.
 ghost use Rattle.std.specs.Prelude.{◌≡◌, ◌⊎◌, ◌∷◌, ◌^◌, [], true, false, nat_lt, suc};
 ghost use Rattle.std.specs.Prelude.{IfErr, IfOk, OnOk, option_to_list};
-ghost use Rattle.local_object.specs.Doing.{move_refusal, serve_events};
+ghost use Rattle.local_object.specs.Doing.{close_events, move_refusal, serve_events};
 ghost use Rattle.local_object.specs.Events.{LocalEvent};
 ghost use Rattle.node_keeper.specs.Objects.{AreSame, objects_of};
 ghost use Rattle.recoveries.specs.Records.{IsNamedHearing, IsNamedOutcome, IsStarted, IsNamedReplyOutcome};
@@ -84,6 +84,17 @@ impl Keeper {
     {
         self.objects.hear(name, position, layout)?;
         Ok(())
+    }
+
+    /// Closes the node's bank of a position again. Nothing changes if the bank is not open, or if its pointer is not
+    /// final.
+    pub fn close_again(&mut self, name: &Bytes, position: u32)
+        ensures closed { IsNamedOutcome (kept_of self.old) name.now
+            (close_events (objects_of self.old.objects name.now) position) (kept_of self.new) }
+
+        ensures rest { KeepsRest self.old self.new }
+    {
+        let _closed = self.objects.close(name, position);
     }
 }
 

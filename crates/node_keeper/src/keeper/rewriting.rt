@@ -53,8 +53,8 @@ impl Keeper {
     }
 
     /// Appends the entries of a log that is written anew, behind the one that names the cluster and the node: those of
-    /// the epochs that have begun, and for each object those of the positions that the node has heard of, and those of
-    /// the letters that lead to its banks.
+    /// the epochs that have begun, and for each object those of the positions that the node has heard of, those of the
+    /// letters that lead to its banks, and those of the banks that are closed.
     ///
     /// `NoMemory`. `Unwritable` if a letter is no message.
     pub fn log_anew(&self, entries: &mut Vec<Entry>) -> Result<(), NodeError>
@@ -111,7 +111,8 @@ impl Keeper {
         }
     }
 
-    // Appends the entries of the object of this name: the node hears of its positions, and then serves letters.
+    // Appends the entries of the object of this name: the node hears of its positions, serves letters, and then closes
+    // banks.
     fn log_object(
         &self,
         name: &Bytes,
@@ -125,7 +126,8 @@ impl Keeper {
     {
         self.log_places(name, object.places(), entries)?;
         let letters = letters_of(self.alloc, self.number(), object)?;
-        self.log_letters(name, letters, entries)
+        self.log_letters(name, letters, entries)?;
+        self.log_closes(name, object.places(), entries)
     }
 
     // Appends the entries of these places of the object of this name.

@@ -4,12 +4,12 @@ ghost use Rattle.bank.specs.Serve.{greatest_final};
 ghost use Rattle.local_object.specs.Distinct.{IsPlaceAt};
 ghost use Rattle.local_object.specs.Local.{greatest_position, heard_place};
 ghost use Rattle.node_keeper.specs.Objects.{first_layout_of};
-ghost use Rattle.node_keeper.specs.Written.{has_written, is_written, last_known, last_place};
+ghost use Rattle.node_keeper.specs.Written.{greatest_kept, has_written, is_written, last_known, last_place};
 
 use super::Objects;
 use bank::{Answer, Bank};
 use bytes::Bytes;
-use local_object::{LocalObject, Place};
+use local_object::{KeptBank, LocalObject, Place};
 use tag::Tag;
 
 impl Objects {
@@ -40,16 +40,26 @@ pub(super) fn is_written(object: &LocalObject) -> bool
 }
 
 // Whether there is a bank, and it has finalized a version that was written.
-fn has_written(bank: Option<&Bank>) -> bool
+fn has_written(bank: Option<&KeptBank>) -> bool
     ensures { result ≡ has_written (option_copied bank.entry) }
 {
     match bank {
-        Some(bank) => !greatest_of(bank).is(Tag::OPENING),
+        Some(bank) => !greatest_kept(bank).is(Tag::OPENING),
         None => false,
     }
 }
 
-// The greatest finalized tag of the bank.
+// The greatest tag that a bank, open or closed, has finalized.
+fn greatest_kept(bank: &KeptBank) -> Tag
+    ensures { result ≡ greatest_kept bank.now }
+{
+    match bank {
+        KeptBank::Open(bank) => greatest_of(bank),
+        KeptBank::Closed(closed) => closed.greatest(),
+    }
+}
+
+// The greatest finalized tag of an open bank.
 fn greatest_of(bank: &Bank) -> Tag
     ensures { result ≡ greatest_final bank.now }
 {

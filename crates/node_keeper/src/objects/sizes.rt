@@ -1,13 +1,13 @@
-//! How many banks and tags a node keeps.
+//! How many open banks a node keeps, and how many tags they know.
 ghost use Rattle.std.specs.Prelude.{◌≡◌, ◌-◌, ◌^◌, min, sum_by};
 ghost use Rattle.node_keeper.specs.Sizes.{known_tags, open_banks, place_banks, place_tags};
 
 use super::Objects;
-use local_object::Place;
+use local_object::{KeptBank, Place};
 
 impl Objects {
-    /// Returns how many banks the node keeps, or `u64::MAX` if there are more. An object has at most one for each of
-    /// its positions. It takes time linear in the number of positions of all objects in the map.
+    /// Returns how many open banks the node keeps, or `u64::MAX` if there are more. An object has at most one for each
+    /// of its positions. It takes time linear in the number of positions of all objects in the map.
     pub fn open_banks(&self) -> u64
         ensures { result ≡ min (open_banks self.now) (2 ^ 64 - 1) }
     {
@@ -31,7 +31,7 @@ impl Objects {
     }
 }
 
-// How many banks there are in these places, or `u64::MAX` if there are more.
+// How many open banks there are in these places, or `u64::MAX` if there are more.
 fn banks_in(places: &[Place]) -> u64
     ensures { result ≡ min (sum_by place_banks places.now) (2 ^ 64 - 1) }
 {
@@ -42,7 +42,7 @@ fn banks_in(places: &[Place]) -> u64
     banks
 }
 
-/// Returns how many tags the banks in these places know, or `u64::MAX` if there are more.
+/// Returns how many tags the open banks in these places know, or `u64::MAX` if there are more.
 pub(crate) fn tags_in(places: &[Place]) -> u64
     ensures { result ≡ min (sum_by place_tags places.now) (2 ^ 64 - 1) }
 {
@@ -53,22 +53,22 @@ pub(crate) fn tags_in(places: &[Place]) -> u64
     tags
 }
 
-// How many banks a place has: one or none.
+// How many open banks a place has: one or none.
 fn banks_of(place: &Place) -> u64
     ensures { result ≡ place_banks place.now }
 {
     match place.bank() {
-        Some(_) => 1,
-        None => 0,
+        Some(KeptBank::Open(_)) => 1,
+        Some(KeptBank::Closed(_)) | None => 0,
     }
 }
 
-// How many tags the bank of a place knows.
+// How many tags the bank of a place knows, if it is open.
 fn tags_of(place: &Place) -> u64
     ensures { result ≡ place_tags place.now }
 {
     match place.bank() {
-        Some(bank) => bank.count() as u64,
-        None => 0,
+        Some(KeptBank::Open(bank)) => bank.count() as u64,
+        Some(KeptBank::Closed(_)) | None => 0,
     }
 }

@@ -6,7 +6,8 @@ use Rattle.node_keeper.specs.Objects.{heard_names}
 use Rattle.node_keeper.specs.Anew.{anew_records, object_records_of}
 use Rattle.node_keeper.specs.Fitting.{IsLoggable}
 use Rattle.node_keeper.specs.Keeping.{kept_of}
-use Rattle.node_keeper.proofs.AnewLemmas.{all_first, anew_read, on_map, writes_rest}
+use Rattle.node_keeper.proofs.AnewLemmas.{all_first, on_map, writes_rest}
+use Rattle.node_keeper.proofs.AnewReadLemmas.{anew_read}
 use Rattle.node_keeper.proofs.FittingLemmas.{unwritten_more}
 use Rattle.node_keeper.proofs.ResultLemmas.{fails_same, writes_ok}
 use Rattle.node_keeper.proofs.keeper.Keeper.log_anew.Goals as goal
