@@ -29,6 +29,8 @@ named_deeds digest number (record_of.Move id name layout) same =
     absurd (let word : codes "cluster" ≡ codes "move" = cc in cc)
 named_deeds digest number (record_of.Hear position name layout) same =
     absurd (let word : codes "cluster" ≡ codes "hear" = cc in cc)
+named_deeds digest number (record_of.Close position name) same =
+    absurd (let word : codes "cluster" ≡ codes "close" = cc in cc)
 
 named_same : (old new : Node) (digest : List ℕ) (number : ℕ) → CarriesOutEntry old (cluster_entry digest number) new →
     Recovers [] (kept_of old.keeper) (kept_of new.keeper)

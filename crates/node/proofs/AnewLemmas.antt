@@ -104,6 +104,7 @@ deeds_lawful (record_of.Take frame) =
     letter_lawful LogRecord.Takes (λ name letter lawful. lawful) frame (message_from frame) refl
 deeds_lawful (record_of.Move id name layout) = (tt, tt)
 deeds_lawful (record_of.Hear position name layout) = (tt, tt)
+deeds_lawful (record_of.Close position name) = (tt, tt)
 
 pub recovered_entries : RecoveredEntriesKeepOwn
 recovered_entries old new entry carried own =

@@ -37,7 +37,8 @@ use Rattle.node.specs.Anew.{CarriesOutAll}
 use Rattle.node.specs.OpenMoves.{DesksHaveTheOpenMoves, StartedDesksHaveTheOpenMoves, moved_by, moved_ids}
 use Rattle.node.specs.Recovering.{CarriesOutRecord, ClosesCall, ClosesTaken, KeepsCalls, resumed_move}
 use Rattle.node.proofs.AnewLemmas.{new_nodes, recovered_entries}
-use Rattle.node.proofs.OpenObjectLemmas.{HasOnlyMoves, KeepsOpen, OpensMove, is_open, move_opens, open_moves, same_keeps, serve_keeps}
+use Rattle.node.proofs.OpenObjectLemmas.{HasOnlyMoves, KeepsOpen, OpensMove, close_keeps, is_open, move_opens, open_moves}
+use Rattle.node.proofs.OpenObjectLemmas.{same_keeps, serve_keeps}
 use Rattle.node.proofs.TakenObjectLemmas.{EndsOpen, take_ends}
 use Rattle.node.proofs.ResumedDeskLemmas.{IsResumed, kept_resumed, same_all, put_all, put_resumed, name_of_call}
 
@@ -167,6 +168,14 @@ module _ (old new : Node) (ids : List ℕ) (own : HasOwnObjects (kept_of old.kee
         kept_on done.recovers.0
             (put_all (kept_of old.keeper) done.recovers.0 name (with_heard local position layout) done.recovers.1.put
             (same_keeps local (with_heard local position layout) refl)) done.recovers.2 done.calls,
+        (distinct, same_free old new done.calls ids free),
+      )
+  one_on (record_of.Close position name) done distinct free =
+      let local = objects_of old.keeper.objects name in
+      let closed = done.recovers.1 in (
+        kept_on done.recovers.0
+            (put_all (kept_of old.keeper) done.recovers.0 name closed.local closed.put
+            (subst (KeepsOpen local) (sym closed.done.local) (close_keeps local position))) done.recovers.2 done.calls,
         (distinct, same_free old new done.calls ids free),
       )
 

@@ -16,7 +16,7 @@ use Rattle.open_calls.specs.OpenCalls.{NodeCall, due_phase, open_call, taking_op
 use Rattle.open_calls.proofs.CallsOfNodeLemmas.{differs}
 use Rattle.open_calls.proofs.ListLemmas.{all_append}
 use Rattle.open_calls.proofs.OpenCallLemmas.{found}
-use Rattle.local_object.specs.Doing.{has_move_open, is_move_call, is_served, serve_events}
+use Rattle.local_object.specs.Doing.{can_close, close_events, has_move_open, is_move_call, is_served, serve_events}
 use Rattle.local_object.specs.Events.{LocalEvent, Outcome, advanced_at, advanced_here, all_done, begun_here, done_here, learnt_from}
 use Rattle.local_object.specs.Events.{on_open_call, served_here, silent}
 use Rattle.local_object.specs.Local.{LocalObject, last_position, layout_here, with_heard}
@@ -188,6 +188,15 @@ serve_keeps local letter = go (is_served local letter)
         keeps_then local (learnt_from local letter) (served_here (learnt_from local letter) letter letter.message.body).local
         (same_keeps local (learnt_from local letter) (calls_heard local letter))
         (served_keeps (learnt_from local letter) letter letter.message.body)
+    go false = λ all. (all, λ id. refl)
+
+-- a bank is closed
+pub close_keeps : (local : LocalObject) (position : ℕ) →
+    KeepsOpen local (all_done fragment local (close_events local position)).local
+close_keeps local position = go (can_close local position)
+  where
+    go : (b : Bool) → KeepsOpen local (all_done fragment local (cond b (LocalEvent.Close position ∷ []) [])).local
+    go true = λ all. (all, λ id. refl)
     go false = λ all. (all, λ id. refl)
 
 -- a move begins, and otherwise the same calls are open

@@ -121,7 +121,7 @@ RefusesLetter frame error = (error ≡ refusals.Stopped errors.NoMemory)
 
 -- why a node refuses a record of a log that is its own: the record names a cluster once more, or is a start although
 -- all epochs have begun, or has a letter that is no message, or is a move that its object refuses; or there is no
--- memory
+-- memory. A record of a bank that the node closed is never refused.
 abbrev pub RefusesOwn : Keeper → Record → RecoveryError → Type 0
 RefusesOwn keeper (record_of.Cluster digest number) error = error ≡ refusals.NoEntry
 RefusesOwn keeper record_of.Start error =
@@ -132,6 +132,7 @@ RefusesOwn keeper (record_of.Move id name layout) error = (error ≡ refusals.St
     ⊎ ((why : Refusal) × (move_refusal (objects_of keeper.objects name) id ≡ Some why)
     × (error ≡ refusals.Stopped (errors.Refused why)))
 RefusesOwn keeper (record_of.Hear position name layout) error = error ≡ refusals.Stopped errors.NoMemory
+RefusesOwn keeper (record_of.Close position name) error = ⊥
 
 -- why a node refuses the first record of a log: the record names no cluster, another cluster, or another node
 abbrev pub RefusesFirst : Keeper → Record → RecoveryError → Type 0

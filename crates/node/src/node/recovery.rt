@@ -1,6 +1,6 @@
 //! How a node carries out the entries of its log again.
 ghost use Rattle.std.specs.Prelude.{◌≡◌, ◌∷◌, [], true, IfErr, IfOk, OnOk, Some};
-ghost use Rattle.local_object.specs.Doing.{serve_events};
+ghost use Rattle.local_object.specs.Doing.{close_events, serve_events};
 ghost use Rattle.local_object.specs.Events.{LocalEvent};
 ghost use Rattle.node_keeper.specs.Objects.{objects_of};
 ghost use Rattle.node_effects.specs.declared.error.NodeError.TheVariants.{NoMemory};
@@ -85,6 +85,10 @@ impl Node {
                 name,
                 layout,
             } => self.recover_hearing(name, position, layout),
+            Record::Close { position, name } => {
+                self.recover_closing(name, position);
+                Ok(())
+            }
         }
     }
 
@@ -190,5 +194,15 @@ impl Node {
             Ok(()) => Ok(()),
             Err(error) => Err(RecoveryError::Stopped(error)),
         }
+    }
+
+    // The node closes its bank of a position again.
+    fn recover_closing(&mut self, name: Bytes, position: u32)
+        ensures closed { IsNamedOutcome (kept_of self.old.keeper) name
+            (close_events (objects_of self.old.keeper.objects name) position) (kept_of self.new.keeper) }
+        ensures rest { KeepsDesk self.old self.new }
+        ensures calls { KeepsCalls self.old self.new }
+    {
+        self.keeper.close_again(&name, position);
     }
 }
