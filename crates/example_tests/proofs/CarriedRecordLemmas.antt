@@ -61,6 +61,7 @@ one_carried (LogRecord.Serves other letter) plain old new one objects same name 
 one_carried (LogRecord.Takes other letter) plain old new one objects same name = absurd plain
 one_carried (LogRecord.Moves other id layout) plain old new one objects same name = absurd plain
 one_carried (LogRecord.Hears other position layout) plain old new one objects same name = absurd plain
+one_carried (LogRecord.Closes other position) plain old new one objects same name = absurd plain
 
 pub records_carried : (records : List LogRecord) → AllByRecursion IsPlain records → (old new : KeptNode) → Recovers records old new →
     (objects : List ℕ → LocalObject) → ((name : List ℕ) → old.objects name ≡ objects name) → (name : List ℕ) →

@@ -5,6 +5,7 @@ use Rattle.tag.specs.Tag.{opening_tag}
 use Rattle.bank.specs.Bank.{Bank, empty_piece}
 use Rattle.bank.specs.declared.reply.Answer.TheVariants.{Greatest, Piece}
 use Rattle.local_object.specs.Local.{LocalObject, bank_here, new_local}
+use Rattle.local_object.specs.declared.kept_bank.KeptBank.TheVariants as kept
 use Rattle.recoveries.specs.Records.{LogRecord, Recovers}
 use Rattle.node_strings.specs.Laws.{WrittenRecordIsRead}
 use Rattle.node_strings.specs.declared.record.Record.TheVariants as record_of
@@ -20,7 +21,7 @@ use Rattle.example_tests.specs.RecordExamples.{whole}
 use Rattle.example_tests.specs.Scripts.{three_nodes}
 use Rattle.example_tests.specs.Forgetting.{empty_read}
 use Rattle.example_tests.specs.LostEntry.{RestLacksFinalize, entry_lost, unfinalized_bank, written}
-use Rattle.example_tests.specs.StoppedSync.{calls_of_others, entries_of, object_of, some_digest}
+use Rattle.example_tests.specs.StoppedSync.{calls_of_others, entries_of, object_of, open_or_lost, some_digest}
 use Rattle.example_tests.proofs.KeptRowLemmas.{opened_greatest, opened_piece, wrote_greatest, wrote_opening_piece}
 use Rattle.example_tests.proofs.EventRunLemmas.{empty_is_value, fetched_once, other_id, ready, ready_settled}
 use Rattle.example_tests.proofs.ReadLemmas.{read_runs}
@@ -50,18 +51,18 @@ module _ (messages : WrittenMessageIsRead) (records : WrittenRecordIsRead) where
       records_carried left (tt, (tt, tt)) (kept_of new.keeper) (kept_of copy.keeper) recovers
       (kept_of new.keeper).objects (λ name. refl) (97 ∷ [])
 
-  left_bank : bank_here (served (new_local 1 None three_nodes) (letter_with (keep_message 1))) 0 1 ≡ unfinalized_bank
-  left_bank = none_forgotten unfinalized_bank refl
+  left_bank : bank_here (served (new_local 1 None three_nodes) (letter_with (keep_message 1))) 0 1 ≡ kept.Open unfinalized_bank
+  left_bank = ap (λ (b : Bank). kept.Open b) (none_forgotten unfinalized_bank refl)
 
   pub rest_lacks : RestLacksFinalize
   rest_lacks names new copy delta first is_new carried =
       ap (λ (local : LocalObject). Event.Restart 1
-      (slice_set written.banks 0 (slice_set (get_or written.banks 0 []) 1 (bank_here local 0 1)))
+      (slice_set written.banks 0 (slice_set (get_or written.banks 0 []) 1 (open_or_lost (bank_here local 0 1))))
       (local.calls ++ calls_of_others 1 written.calls))
       (left_object new copy carried
       ∙ ap (λ (local : LocalObject). served local (letter_with (keep_message 1))) (new_object names 1 new delta first is_new))
       ∙ ap (λ (bank : Bank). Event.Restart 1 (slice_set written.banks 0 (slice_set (get_or written.banks 0 []) 1 bank)) [])
-      left_bank
+      (ap open_or_lost left_bank)
 
 -- The run
 

@@ -34,5 +34,5 @@ pub read_worked : AReadOfANewObject
 read_worked = (
   may_append read_asked (read_settled ++ read_ended) start reading.asks
       (may_append read_settled read_ended reading.after_query reading.settles reading.ends),
-  refl,
+  reading.read_entry,
 )

@@ -15,6 +15,7 @@ use Rattle.record.specs.Records.{no_bank}
 use Rattle.open_calls.specs.OpenCalls.{NodeCall}
 use Rattle.open_calls.proofs.ListLemmas.{all_append}
 use Rattle.local_object.specs.Local.{LocalObject, bank_here, new_local}
+use Rattle.local_object.specs.declared.kept_bank.KeptBank.TheVariants as held
 use Rattle.deeds.specs.Kept.{FileOfNames, KeptNode, new_node}
 use Rattle.recoveries.specs.Records.{LogRecord, Recovers}
 use Rattle.node_strings.specs.Laws.{WrittenRecordIsRead}
@@ -33,7 +34,7 @@ use Rattle.example_tests.specs.RecordExamples.{whole}
 use Rattle.example_tests.specs.Scripts.{restarted, start, three_nodes, to_keep, write_tag}
 use Rattle.example_tests.specs.NodeExamples.{read}
 use Rattle.example_tests.specs.Forgetting.{write_to_two}
-use Rattle.example_tests.specs.StoppedSync.{StartedNodeHasWrite, calls_of_others, object_of, restarted_as}
+use Rattle.example_tests.specs.StoppedSync.{StartedNodeHasWrite, calls_of_others, object_of, open_or_lost, restarted_as}
 use Rattle.example_tests.specs.StoppedSync.{stop_after_write, stop_after_write_as, stop_after_write_entries, stopped_log}
 use Rattle.example_tests.specs.StoppedSync.{stopped_process, synced_entries, unsynced_entry}
 use Rattle.example_tests.proofs.StoppedSyncLemmas.{every_event, synced_frames, unsynced_frame}
@@ -68,10 +69,10 @@ kept_bank = served_bank (opened_bank 0 None 0) (to_keep 0) 0
 abbrev final_bank : Bank
 final_bank = served_bank kept_bank (request.Finalize write_tag) 0
 
-bank_of_write : bank_here (after_write (new_local 0 None three_nodes)) 0 0 ≡ final_bank
+bank_of_write : bank_here (after_write (new_local 0 None three_nodes)) 0 0 ≡ held.Open final_bank
 bank_of_write =
-    ap (λ (bank : Bank). remembered (collected (finalized bank write_tag 0))) (none_forgotten kept_bank refl)
-    ∙ none_forgotten final_bank refl
+    ap (λ (bank : Bank). held.Open (remembered (collected (finalized bank write_tag 0)))) (none_forgotten kept_bank refl)
+    ∙ ap (λ (bank : Bank). held.Open bank) (none_forgotten final_bank refl)
 
 -- The start
 
@@ -100,7 +101,7 @@ set_own ([] ∷ more) = refl
 set_own ((bank ∷ row) ∷ more) = refl
 
 -- if a node has kept the bank and the calls of node 0, it starts again as the premise on logs says
-same_restart : (node : Node) (world : World) → bank_here (object_of node) 0 0 ≡ member_bank world 0 0 →
+same_restart : (node : Node) (world : World) → open_or_lost (bank_here (object_of node) 0 0) ≡ member_bank world 0 0 →
     (object_of node).calls ++ calls_of_others 0 world.calls ≡ after_restart 0 world.calls →
     restarted_as 0 node world ≡ restarted 0 world
 same_restart node world bank calls =
@@ -136,7 +137,7 @@ module _ (left : LeftLogIsRead) (messages : WrittenMessageIsRead) (records : Wri
   same_event : restarted_as 0 after stopped_world ≡ restarted 0 stopped_world
   same_event =
       same_restart after stopped_world
-      (ap (λ (local : LocalObject). bank_here local 0 0) object_is ∙ bank_of_write ∙ bank_in_world)
+      (ap (λ (local : LocalObject). open_or_lost (bank_here local 0 0)) object_is ∙ ap open_or_lost bank_of_write ∙ bank_in_world)
       (ap (λ (local : LocalObject). local.calls ++ calls_of_others 0 stopped_world.calls) object_is ∙ no_calls)
 
   same_events : stop_after_write_as after ≡ stop_after_write

@@ -3,6 +3,7 @@
 use Rattle.std.specs.Prelude.{◌≡◌, ◌==◌, ◌&&◌, if◌then◌else◌, not, ℕ, Bool, true, false, List, [], ◌∷◌, ◌++◌}
 use Rattle.std.specs.Prelude.{Option, None, Some, get_or, map, take, replicate, slice_set}
 use Rattle.std.specs.List.{AllByRecursion, filter}
+use Rattle.bank.specs.Bank.{Bank}
 use Rattle.bank.specs.declared.request.Request.{Request}
 use Rattle.bank.specs.declared.request.Request.TheVariants as request
 use Rattle.mail.specs.declared.message.Body.{Body}
@@ -10,6 +11,7 @@ use Rattle.mail.specs.declared.message.Body.TheVariants as body
 use Rattle.mail.specs.declared.message.Message.{Message}
 use Rattle.record.specs.declared.call.Entry.{Entry}
 use Rattle.record.specs.declared.call.Operation.TheVariants as operation
+use Rattle.record.specs.Records.{no_bank}
 use Rattle.node_strings.specs.Record.{record_strings}
 use Rattle.node_strings.specs.declared.record.Record.TheVariants as record_of
 use Rattle.node_strings.specs.Strings.{Strings}
@@ -19,6 +21,8 @@ use Rattle.node_log.specs.Reading.{IsEnd}
 use Rattle.node_store.specs.Recovery.{BeginsWith, IsWholeEntry, log_bytes}
 use Rattle.open_calls.specs.OpenCalls.{NodeCall}
 use Rattle.local_object.specs.Local.{LocalObject, bank_here}
+use Rattle.local_object.specs.declared.kept_bank.KeptBank.{KeptBank}
+use Rattle.local_object.specs.declared.kept_bank.KeptBank.TheVariants as kept
 use Rattle.deeds.specs.Kept.{FileOfNames}
 use Rattle.node_keeper.specs.Keeping.{kept_of}
 use Rattle.node.specs.declared.node.Node.{Node}
@@ -109,12 +113,18 @@ object_of node = (kept_of node.keeper).objects (97 ∷ [])
 abbrev pub calls_of_others : (number : ℕ) → List NodeCall → List NodeCall
 calls_of_others number calls = filter (λ (call : NodeCall). not (call.node == number)) calls
 
+-- the bank that a node keeps, if it is open; in the place of a closed one, a bank that knows nothing
+abbrev pub open_or_lost : KeptBank → Bank
+open_or_lost (kept.Open bank) = bank
+open_or_lost (kept.Closed closed) = no_bank
+
 -- the node of this number, which is the member of this number, has started again as `node`: its bank and its calls are
 -- what that keeps of the object; those of other nodes are as in this world
 abbrev pub restarted_as : (number : ℕ) → Node → World → Event
 restarted_as number node world =
     Event.Restart number
-    (slice_set world.banks 0 (slice_set (get_or world.banks 0 []) number (bank_here (object_of node) 0 number)))
+    (slice_set world.banks 0
+    (slice_set (get_or world.banks 0 []) number (open_or_lost (bank_here (object_of node) 0 number))))
     ((object_of node).calls ++ calls_of_others number world.calls)
 
 -- The run

@@ -74,6 +74,7 @@ one_epoch (LogRecord.Serves name letter) old new is = let same = is.put.epoch in
 one_epoch (LogRecord.Takes name letter) old new is = let same = is.put.epoch in omega arith
 one_epoch (LogRecord.Moves name id layout) old new is = let same = is.put.epoch in omega arith
 one_epoch (LogRecord.Hears name position layout) old new is = let same = is.put.epoch in omega arith
+one_epoch (LogRecord.Closes name position) old new is = let same = is.put.epoch in omega arith
 
 recovered_epoch : (records : List LogRecord) (old new : KeptNode) → Recovers records old new →
     new.ids.epoch ≡ old.ids.epoch + epochs_in records

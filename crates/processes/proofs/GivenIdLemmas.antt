@@ -61,6 +61,7 @@ event_begun name local (LocalEvent.Serve letter) place id begins = absurd (none_
 event_begun name local (LocalEvent.Take letter) place id begins = absurd (none_told name [] place id begins)
 event_begun name local (LocalEvent.Settle given value) place id begins = absurd (none_told name [] place id begins)
 event_begun name local (LocalEvent.GiveUp given) place id begins = absurd (none_told name [] place id begins)
+event_begun name local (LocalEvent.Close position) place id begins = absurd (none_told name [] place id begins)
 event_begun name local (LocalEvent.Answer given) place id begins =
     absurd (none_told name (told local (LocalEvent.Answer given)) place id begins)
 

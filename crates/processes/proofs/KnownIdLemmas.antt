@@ -154,6 +154,7 @@ one_epoch (LogRecord.Serves name letter) old new is = let same = is.put.epoch in
 one_epoch (LogRecord.Takes name letter) old new is = let same = is.put.epoch in omega arith
 one_epoch (LogRecord.Moves name id layout) old new is = let same = is.put.epoch in omega arith
 one_epoch (LogRecord.Hears name position layout) old new is = let same = is.put.epoch in omega arith
+one_epoch (LogRecord.Closes name position) old new is = let same = is.put.epoch in omega arith
 
 epochs_rise : (records : List LogRecord) (old new : KeptNode) → Recovers records old new → old.ids.epoch ≤ new.ids.epoch
 epochs_rise [] old new same = let e = same.epoch in omega arith

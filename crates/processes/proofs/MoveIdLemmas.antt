@@ -64,6 +64,7 @@ first_behind number epoch (LogRecord.Moves name id layout ∷ xs) ys behind =
 first_behind number epoch (LogRecord.Serves name letter ∷ xs) ys behind = first_behind number epoch xs ys behind
 first_behind number epoch (LogRecord.Takes name letter ∷ xs) ys behind = first_behind number epoch xs ys behind
 first_behind number epoch (LogRecord.Hears name position layout ∷ xs) ys behind = first_behind number epoch xs ys behind
+first_behind number epoch (LogRecord.Closes name position ∷ xs) ys behind = first_behind number epoch xs ys behind
 
 pub both_behind : (number epoch : ℕ) (xs ys : List LogRecord) → AreBehindEpochs number epoch xs →
     AreBehindEpochs number (epoch + epochs_in xs) ys → AreBehindEpochs number epoch (xs ++ ys)
@@ -80,6 +81,7 @@ both_behind number epoch (LogRecord.Serves name letter ∷ xs) ys first second =
 both_behind number epoch (LogRecord.Takes name letter ∷ xs) ys first second = both_behind number epoch xs ys first second
 both_behind number epoch (LogRecord.Hears name position layout ∷ xs) ys first second =
     both_behind number epoch xs ys first second
+both_behind number epoch (LogRecord.Closes name position ∷ xs) ys first second = both_behind number epoch xs ys first second
 
 -- records that say that no move began
 pub none_behind : (number epoch : ℕ) (records : List LogRecord) → moves_in records ≡ [] → AreBehindEpochs number epoch records
@@ -89,6 +91,7 @@ none_behind number epoch (LogRecord.Moves name id layout ∷ records) none = abs
 none_behind number epoch (LogRecord.Serves name letter ∷ records) none = none_behind number epoch records none
 none_behind number epoch (LogRecord.Takes name letter ∷ records) none = none_behind number epoch records none
 none_behind number epoch (LogRecord.Hears name position layout ∷ records) none = none_behind number epoch records none
+none_behind number epoch (LogRecord.Closes name position ∷ records) none = none_behind number epoch records none
 
 -- the records of a node that runs
 pub logged_behind : (number : ℕ) (before after : CallIds) (records : List LogRecord) → before.node ≡ number → HasRanges before →
@@ -112,6 +115,8 @@ logged_behind number before after (LogRecord.Serves name letter ∷ records) own
 logged_behind number before after (LogRecord.Takes name letter ∷ records) own within ids =
     logged_behind number before after records own within ids
 logged_behind number before after (LogRecord.Hears name position layout ∷ records) own within ids =
+    logged_behind number before after records own within ids
+logged_behind number before after (LogRecord.Closes name position ∷ records) own within ids =
     logged_behind number before after records own within ids
 
 -- The ids that a node gave
@@ -156,4 +161,6 @@ started_given number epoch ids (LogRecord.Serves name letter ∷ records) own wi
 started_given number epoch ids (LogRecord.Takes name letter ∷ records) own within more behind =
     started_given number epoch ids records own within more behind
 started_given number epoch ids (LogRecord.Hears name position layout ∷ records) own within more behind =
+    started_given number epoch ids records own within more behind
+started_given number epoch ids (LogRecord.Closes name position ∷ records) own within more behind =
     started_given number epoch ids records own within more behind

@@ -106,6 +106,7 @@ entry_moves (Some (record_of.Serve frame)) = serve_moves (message_from frame)
 entry_moves (Some (record_of.Take frame)) = take_moves (message_from frame)
 entry_moves (Some (record_of.Move id name layout)) = refl
 entry_moves (Some (record_of.Hear position name layout)) = refl
+entry_moves (Some (record_of.Close position name)) = refl
 
 log_moves : (log : List Strings) → moved_ids log ≡ moves_in (all_records log)
 log_moves [] = refl

@@ -32,6 +32,7 @@ one_number (LogRecord.Serves name letter) old new is = is.put.node
 one_number (LogRecord.Takes name letter) old new is = is.put.node
 one_number (LogRecord.Moves name id layout) old new is = is.put.node
 one_number (LogRecord.Hears name position layout) old new is = is.put.node
+one_number (LogRecord.Closes name position) old new is = is.put.node
 
 pub number_kept : (records : List LogRecord) (old new : KeptNode) → Recovers records old new → new.ids.node ≡ old.ids.node
 number_kept [] old new same = same.node
