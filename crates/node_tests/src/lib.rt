@@ -11,6 +11,8 @@ mod checks;
 #[cfg(test)]
 mod clients;
 #[cfg(test)]
+mod closes;
+#[cfg(test)]
 mod commands;
 #[cfg(test)]
 mod deletions;

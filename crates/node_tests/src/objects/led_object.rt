@@ -11,17 +11,18 @@ use std::alloc::Global;
 use std::process::Abort;
 use tag::Tag;
 
-const FIRST: Tag = Tag { number: 1, call: 7 };
+/// The first tag that is written.
+pub(crate) const FIRST: Tag = Tag { number: 1, call: 7 };
 
 const SECOND: Tag = Tag { number: 2, call: 5 };
 
-// Node 4 with delta 0, which is member 1 of position 0.
-fn new_object(rt: &impl Abort, alloc: Global) -> LocalObject {
+/// Returns node 4 with delta 0, which is member 1 of position 0.
+pub(crate) fn new_object(rt: &impl Abort, alloc: Global) -> LocalObject {
     LocalObject::new(alloc, 4, Some(0), layout(rt, 2, &[6, 4, 2])).expect(rt, "an object")
 }
 
-// A request to member 1 of position 0, which has this layout.
-fn letter(layout: SharedLayout, next: Option<SharedLayout>, request: Request) -> Letter {
+/// Returns a request to member 1 of position 0, which has this layout.
+pub(crate) fn letter(layout: SharedLayout, next: Option<SharedLayout>, request: Request) -> Letter {
     Letter {
         layout,
         next,
@@ -50,7 +51,8 @@ fn serve(
     assert!(rt; reply.is_some());
 }
 
-fn pre_write(tag: Tag) -> Request {
+/// Returns a request that pre-writes a fragment of three bytes.
+pub(crate) fn pre_write(tag: Tag) -> Request {
     let piece = Piece {
         point: 1,
         len: 6,
