@@ -1,6 +1,6 @@
 -- The contracts that docs/trusted.md lists do not depend on this file; other contracts and proofs do.
 -- What files and names of files lead to.
-use Rattle.std.specs.Prelude.{◌≡◌, ◌⊎◌, ◌≤◌, ℕ, List, length, take, Option, None, Some, ⊤}
+use Rattle.std.specs.Prelude.{◌≡◌, ◌⊎◌, ◌≤◌, ℕ, List, length, take, Bool, Option, None, Some, ⊤}
 
 -- if the bytes of a file are known, and are at least so many, just so many first ones are left
 abbrev pub IsCutTo : (count : ℕ) → Option (List ℕ) → Option (List ℕ) → Type 0
@@ -30,7 +30,9 @@ found_after_stop (Some bytes) kept = bytes
 abbrev pub MayLeadTo : (other : Option (Option (List ℕ))) → Option (List ℕ) → Type 0
 MayLeadTo other bytes = (other ≡ None) ⊎ (other ≡ Some bytes)
 
--- what a contract sees of a log: the bytes that were written, and those that are kept, where they are known
+-- what a contract sees of a log: the bytes that were written, and those that are kept, where they are known, and
+-- whether each sync succeeded
 pub record LogBytes : Type 0 where
   pub written : Option (List ℕ)
   pub kept : Option (List ℕ)
+  pub sound : Bool

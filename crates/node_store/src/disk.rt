@@ -7,7 +7,8 @@ use std::io::Read;
 
 /// A file that is written at its end.
 pub trait DiskFile {
-    ghost use Rattle.std.specs.Prelude.{◌≡◌, ℕ, List, Option, None, IfSome, OnOk, IfOk, length};
+    ghost use Rattle.std.specs.Prelude.{◌≡◌, ℕ, List, Bool, true, Option, None, IfSome, IsTrue, OnOk};
+    ghost use Rattle.std.specs.Prelude.{IfOk, length};
     ghost use Rattle.std.specs.Io.KnownBytes.{Keeps};
     ghost use Rattle.frames.specs.Writing.{Writes};
     ghost use Rattle.node_store.specs.Logs.{Grows, IsKeptBehind};
@@ -20,21 +21,29 @@ pub trait DiskFile {
     // them.
     ghost kept: { Self → Option (List ℕ) } = { λ _. None };
 
+    // Whether each `sync_data` succeeded. After one that failed, a later one may succeed although bytes are missing,
+    // and the file may then keep bytes that were written later than these.
+    ghost sound: { Self → Bool } = { λ _. true };
+
     /// Writes bytes at the end. Where it fails, a front of them was written.
     fn append(&mut self, bytes: &[u8]) -> io::Result<()>
         ensures written { Writes (written self.old) (written self.new) result bytes.now }
         ensures kept { Grows (kept self.old) (kept self.new) }
-        ensures within { Grows (kept self.old) (written self.old) → Grows (kept self.new) (written self.new) };
+        ensures within { IsTrue (sound self.old) → Grows (kept self.old) (written self.old)
+            → Grows (kept self.new) (written self.new) }
+        ensures sound { sound self.new ≡ sound self.old };
 
-    /// Makes the file keep what was written. Behind that it may still keep bytes that were cut off: where it fails,
-    /// some or all of these.
+    /// Makes the file keep what was written, if no earlier call failed. Behind that it may still keep bytes that were
+    /// cut off: where it fails, some or all of these. What it kept before, it keeps in any case.
     fn sync_data(&mut self) -> io::Result<()>
         ensures written { Keeps (written self.old) (written self.new) }
         ensures kept { Grows (kept self.old) (written self.old) → Grows (kept self.old) (kept self.new) }
-        ensures within { Grows (kept self.old) (written self.old) → Grows (kept self.new) (written self.new) }
+        ensures within { IsTrue (sound self.old) → Grows (kept self.old) (written self.old)
+            → Grows (kept self.new) (written self.new) }
         ensures cut { IsKeptBehind (written self.old) (kept self.old) → Grows (written self.old) (kept self.new)
             × Grows (kept self.new) (kept self.old) }
-        ensures all { OnOk result (kept self.new ≡ written self.new) };
+        ensures all { IsTrue (sound self.old) → OnOk result (kept self.new ≡ written self.new) }
+        ensures sound { OnOk result (sound self.new ≡ sound self.old) };
 
     /// How many bytes the file has.
     fn length(&self) -> io::Result<u64>
@@ -45,14 +54,16 @@ pub trait DiskFile {
     fn cut(&mut self, count: u64) -> io::Result<()>
         ensures written { OnOk result (IsCutTo count (written self.old) (written self.new)) }
         ensures left { LeavesFront count (written self.old) (written self.new) }
-        ensures kept { LosesEnd count (kept self.old) (kept self.new) };
+        ensures kept { LosesEnd count (kept self.old) (kept self.new) }
+        ensures sound { sound self.new ≡ sound self.old };
 }
 
 /// The folder of a node, in which only this program makes and renames files: the file `log`, and the file `log.new`,
 /// which takes its place when the log is written anew. Some functions are given the open files of these names, which
 /// their contracts need and the system does not.
 pub trait DiskFolder {
-    ghost use Rattle.std.specs.Prelude.{◌≡◌, ◌⊎◌, [], ℕ, List, Option, None, Some, OnOk, OnErr, IfOk};
+    ghost use Rattle.std.specs.Prelude.{◌≡◌, ◌⊎◌, [], ℕ, List, Bool, true, Option, None, Some, IsTrue};
+    ghost use Rattle.std.specs.Prelude.{OnOk, OnErr, IfOk};
     ghost use Rattle.std.specs.Io.KnownBytes.{Keeps};
     ghost use Rattle.node_store.specs.Disk.{MayLeadTo, found_after_stop};
     ghost use Rattle.node_store.specs.Rewriting.{IsBeside};
@@ -70,9 +81,15 @@ pub trait DiskFolder {
     // (None), or other bytes, where they are known. The name may still lead elsewhere, until the folder is synced.
     ghost other: { Self → Option (Option (List ℕ)) } = { λ _. None };
 
+    // Whether each `sync_folder` succeeded. After one that failed, a later one may succeed although a name still leads
+    // elsewhere.
+    ghost sound: { Self → Bool } = { λ _. true };
+
     /// Opens the file `log`, or makes it, if there is none.
     fn open_log(&mut self) -> io::Result<Self::File>
-        ensures { IfOk result (λ log. Self.File.written log ≡ found self.old) };
+        ensures written { IfOk result (λ log. Self.File.written log ≡ found self.old) }
+        ensures fresh { IfOk result (λ log. IsTrue (Self.File.sound log)) }
+        ensures sound { sound self.new ≡ sound self.old };
 
     /// Opens the file `log`, which the program has open, once more, to read it from its start.
     fn read_log(&self, log: &Self::File) -> io::Result<Self::Reader>
@@ -81,11 +98,14 @@ pub trait DiskFolder {
     /// Makes the file `log.new`, which is empty. If there is one already, its bytes are gone.
     fn make_second(&mut self, log: &Self::File) -> io::Result<Self::File>
         ensures other { other self.new ≡ other self.old }
-        ensures empty { IfOk result (λ second. IsBeside (Self.File.written log.now) (Self.File.written second) []) };
+        ensures empty { IfOk result (λ second. IsBeside (Self.File.written log.now) (Self.File.written second) []) }
+        ensures fresh { IfOk result (λ second. IsTrue (Self.File.sound second)) }
+        ensures sound { sound self.new ≡ sound self.old };
 
     /// Removes the file `log.new`. Fails with `NotFound` if there is none.
     fn remove_second(&mut self) -> io::Result<()>
-        ensures { other self.new ≡ other self.old };
+        ensures other { other self.new ≡ other self.old }
+        ensures sound { sound self.new ≡ sound self.old };
 
     /// Gives the file `log.new` the name `log`. The name may lead to the old file after the machine stops. Where this
     /// fails, the name leads to the old file, and may lead to the new one after the machine stops.
@@ -93,10 +113,12 @@ pub trait DiskFolder {
         ensures renamed { OnOk result
             (MayLeadTo (other self.new) (found_after_stop (other self.old) (Self.File.kept log.now))) }
         ensures failed { OnErr result
-            ((other self.new ≡ other self.old) ⊎ (other self.new ≡ Some (Self.File.kept second.now))) };
+            ((other self.new ≡ other self.old) ⊎ (other self.new ≡ Some (Self.File.kept second.now))) }
+        ensures sound { sound self.new ≡ sound self.old };
 
-    /// Makes the folder keep to which files its names lead.
+    /// Makes the folder keep to which files its names lead, if no earlier call failed.
     fn sync_folder(&mut self) -> io::Result<()>
-        ensures synced { OnOk result (other self.new ≡ None) }
-        ensures failed { (other self.new ≡ other self.old) ⊎ (other self.new ≡ None) };
+        ensures synced { IsTrue (sound self.old) → OnOk result (other self.new ≡ None) }
+        ensures failed { (other self.new ≡ other self.old) ⊎ (other self.new ≡ None) }
+        ensures sound { OnOk result (sound self.new ≡ sound self.old) };
 }

@@ -22,15 +22,16 @@ impl<D: DiskFolder> Model for FolderLog<D> {
 
     ghost Value = { LogBytes };
 
-    ghost use Rattle.std.specs.Prelude.{◌≡◌, None, true};
+    ghost use Rattle.std.specs.Prelude.{◌≡◌, ◌&&◌, None, IsTrue};
     ghost use Rattle.node_store.specs.Disk.{found_after_stop};
 
     ghost view = { λ log. record {
       written = D.File.written log.file;
       kept = found_after_stop (D.other log.folder) (D.File.kept log.file);
+      sound = D.File.sound log.file && D.sound log.folder;
     } };
 
-    ghost invariant = { λ log. log.is_placed ≡ true → D.other log.folder ≡ None };
+    ghost invariant = { λ log. IsTrue log.is_placed → IsTrue (D.sound log.folder) → D.other log.folder ≡ None };
 }
 
 impl<D: DiskFolder + Drop> Drop for FolderLog<D> {
@@ -50,9 +51,11 @@ pub struct SecondLog<F> {
 }
 
 impl<D: DiskFolder + Drop> FolderLog<D> {
-    /// Opens the file `log` in a folder, or makes it, if there is none.
+    /// Opens the file `log` in a folder, or makes it, if there is none. No sync of this log has failed yet, if none of
+    /// the folder has.
     pub fn open(folder: D) -> io::Result<FolderLog<D>>
-        ensures { IfOk result (λ log. log.written ≡ D.found folder) }
+        ensures written { IfOk result (λ log. log.written ≡ D.found folder) }
+        ensures sound { IfOk result (λ log. log.sound ≡ D.sound folder) }
     {
         let mut folder = folder;
         let file = folder.open_log()?;
@@ -69,11 +72,13 @@ impl<D: DiskFolder> Log for FolderLog<D> {
 
     ghost kept = { λ log. log.kept };
 
+    ghost sound = { λ log. log.sound };
+
     fn append(&mut self, bytes: &[u8]) -> io::Result<()> {
         self.file.append(bytes)
     }
 
-    // Until the folder is synced, its name may lead to another file after the machine stops.
+    // Until the folder is synced, the name `log` may lead to another file after the machine stops.
     fn sync(&mut self) -> io::Result<()> {
         self.file.sync_data()?;
         if !self.is_placed {
@@ -88,6 +93,8 @@ impl<F: DiskFile> Log for SecondLog<F> {
     ghost written = { λ log. F.written log.second };
 
     ghost kept = { λ log. F.kept log.second };
+
+    ghost sound = { λ log. F.sound log.second };
 
     fn append(&mut self, bytes: &[u8]) -> io::Result<()> {
         self.second.append(bytes)

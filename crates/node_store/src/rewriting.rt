@@ -58,9 +58,11 @@ pub fn rewrite_log<L: RewritableLog>(
     log: &mut L,
     entries: &[Entry],
 ) -> io::Result<Rewriting>
-    requires { L.kept log.old ≡ L.written log.old }
+    requires synced { L.kept log.old ≡ L.written log.old }
+    requires sound { IsTrue (L.sound log.old) }
     ensures kept { HasRewritten (L.kept log.old) (L.kept log.new) entries.now result }
     ensures synced { OnOk result (L.kept log.new ≡ L.written log.new) }
+    ensures sound { OnOk result (IsTrue (L.sound log.new)) }
 {
     match write_second(alloc, log, entries) {
         Ok((second, end)) => {
@@ -84,7 +86,9 @@ fn write_second<L: RewritableLog>(
         IsBeside (L.written log.old) (L.Second.written done.0) (log_bytes first_chain entries.now)) }
 
     ensures synced { IfOk result (λ done. L.Second.kept done.0 ≡ L.Second.written done.0) }
+    ensures fresh { IfOk result (λ done. IsTrue (L.Second.sound done.0)) }
     ensures end { IfOk result (λ done. IsEndOf entries.now done.1) }
+    ensures sound { L.sound log.new ≡ L.sound log.old }
 {
     let mut second = log.begin_second()?;
     match write_entries(alloc, &mut second, entries) {
@@ -98,9 +102,11 @@ fn write_second<L: RewritableLog>(
 
 // Appends entries to a log that has none, in parts, and syncs it. Returns where it ends.
 fn write_entries<L: Log>(alloc: Global, log: &mut L, entries: &[Entry]) -> io::Result<LogEnd>
+    requires { IsTrue (L.sound log.old) }
     ensures written { OnOk result (Appends (L.written log.old) (L.written log.new)
         (log_bytes first_chain entries.now)) }
     ensures synced { OnOk result (L.kept log.new ≡ L.written log.new) }
+    ensures sound { OnOk result (IsTrue (L.sound log.new)) }
     ensures end { IfOk result (IsEndOf entries.now) }
 {
     let mut part = Gathered::new(alloc);
@@ -122,6 +128,7 @@ fn write_entries<L: Log>(alloc: Global, log: &mut L, entries: &[Entry]) -> io::R
 // result is the number of bytes that are written then.
 fn write_part<L: Log>(log: &mut L, part: &mut Gathered, before: u64) -> io::Result<u64>
     ensures written { OnOk result (Appends (L.written log.old) (L.written log.new) part.old) }
+    ensures sound { OnOk result (L.sound log.new ≡ L.sound log.old) }
     ensures empty { OnOk result (part.new ≡ []) }
     ensures length { IfOk result (λ end. end ≡ before + length part.old) }
 {

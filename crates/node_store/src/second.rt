@@ -4,7 +4,7 @@ use std::io;
 
 /// A log beside which a second one can be written, which then takes its place.
 pub trait RewritableLog: Log {
-    ghost use Rattle.std.specs.Prelude.{◌≡◌, [], OnOk, IfOk};
+    ghost use Rattle.std.specs.Prelude.{◌≡◌, [], IsTrue, OnOk, IfOk};
     ghost use Rattle.node_store.specs.Rewriting.{IsBeside, Becomes, KeepsOrBecomes};
 
     /// The second log.
@@ -14,12 +14,15 @@ pub trait RewritableLog: Log {
     fn begin_second(&mut self) -> io::Result<Self::Second>
         ensures written { Self.written self.new ≡ Self.written self.old }
         ensures kept { Self.kept self.new ≡ Self.kept self.old }
-        ensures empty { IfOk result (λ second. IsBeside (Self.written self.old) (Self.Second.written second) []) };
+        ensures empty { IfOk result (λ second. IsBeside (Self.written self.old) (Self.Second.written second) []) }
+        ensures fresh { IfOk result (λ second. IsTrue (Self.Second.sound second)) }
+        ensures sound { Self.sound self.new ≡ Self.sound self.old };
 
     /// Removes the second log. May fail with `NotFound` if there is none.
     fn remove_second(&mut self) -> io::Result<()>
         ensures written { Self.written self.new ≡ Self.written self.old }
-        ensures kept { Self.kept self.new ≡ Self.kept self.old };
+        ensures kept { Self.kept self.new ≡ Self.kept self.old }
+        ensures sound { Self.sound self.new ≡ Self.sound self.old };
 
     /// Puts the second log in the place of this one, for good. Where this fails, this log is either of the two, and
     /// the machine may stop and then have either of them.
@@ -30,5 +33,7 @@ pub trait RewritableLog: Log {
         ensures either { KeepsOrBecomes (Self.written self.old) (Self.written self.new)
             (Self.Second.written second) }
         ensures kept { KeepsOrBecomes (Self.kept self.old) (Self.kept self.new) (Self.Second.kept second) }
-        ensures all { OnOk result (Self.kept self.new ≡ Self.written self.new) };
+        ensures all { IsTrue (Self.sound self.old) → OnOk result (Self.kept self.new ≡ Self.written self.new) }
+        ensures sound { IsTrue (Self.sound self.old) → IsTrue (Self.Second.sound second)
+            → OnOk result (IsTrue (Self.sound self.new)) };
 }

@@ -1,5 +1,5 @@
 //! The loop of a node: frames in, entries to the log, frames out.
-ghost use Rattle.std.specs.Prelude.{◌≡◌, ◌⊎◌, [], ⊤, ℕ, List, true, false, MatchOption, OnOk, IfErr, IfOk};
+ghost use Rattle.std.specs.Prelude.{◌≡◌, ◌⊎◌, [], ⊤, ℕ, List, true, false, MatchOption, IsTrue, OnOk, IfErr, IfOk};
 ghost use Rattle.std.specs.Io.Buffered.{reader_remaining};
 ghost use Rattle.std.specs.Io.KnownBytes.{Appends, Consumes};
 ghost use Rattle.frames.specs.Frame.{frame_bytes};
@@ -54,7 +54,8 @@ pub fn serve_frames<M: Machine, I: Read + Drop, O: Write, L: Log, E: Write>(
     end: LogEnd,
     err: &mut E,
 ) -> Result<Option<LogEnd>, ServeError>
-    requires { L.kept log.old ≡ L.written log.old }
+    requires synced { L.kept log.old ≡ L.written log.old }
+    requires sound { IsTrue (L.sound log.old) }
     ensures serves { ServesUntil M.handles M.notes end.chain.state machine.old machine.new
         (reader_remaining I.remaining input.old) (reader_remaining I.remaining input.new)
         (L.kept log.old) (L.kept log.new) (O.contents output.old) (O.contents output.new) result }
@@ -71,6 +72,7 @@ pub fn serve_frames<M: Machine, I: Read + Drop, O: Write, L: Log, E: Write>(
     ensures stopped { IfErr result
         (StopsAtFrame M.handles M.notes M.fails machine.old (reader_remaining I.remaining input.old)) }
     ensures synced { OnOk result (L.kept log.new ≡ L.written log.new) }
+    ensures sound { OnOk result (IsTrue (L.sound log.new)) }
     ensures lengthened { IfOk result (λ now. MatchOption now ⊤
         (λ now. HasLengthened (L.kept log.old) (L.kept log.new) end.length now.length)) }
 {
@@ -112,12 +114,14 @@ fn serve_arrived<M: Machine, I: Read + Drop, O: Write, L: Log>(
 ) -> Result<bool, ServeError>
     requires empty { HasGathered batch.old.chain.state batch.old [] }
     requires synced { L.kept log.old ≡ L.written log.old }
+    requires sound { IsTrue (L.sound log.old) }
     ensures serves { ServesSome M.handles M.notes batch.old.chain.state batch.new.chain.state machine.old machine.new
         (reader_remaining I.remaining input.old) (reader_remaining I.remaining input.new)
         (L.kept log.old) (L.kept log.new) (O.contents output.old) (O.contents output.new) result }
     ensures stopped { IfErr result
         (StopsAtFrame M.handles M.notes M.fails machine.old (reader_remaining I.remaining input.old)) }
     ensures synced { OnOk result (L.kept log.new ≡ L.written log.new) }
+    ensures sound { OnOk result (IsTrue (L.sound log.new)) }
     ensures appended { OnOk result (Appends (L.kept log.old) (L.kept log.new) batch.new.log) }
 {
     let goes_on = handle_arrived(alloc, machine, input, batch)?;
@@ -132,12 +136,14 @@ fn write_batch<O: Write, L: Log>(
     log: &mut L,
     batch: &Batch,
 ) -> Result<(), ServeError>
-    requires { L.kept log.old ≡ L.written log.old }
+    requires synced { L.kept log.old ≡ L.written log.old }
+    requires sound { IsTrue (L.sound log.old) }
     ensures writes { (chain : ℕ) (outputs : List Output) → HasGathered chain batch.now outputs
         → WritesOutputs chain (L.kept log.old) (L.kept log.new) (O.contents output.old) (O.contents output.new) outputs
         result }
     ensures lost { IfErr result IsWriteLost }
     ensures synced { OnOk result (L.kept log.new ≡ L.written log.new) }
+    ensures sound { OnOk result (IsTrue (L.sound log.new)) }
     ensures appended { OnOk result (Appends (L.kept log.old) (L.kept log.new) batch.now.log) }
 {
     if let Err(error) = write_out(output, &batch.early) {

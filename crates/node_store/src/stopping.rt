@@ -61,11 +61,14 @@ impl<L: Log> Log for StoppingLog<L> {
 
     ghost kept = { λ it. L.kept it.log };
 
+    ghost sound = { λ it. L.sound it.log };
+
     fn append(&mut self, bytes: &[u8]) -> io::Result<()>
         ensures written { Writes (L.written self.old.log) (L.written self.new.log) result bytes.now }
         ensures kept { Grows (L.kept self.old.log) (L.kept self.new.log) }
-        ensures within { Grows (L.kept self.old.log) (L.written self.old.log)
+        ensures within { IsTrue (L.sound self.old.log) → Grows (L.kept self.old.log) (L.written self.old.log)
             → Grows (L.kept self.new.log) (L.written self.new.log) }
+        ensures sound { L.sound self.new.log ≡ L.sound self.old.log }
         ensures stopped { FailsIfNoneLeft self.old.left self.old self.new result }
         ensures counts { self.new.left ≡ self.old.left - 1 }
     {
@@ -77,13 +80,14 @@ impl<L: Log> Log for StoppingLog<L> {
 
     fn sync(&mut self) -> io::Result<()>
         ensures written { Keeps (L.written self.old.log) (L.written self.new.log) }
-        ensures kept { Grows (L.kept self.old.log) (L.written self.old.log)
+        ensures kept { IsTrue (L.sound self.old.log) → Grows (L.kept self.old.log) (L.written self.old.log)
             → Grows (L.kept self.old.log) (L.kept self.new.log) }
-        ensures within { Grows (L.kept self.old.log) (L.written self.old.log)
+        ensures within { IsTrue (L.sound self.old.log) → Grows (L.kept self.old.log) (L.written self.old.log)
             → Grows (L.kept self.new.log) (L.written self.new.log) }
-        ensures cut { IsKeptBehind (L.written self.old.log) (L.kept self.old.log)
+        ensures cut { IsTrue (L.sound self.old.log) → IsKeptBehind (L.written self.old.log) (L.kept self.old.log)
             → Grows (L.written self.old.log) (L.kept self.new.log) × Grows (L.kept self.new.log) (L.kept self.old.log) }
-        ensures all { OnOk result (L.kept self.new.log ≡ L.written self.new.log) }
+        ensures all { IsTrue (L.sound self.old.log) → OnOk result (L.kept self.new.log ≡ L.written self.new.log) }
+        ensures sound { OnOk result (L.sound self.new.log ≡ L.sound self.old.log) }
         ensures stopped { FailsIfNoneLeft self.old.left self.old self.new result }
         ensures counts { self.new.left ≡ self.old.left - 1 }
     {
@@ -102,6 +106,8 @@ impl<L: RewritableLog> RewritableLog for StoppingLog<L> {
         ensures kept { L.kept self.new.log ≡ L.kept self.old.log }
         ensures empty { IfOk result (λ second.
             IsBeside (L.written self.old.log) (L.Second.written second) []) }
+        ensures fresh { IfOk result (λ second. IsTrue (L.Second.sound second)) }
+        ensures sound { L.sound self.new.log ≡ L.sound self.old.log }
         ensures stopped { FailsIfNoneLeft self.old.left self.old self.new result }
         ensures counts { self.new.left ≡ self.old.left - 1 }
     {
@@ -114,6 +120,7 @@ impl<L: RewritableLog> RewritableLog for StoppingLog<L> {
     fn remove_second(&mut self) -> io::Result<()>
         ensures written { L.written self.new.log ≡ L.written self.old.log }
         ensures kept { L.kept self.new.log ≡ L.kept self.old.log }
+        ensures sound { L.sound self.new.log ≡ L.sound self.old.log }
         ensures stopped { FailsIfNoneLeft self.old.left self.old self.new result }
         ensures counts { self.new.left ≡ self.old.left - 1 }
     {
@@ -129,7 +136,9 @@ impl<L: RewritableLog> RewritableLog for StoppingLog<L> {
             (L.Second.written second)) }
         ensures either { KeepsOrBecomes (L.written self.old.log) (L.written self.new.log) (L.Second.written second) }
         ensures kept { KeepsOrBecomes (L.kept self.old.log) (L.kept self.new.log) (L.Second.kept second) }
-        ensures all { OnOk result (L.kept self.new.log ≡ L.written self.new.log) }
+        ensures all { IsTrue (L.sound self.old.log) → OnOk result (L.kept self.new.log ≡ L.written self.new.log) }
+        ensures sound { IsTrue (L.sound self.old.log) → IsTrue (L.Second.sound second)
+            → OnOk result (IsTrue (L.sound self.new.log)) }
         ensures stopped { FailsIfNoneLeft self.old.left self.old self.new result }
         ensures counts { self.new.left ≡ self.old.left - 1 }
     {
@@ -153,6 +162,7 @@ impl<L: StoredLog> StoredLog for StoppingLog<L> {
         ensures kept { LosesEnd count (L.kept self.old.log) (L.kept self.new.log) }
         ensures lost { IfOk result (λ lost.
             IfSome (L.written self.old.log) (λ bytes. lost ≡ length bytes - count)) }
+        ensures sound { L.sound self.new.log ≡ L.sound self.old.log }
         ensures stopped { FailsIfNoneLeft self.old.left self.old self.new result }
         ensures counts { self.new.left ≡ self.old.left - 1 }
     {

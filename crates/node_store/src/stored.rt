@@ -22,5 +22,6 @@ pub trait StoredLog: RewritableLog {
         ensures written { OnOk result (IsFrontOf count (Self.written self.old) (Self.written self.new)) }
         ensures left { LosesEnd count (Self.written self.old) (Self.written self.new) }
         ensures kept { LosesEnd count (Self.kept self.old) (Self.kept self.new) }
-        ensures lost { IfOk result (λ lost. IfSome (Self.written self.old) (λ bytes. lost ≡ length bytes - count)) };
+        ensures lost { IfOk result (λ lost. IfSome (Self.written self.old) (λ bytes. lost ≡ length bytes - count)) }
+        ensures sound { Self.sound self.new ≡ Self.sound self.old };
 }

@@ -6,7 +6,7 @@
 //! So what code over any log promises of what its log keeps, it also promises of what was written: read its contract
 //! over a `SurvivingLog` of its log. The code cannot tell this one from the log in it, and makes the same calls. Of a
 //! program that is killed, read it over a `StoppingLog` of a `SurvivingLog`.
-ghost use Rattle.std.specs.Prelude.{◌≡◌, OnOk};
+ghost use Rattle.std.specs.Prelude.{◌≡◌, IsTrue, OnOk};
 ghost use Rattle.std.specs.Io.KnownBytes.{Keeps};
 
 use crate::log::Log;
@@ -28,6 +28,8 @@ impl<L: Log> Log for SurvivingLog<L> {
 
     ghost kept = { λ it. L.written it.log };
 
+    ghost sound = { λ it. L.sound it.log };
+
     fn append(&mut self, bytes: &[u8]) -> io::Result<()> {
         self.log.append(bytes)
     }
@@ -35,7 +37,8 @@ impl<L: Log> Log for SurvivingLog<L> {
     // The log is synced, though nothing that counts as kept depends on it.
     fn sync(&mut self) -> io::Result<()>
         ensures written { Keeps (L.written self.old.log) (L.written self.new.log) }
-        ensures synced { OnOk result (L.kept self.new.log ≡ L.written self.new.log) }
+        ensures synced { IsTrue (L.sound self.old.log) → OnOk result (L.kept self.new.log ≡ L.written self.new.log) }
+        ensures sound { OnOk result (L.sound self.new.log ≡ L.sound self.old.log) }
     {
         self.log.sync()
     }

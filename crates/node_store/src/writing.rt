@@ -1,5 +1,5 @@
 //! Appending to the log.
-ghost use Rattle.std.specs.Prelude.{◌≡◌, ◌++◌, IfOk, OnOk, length};
+ghost use Rattle.std.specs.Prelude.{◌≡◌, ◌++◌, IsTrue, IfOk, OnOk, length};
 ghost use Rattle.std.specs.List.{concat};
 ghost use Rattle.frames.specs.Writing.{Writes};
 ghost use Rattle.node_log.specs.Entry.{chain_behind};
@@ -27,11 +27,13 @@ pub fn push_entries(bytes: &mut Gathered, chain: &mut Chain, entries: &[Entry]) 
 }
 
 /// Appends bytes to a log that is synced, and syncs it again. Does nothing if there are no bytes. If it fails, the log
-/// keeps a front of the bytes.
+/// keeps a front of the bytes, and is not to be synced again.
 pub fn append_bytes<L: Log>(log: &mut L, bytes: &Gathered) -> io::Result<()>
-    requires { L.kept log.old ≡ L.written log.old }
+    requires synced { L.kept log.old ≡ L.written log.old }
+    requires sound { IsTrue (L.sound log.old) }
     ensures kept { Writes (L.kept log.old) (L.kept log.new) result bytes.now }
     ensures synced { OnOk result (L.kept log.new ≡ L.written log.new) }
+    ensures sound { OnOk result (IsTrue (L.sound log.new)) }
 {
     if bytes.is_empty() {
         return Ok(());
@@ -44,7 +46,9 @@ pub fn append_bytes<L: Log>(log: &mut L, bytes: &Gathered) -> io::Result<()>
 pub(crate) fn append_parts<L: Log>(log: &mut L, bytes: &Gathered) -> io::Result<()>
     ensures written { Writes (L.written log.old) (L.written log.new) result bytes.now }
     ensures kept { Grows (L.kept log.old) (L.kept log.new) }
-    ensures within { Grows (L.kept log.old) (L.written log.old) → Grows (L.kept log.new) (L.written log.new) }
+    ensures within { IsTrue (L.sound log.old) → Grows (L.kept log.old) (L.written log.old)
+        → Grows (L.kept log.new) (L.written log.new) }
+    ensures sound { L.sound log.new ≡ L.sound log.old }
 {
     let (parts, last) = bytes.parts();
     append_each(log, parts)?;
@@ -55,7 +59,9 @@ pub(crate) fn append_parts<L: Log>(log: &mut L, bytes: &Gathered) -> io::Result<
 fn append_each<L: Log>(log: &mut L, parts: &[Bytes]) -> io::Result<()>
     ensures written { Writes (L.written log.old) (L.written log.new) result (concat parts.now) }
     ensures kept { Grows (L.kept log.old) (L.kept log.new) }
-    ensures within { Grows (L.kept log.old) (L.written log.old) → Grows (L.kept log.new) (L.written log.new) }
+    ensures within { IsTrue (L.sound log.old) → Grows (L.kept log.old) (L.written log.old)
+        → Grows (L.kept log.new) (L.written log.new) }
+    ensures sound { L.sound log.new ≡ L.sound log.old }
 {
     for part in parts {
         log.append(part)?;
@@ -72,11 +78,13 @@ pub fn append_entries<L: Log>(
     chain: &mut Chain,
     entries: &[Entry],
 ) -> io::Result<u64>
-    requires { L.kept log.old ≡ L.written log.old }
+    requires synced { L.kept log.old ≡ L.written log.old }
+    requires sound { IsTrue (L.sound log.old) }
     ensures kept { Writes (L.kept log.old) (L.kept log.new) result (log_bytes chain.old.state entries.now) }
     ensures length { IfOk result (λ bytes. bytes ≡ length (log_bytes chain.old.state entries.now)) }
     ensures chain { OnOk result (chain.new.state ≡ chain_behind chain.old.state entries.now) }
     ensures synced { OnOk result (L.kept log.new ≡ L.written log.new) }
+    ensures sound { OnOk result (IsTrue (L.sound log.new)) }
 {
     let mut bytes = Gathered::new(alloc);
     push_entries(&mut bytes, chain, entries)?;

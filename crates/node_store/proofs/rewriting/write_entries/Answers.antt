@@ -23,11 +23,13 @@ loop-entry-preserved g c =
             (part_written _ _ _ c.push_entry.new.bytes _ _ _ _ waits w.in_ok-length.ensures.written
             w.in_ok-length.ensures.empty w.in_ok-length.ensures.length),
         chained,
+        ap g.L.Log.sound w.log-is ∙ w.in_ok-length.ensures.sound ∙ c.loop-entry.invariant.2,
       )
       | else-len-ge-PART_BYTES w ↦ (
         same_written _ _ _ _ _ _ _ _ (ap g.L.Log.written w.log-is)
             w.part-is w.length-is waits,
         chained,
+        ap g.L.Log.sound w.log-is ∙ c.loop-entry.invariant.2,
       )
     ]
 

@@ -79,6 +79,7 @@ loop-preserved g c =
           (sym c.clear.ensures.chain) (search rules),
       lengthened_then (kept c.args.log.now) (kept c.loop.log) (kept c.serve_arrived.new.log) c.args.end.length c.loop.length _ _
           c.loop.invariant.4 c.in_ok-serve_arrived.ensures.appended (search rules),
+      c.in_ok-serve_arrived.ensures.sound,
     )
 
 pub returns-then-has_grown-clause-lengthened : goal.returns-then-has_grown-clause-lengthened
@@ -129,12 +130,13 @@ loop-init g c =
           (sym c.new-batch.ensures.chain)
           (serves_none g.M.Machine.handles g.M.Machine.notes c.args.end.chain.state c.args.machine.now (known c.args.input.now)
           (kept c.args.log.now) (held c.args.output.now)),
-      c.requires,
+      c.requires.synced,
       c.new-batch.ensures.empty,
       comes_first g.M.Machine.handles g.M.Machine.notes c.args.end.length c.args.end.chain.state
           c.new-batch.result.chain.state c.args.machine.now (known c.args.input.now) (kept c.args.log.now)
           (held c.args.output.now) c.new-batch.ensures.chain,
       lengthened_none (kept c.args.log.now) c.args.end.length (search rules),
+      c.requires.sound,
     )
 
 pub returns-then-has_grown-clause-rounds : goal.returns-then-has_grown-clause-rounds

@@ -1,4 +1,4 @@
-use Rattle.std.proofs.Common.{◌++◌, sym}
+use Rattle.std.proofs.Common.{◌++◌, sym, ◌∙◌}
 use Rattle.std.specs.List.{concat}
 use Rattle.frames.proofs.WriteSequenceLemmas.{Writes_as, Writes_lost, Writes_then, lost}
 use Rattle.std.proofs.lemmas.Result.{err_from_is_err_and}
@@ -15,7 +15,8 @@ pub returns-clause-kept : goal.returns-clause-kept
 returns-clause-kept g c = grows_twice _ _ _ c.append_each.ensures.kept c.append.ensures.kept
 
 pub returns-clause-within : goal.returns-clause-within
-returns-clause-within g c = λ within. c.append.ensures.within (c.append_each.ensures.within within)
+returns-clause-within g c =
+    λ sound within. c.append.ensures.within (c.append_each.ensures.sound ∙ sound) (c.append_each.ensures.within sound within)
 
 pub returns-in_err-append_each-clause-written : goal.returns-in_err-append_each-clause-written
 returns-in_err-append_each-clause-written g c =

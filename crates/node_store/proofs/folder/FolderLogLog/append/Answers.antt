@@ -1,8 +1,9 @@
+use Rattle.std.proofs.lemmas.Bool.{and_parts}
 use Rattle.node_store.proofs.FolderLemmas.{within_found, writes_grow}
 use Rattle.node_store.proofs.folder.FolderLogLog.append.Goals as goal
 
 pub returns-clause-within : goal.returns-clause-within
 returns-clause-within g c =
     rw (← c.self.view_is)
-    (within_found (g.D.DiskFolder.other c.self.inside.folder) _ _ _ _ (writes_grow c.append.result _ _ _ c.append.ensures.written)
-    c.append.ensures.within)
+    (λ sound. within_found (g.D.DiskFolder.other c.self.inside.folder) _ _ _ _ (writes_grow c.append.result _ _ _ c.append.ensures.written)
+    (c.append.ensures.within (and_parts _ _ sound).0))
