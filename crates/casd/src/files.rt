@@ -1,5 +1,5 @@
 //! The files that the program is given: the cluster file, and the log in its folder.
-ghost use Rattle.std.specs.Prelude.{◌≡◌, IfErr, IfOk};
+ghost use Rattle.std.specs.Prelude.{◌≡◌, IsTrue, IfErr, IfOk};
 ghost use Rattle.cluster_file.specs.File.{IsLawfulFile};
 ghost use Rattle.casd.specs.Fault.{IsOpenFault};
 ghost use Rattle.casd.specs.Files.{HasReadFile};
@@ -13,7 +13,7 @@ use std::io;
 
 /// The files and folders that the program is given names of.
 pub trait GivenFiles {
-    ghost use Rattle.std.specs.Prelude.{◌≡◌, ℕ, List, Option, None, Some, IfErr, IfOk};
+    ghost use Rattle.std.specs.Prelude.{◌≡◌, ℕ, List, Option, None, Some, IsTrue, IfErr, IfOk};
     ghost use Rattle.std.specs.Io.KnownBytes.{Keeps};
 
     // The bytes of the file of a name, where they are known.
@@ -32,6 +32,7 @@ pub trait GivenFiles {
     /// Locks a folder. Fails with `InUse` if another process has the lock. Then nothing is changed.
     fn lock(&self, folder: &str) -> Result<Self::Folder, Fault>
         ensures found { IfOk result (λ taken. Self.Folder.found taken ≡ found self.now folder.now) }
+        ensures sound { IfOk result (λ taken. IsTrue (Self.Folder.sound taken)) }
         ensures fault { IfErr result IsOpenFault };
 }
 
@@ -71,6 +72,7 @@ fn know_lawful(file: &ClusterFile)
 /// is changed.
 pub fn open_log<G: GivenFiles>(files: &G, folder: &str) -> Result<FolderLog<G::Folder>, Fault>
     ensures found { IfOk result (λ log. log.written ≡ G.found files.now folder.now) }
+    ensures sound { IfOk result (λ log. IsTrue log.sound) }
     ensures fault { IfErr result IsOpenFault }
 {
     let taken = match files.lock(folder) {

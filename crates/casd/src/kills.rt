@@ -3,7 +3,7 @@
 //! These laws run the code of the program, over a log and an output that stop after any numbers of calls, as
 //! `killed_rounds_are_events` of `processes` runs its loop. A program that is killed just before some call to its log
 //! or its output leaves what it leaves over a log and an output that stop after the calls before.
-ghost use Rattle.std.specs.Prelude.{◌≡◌};
+ghost use Rattle.std.specs.Prelude.{◌≡◌, IsTrue};
 ghost use Rattle.casd.specs.Kills.{LeavesRewriting, LeavesRun, LeavesStart};
 
 use crate::fault::Fault;
@@ -26,6 +26,7 @@ pub fn killed_starts_are_events<L: StoredLog, E: Write>(
     node: &mut Node,
     err: &mut E,
 ) -> Result<LogEnd, Fault>
+    requires { IsTrue (L.sound log.old.log) }
     ensures { LeavesStart node.old (L.written log.old.log) (L.kept log.old.log) node.new (L.kept log.new.log) result }
 {
     starts_are_events();
@@ -42,7 +43,8 @@ pub fn killed_rewritings_are_events<L: RewritableLog, E: Write>(
     end: LogEnd,
     err: &mut E,
 ) -> Result<LogEnd, Fault>
-    requires { L.kept log.old.log ≡ L.written log.old.log }
+    requires synced { L.kept log.old.log ≡ L.written log.old.log }
+    requires sound { IsTrue (L.sound log.old.log) }
     ensures { LeavesRewriting node.now end.chain.state (L.kept log.old.log) (L.kept log.new.log) result }
 {
     rewrites_are_events();
@@ -59,6 +61,7 @@ pub fn killed_runs_are_events<L: StoredLog, I: Read + Drop, O: Write, E: Write>(
     output: &mut StoppingWriter<O>,
     err: &mut E,
 ) -> Result<(), Fault>
+    requires { IsTrue (L.sound log.old.log) }
     ensures { LeavesRun node.old (L.written log.old.log) (L.kept log.old.log) (I.remaining input)
         (O.contents output.old.writer) node.new (L.kept log.new.log) (O.contents output.new.writer) result }
 {

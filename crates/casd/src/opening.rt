@@ -1,5 +1,5 @@
 //! The log of a node at its start.
-ghost use Rattle.std.specs.Prelude.{◌≡◌, ℕ, Ok, IfOk, IfErr, OnOk};
+ghost use Rattle.std.specs.Prelude.{◌≡◌, ℕ, Ok, IsTrue, IfOk, IfErr, OnOk};
 ghost use Rattle.deeds.specs.Kept.{FileOfNames};
 ghost use Rattle.node.specs.Anew.{AreAnew};
 ghost use Rattle.node.specs.Recovering.{CarriesOutEntry};
@@ -32,13 +32,14 @@ const LOG_BUFFER: usize = 65_536;
 /// If the node has no more epoch, the log is cut and synced, and not written anew.
 ///
 /// If the log is damaged, has the form of before, or is not this node's, it is left as it is. The clause `fails` says
-/// what the log keeps after each fault.
+/// what the log keeps after each fault. No sync of the log may have failed before.
 pub fn start_with<L: StoredLog, E: Write>(
     alloc: Global,
     log: &mut L,
     node: &mut Node,
     err: &mut E,
 ) -> Result<LogEnd, Fault>
+    requires { IsTrue (L.sound log.old) }
     ensures starts { (names : FileOfNames) (number : ℕ) → IsNewNode names number node.old
         → IfOk result (λ end.
         HasStarted names number (L.written log.old) node.new end.chain.state (L.kept log.new)) }
@@ -47,6 +48,7 @@ pub fn start_with<L: StoredLog, E: Write>(
     ensures refused { IfErr result (λ fault. IsRefusal fault
         → (L.written log.new ≡ L.written log.old) × (L.kept log.new ≡ L.kept log.old)) }
     ensures synced { OnOk result (L.kept log.new ≡ L.written log.new) }
+    ensures sound { OnOk result (IsTrue (L.sound log.new)) }
     ensures fault { IfErr result IsStartFault }
 {
     refuse_old_form(log)?;
@@ -95,8 +97,10 @@ fn recover<L: StoredLog>(alloc: Global, log: &L, node: &mut Node) -> Result<LogE
 
 // Cuts the log behind so many bytes, and syncs it. Says on `err` how many bytes it cut off.
 fn cut_behind<L: StoredLog, E: Write>(log: &mut L, length: u64, err: &mut E) -> Result<(), Fault>
+    requires { IsTrue (L.sound log.old) }
     ensures cut { HasCut length (L.written log.old) (L.kept log.old) (L.kept log.new) result }
     ensures synced { OnOk result (L.kept log.new ≡ L.written log.new) }
+    ensures sound { OnOk result (IsTrue (L.sound log.new)) }
     ensures kind { IfErr result (λ fault. IsRefusal fault → ⊥) }
     ensures fault { IfErr result IsStartFault }
 {
@@ -123,9 +127,11 @@ fn tell_cut<E: Write>(err: &mut E, cut: u64) {
 
 // Begins an epoch of the node, and appends the entries of this to the log that ends there. Returns where it ends then.
 fn begin<L: Log>(alloc: Global, log: &mut L, node: &mut Node, end: LogEnd) -> Result<LogEnd, Fault>
-    requires { L.kept log.old ≡ L.written log.old }
+    requires synced { L.kept log.old ≡ L.written log.old }
+    requires sound { IsTrue (L.sound log.old) }
     ensures begun { HasBegun node.old node.new end (L.kept log.old) (L.kept log.new) result }
     ensures synced { OnOk result (L.kept log.new ≡ L.written log.new) }
+    ensures sound { OnOk result (IsTrue (L.sound log.new)) }
     ensures kind { IfErr result (λ fault. IsRefusal fault → ⊥) }
     ensures fault { IfErr result IsStartFault }
 {
@@ -156,9 +162,11 @@ pub fn write_anew<L: RewritableLog, E: Write>(
     end: LogEnd,
     err: &mut E,
 ) -> Result<LogEnd, Fault>
-    requires { L.kept log.old ≡ L.written log.old }
+    requires synced { L.kept log.old ≡ L.written log.old }
+    requires sound { IsTrue (L.sound log.old) }
     ensures rewritten { HasWrittenAnew node.now (L.kept log.old) end (L.kept log.new) result }
     ensures synced { OnOk result (L.kept log.new ≡ L.written log.new) }
+    ensures sound { OnOk result (IsTrue (L.sound log.new)) }
     ensures kind { IfErr result (λ fault. IsRefusal fault → ⊥) }
     ensures fault { IfErr result IsStartFault }
 {
@@ -185,10 +193,12 @@ fn exchange<L: RewritableLog, E: Write>(
     end: LogEnd,
     err: &mut E,
 ) -> Result<LogEnd, Fault>
-    requires { L.kept log.old ≡ L.written log.old }
+    requires synced { L.kept log.old ≡ L.written log.old }
+    requires sound { IsTrue (L.sound log.old) }
     ensures rewritten { (node : Node) → AreAnew node entries.now
         → HasWrittenAnew node (L.kept log.old) end (L.kept log.new) result }
     ensures synced { OnOk result (L.kept log.new ≡ L.written log.new) }
+    ensures sound { OnOk result (IsTrue (L.sound log.new)) }
     ensures kind { IfErr result (λ fault. IsRefusal fault → ⊥) }
     ensures fault { IfErr result IsStartFault }
 {

@@ -1,5 +1,5 @@
 //! The program, generic over its input and its writers.
-ghost use Rattle.std.specs.Prelude.{◌≡◌, ℕ, List, OnOk, map, string_bytes};
+ghost use Rattle.std.specs.Prelude.{◌≡◌, ℕ, List, IsTrue, OnOk, map, string_bytes};
 ghost use Rattle.std.specs.Io.Buffered.{reader_remaining};
 ghost use Rattle.cluster_file.specs.File.{IsLawfulFile};
 ghost use Rattle.deeds.specs.Kept.{FileOfNames};
@@ -137,6 +137,7 @@ fn run_log<L: StoredLog, I: Read + Drop, O: Write, E: Write>(
     output: &mut O,
     err: &mut E,
 ) -> Result<(), Fault>
+    requires { IsTrue (L.sound log.old) }
     ensures { IsLawfulFile file → HasRunNode file number (L.written log.old) (L.kept log.old) (I.remaining input)
         (O.contents output.old) (L.kept log.new) (O.contents output.new) result }
 {
@@ -144,7 +145,7 @@ fn run_log<L: StoredLog, I: Read + Drop, O: Write, E: Write>(
     start_and_serve(alloc, &mut node, log, input, output, err)
 }
 
-/// Starts the node with its log, and serves until the input ends.
+/// Starts the node with its log, of which no sync has failed, and serves until the input ends.
 pub fn start_and_serve<L: StoredLog, I: Read + Drop, O: Write, E: Write>(
     alloc: Global,
     node: &mut Node,
@@ -153,6 +154,7 @@ pub fn start_and_serve<L: StoredLog, I: Read + Drop, O: Write, E: Write>(
     output: &mut O,
     err: &mut E,
 ) -> Result<(), Fault>
+    requires { IsTrue (L.sound log.old) }
     ensures { (names : FileOfNames) (number : ℕ) → IsNewNode names number node.old
         → HasRun names number (L.written log.old) (L.kept log.old) (I.remaining input) (O.contents output.old)
         node.new (L.kept log.new) (O.contents output.new) result }
@@ -178,7 +180,8 @@ fn serve<L: RewritableLog, I: Read + Drop, O: Write, E: Write>(
     end: LogEnd,
     err: &mut E,
 ) -> Result<(), Fault>
-    requires { L.kept log.old ≡ L.written log.old }
+    requires synced { L.kept log.old ≡ L.written log.old }
+    requires sound { IsTrue (L.sound log.old) }
     ensures { HasServed
         (record {
           length = end.length;
@@ -212,7 +215,8 @@ fn serve_once<L: RewritableLog, I: Read + Drop, O: Write, E: Write>(
     end: LogEnd,
     err: &mut E,
 ) -> Result<Option<LogEnd>, Fault>
-    requires { L.kept log.old ≡ L.written log.old }
+    requires synced { L.kept log.old ≡ L.written log.old }
+    requires sound { IsTrue (L.sound log.old) }
     ensures serves { HasServedOnce
         (record {
           length = end.length;
@@ -224,6 +228,7 @@ fn serve_once<L: RewritableLog, I: Read + Drop, O: Write, E: Write>(
         })
         node.new (reader_remaining I.remaining input.new) (L.kept log.new) (O.contents output.new) result }
     ensures synced { OnOk result (L.kept log.new ≡ L.written log.new) }
+    ensures sound { OnOk result (IsTrue (L.sound log.new)) }
 {
     match serve_frames(alloc, node, input, output, log, end, err) {
         Ok(Some(now)) => match write_anew(alloc, log, node, now, err) {

@@ -1,3 +1,4 @@
+use Rattle.std.proofs.Common.{◌∙◌}
 use Rattle.casd.proofs.CutLemmas.{cut_failed, sync_failed}
 use Rattle.casd.proofs.opening.cut_behind.Goals as goal
 
@@ -6,5 +7,6 @@ returns-in-Err-clause-cut g c = cut_failed _ _ _ _ c.cut.ensures.kept
 
 pub returns-in-Err-sync-clause-cut : goal.returns-in-Err-sync-clause-cut
 returns-in-Err-sync-clause-cut g c =
-    sync_failed _ _ _ _ _ _ _ c.in-Ok.ensures.written c.cut.ensures.kept c.sync.ensures.written c.sync.ensures.kept
-    c.sync.ensures.within c.sync.ensures.cut
+    let sound = c.cut.ensures.sound ∙ c.requires in
+    sync_failed _ _ _ _ _ _ _ c.in-Ok.ensures.written c.cut.ensures.kept c.sync.ensures.written (c.sync.ensures.kept sound)
+    (c.sync.ensures.within sound) (c.sync.ensures.cut sound)

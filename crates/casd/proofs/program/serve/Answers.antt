@@ -36,6 +36,7 @@ loop-preserved g c =
           (g.O.Write.contents c.serve_once.new.output)
           c.in-Ok-Some.now c.loop.invariant.0 (rw c.in-Ok-Some.field-0-is at c.in-Ok-Some.ensures.serves),
       c.in-Ok-Some.ensures.synced,
+      c.in-Ok-Some.ensures.sound,
     )
 
 pub returns : goal.returns

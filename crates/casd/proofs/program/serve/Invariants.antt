@@ -1,5 +1,7 @@
--- The node has handled frames, and the log was perhaps written anew, as often as the loop went round.
+-- The node has handled frames, and the log was perhaps written anew, as often as the loop went round. No
+-- sync of the log failed.
 use Rattle.std.proofs.Common.{◌≡◌, ℕ}
+use Rattle.std.specs.Prelude.{IsTrue}
 use Rattle.std.specs.Io.Buffered.{reader_remaining}
 use Rattle.casd.proofs.SessionLemmas.{HasGoneOn, at}
 use Rattle.casd.proofs.program.serve.Given as goal
@@ -11,4 +13,4 @@ invariant-loop g l =
     (g.O.Write.contents l.fn.output))
     (at l.end l.node (reader_remaining g.I.Read.remaining l.input) (g.L.Log.kept l.log)
     (g.O.Write.contents l.output))
-    × (g.L.Log.kept l.log ≡ g.L.Log.written l.log)
+    × (g.L.Log.kept l.log ≡ g.L.Log.written l.log) × IsTrue (g.L.Log.sound l.log)
