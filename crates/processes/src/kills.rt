@@ -4,7 +4,7 @@
 //! program that is killed just before some call to its log or its output leaves what it leaves over a log and an output
 //! that stop after the calls before: it makes the same calls until then, because it is generic over both, and nothing
 //! changes afterwards.
-ghost use Rattle.std.specs.Prelude.{◌≡◌};
+ghost use Rattle.std.specs.Prelude.{◌≡◌, IsTrue};
 ghost use Rattle.std.specs.Io.Buffered.{reader_remaining};
 ghost use Rattle.processes.specs.Kills.{LeavesEvents};
 
@@ -24,7 +24,8 @@ pub fn killed_rounds_are_events<I: Read + Drop, O: Write, L: Log, E: Write>(
     end: LogEnd,
     err: &mut E,
 ) -> Result<Option<LogEnd>, ServeError>
-    requires { L.kept log.old.log ≡ L.written log.old.log }
+    requires synced { L.kept log.old.log ≡ L.written log.old.log }
+    requires sound { IsTrue (L.sound log.old.log) }
     ensures { LeavesEvents
         (record {
           length = end.length;
