@@ -15,6 +15,8 @@ pub(crate) struct MemoryFile {
     pub(crate) bytes: Vec<u8>,
     /// What is there after the machine stops.
     pub(crate) kept: Vec<u8>,
+    /// Whether each sync succeeded. After one that failed, later ones succeed and keep nothing more.
+    pub(crate) is_sound: bool,
 }
 
 /// A folder in memory, which has the bytes of the file `log` before that is opened.
@@ -55,14 +57,27 @@ impl DiskFile for MemoryFile {
 
     ghost kept = { λ file. Some file.kept.items };
 
+    ghost sound = { λ file. file.is_sound };
+
     fn append(&mut self, bytes: &[u8]) -> io::Result<()> {
         self.bytes.extend_from_slice(bytes)?;
         Ok(())
     }
 
     fn sync_data(&mut self) -> io::Result<()> {
-        self.kept = copy_of(self.alloc, &self.bytes)?;
-        Ok(())
+        if !self.is_sound {
+            return Ok(());
+        }
+        match copy_of(self.alloc, &self.bytes) {
+            Ok(copy) => {
+                self.kept = copy;
+                Ok(())
+            }
+            Err(error) => {
+                self.is_sound = false;
+                Err(error)
+            }
+        }
     }
 
     fn length(&self) -> io::Result<u64> {
@@ -93,6 +108,7 @@ impl DiskFolder for MemoryFolder {
             alloc: self.alloc,
             bytes: copy_of(self.alloc, &self.found)?,
             kept: copy_of(self.alloc, &self.found)?,
+            is_sound: true,
         })
     }
 
@@ -106,6 +122,7 @@ impl DiskFolder for MemoryFolder {
             alloc: self.alloc,
             bytes: Vec::new(self.alloc),
             kept: Vec::new(self.alloc),
+            is_sound: true,
         })
     }
 
