@@ -10,7 +10,7 @@ use Rattle.node.specs.Anew.{CarriesOutAll}
 use Rattle.node.specs.Recovering.{CarriesOutEntry}
 use Rattle.node.specs.Starts.{start_entries}
 use Rattle.node.specs.declared.node.Node.{Node}
-use Rattle.node_store.specs.Laws.{LeftLogIsRead}
+use Rattle.node_store.specs.Laws.{IsLeft, LeftLogIsRead}
 use Rattle.node_store.specs.Recovery.{log_bytes}
 use Rattle.node_store.specs.Rewriting.{Becomes, IsEndOf}
 use Rattle.node_store.specs.declared.end.LogEnd.{LogEnd}
@@ -76,8 +76,24 @@ found_if read None bytes kept end then same chained is = record {
 }
 found_if read (Some entries) bytes kept end then same chained is = record { bytes = is.0; chained = is.1.chained }
 
-pub starts_are_events : LeftLogIsRead → StartsAreEvents
-starts_are_events law processes reached number disk node chain keeps stopped left start =
+-- what the event of a start makes of the process: its log is whole, and has the bytes that the program's log has
+pub record StartedSo (process : Process) (number : ℕ) (names : FileOfNames) (node : Node) (chain : ℕ)
+    (keeps : Option (List ℕ)) : Type 0 where
+  pub read : List Strings
+  pub anew : Option (List Strings)
+  pub new : Node
+  pub copy : Node
+  pub may : MayStart names number process read anew new copy node
+  pub sound : HasWholeLog (started_process process read anew copy node)
+  pub bytes : keeps ≡ Some (log_bytes first_chain (started_process process read anew copy node).log)
+  pub chained : chain ≡ chain_behind first_chain (started_process process read anew copy node).log
+
+pub started_so : LeftLogIsRead → (processes : Processes) (reached : AreReached processes) (number : ℕ) (disk : List ℕ)
+    (node : Node) (chain : ℕ) (keeps : Option (List ℕ)) → (processes.at number).running ≡ None →
+    IsLeft (processes.at number).log (processes.at number).synced disk →
+    IsStart reached.names number disk node chain keeps →
+    StartedSo (processes.at number) number reached.names node chain keeps
+started_so law processes reached number disk node chain keeps stopped left start =
     let names = reached.names in
     let process = processes.at number in
     let copy = start.copy in
@@ -96,40 +112,51 @@ starts_are_events law processes reached number disk node chain keeps stopped lef
       started = start.started;
       desk = start.desk;
     } in
-    let event = ProcessEvent.Starts number read start.anew start.new copy node in
+    let found = found_if read start.anew (take start.end.length disk) start.kept start.end start.then
+    (cut_at first_chain read carried.3.0 disk start.end.length carried.3.1 carried.2) start.recovered.2 start.rewritten in
+    let log = found_log read start.anew in record {
+      read = read;
+      anew = start.anew;
+      new = start.new;
+      copy = copy;
+      may = may;
+      sound = started_whole names number process read start.anew start.new copy node
+          (read_first law names number process read start.anew start.new copy node (reached_whole law processes reached number) may) may;
+      bytes = log_grows log (start_entries copy) start.then.chain.state start.kept keeps found.bytes found.chained
+          (log_bytes start.then.chain.state (start_entries copy)) start.appended
+          ∙ ap (λ (c : ℕ). Some (log_bytes first_chain log ++ log_bytes c (start_entries copy))) found.chained
+          ∙ ap Some (sym (bytes_then first_chain log (start_entries copy)));
+      chained = start.chained ∙ ap (λ (c : ℕ). chain_behind c (start_entries copy)) found.chained
+          ∙ sym (chain_then first_chain log (start_entries copy));
+    }
+
+pub starts_are_events : LeftLogIsRead → StartsAreEvents
+starts_are_events law processes reached number disk node chain keeps stopped left start =
+    let names = reached.names in
+    let process = processes.at number in
+    let so = started_so law processes reached number disk node chain keeps stopped left start in
+    let event = ProcessEvent.Starts number so.read so.anew so.new so.copy node in
     let next = processes_after processes event in
-    let after = started_process process read start.anew copy node in
+    let after = started_process process so.read so.anew so.copy node in
     let own : next.at number ≡ after = own_process processes.at number after in
-    let sound = started_whole names number process read start.anew start.new copy node
-    (read_first law names number process read start.anew start.new copy node (reached_whole law processes reached number) may) may in
     let count = length after.log in
     let syncs = ProcessEvent.Syncs number count in
     let to = processes_after next syncs in
     let within : ((next.at number).synced ≤ count) × (count ≤ length (next.at number).log) =
-    subst (λ (p : Process). (p.synced ≤ count) × (count ≤ length p.log)) (sym own) (sound.fits, omega arith) in
+    subst (λ (p : Process). (p.synced ≤ count) × (count ≤ length p.log)) (sym own) (so.sound.fits, omega arith) in
     let same : to.at number ≡ record after { synced = count } =
     own_process next.at number (record (next.at number) { synced = count })
     ∙ ap (λ (p : Process). record p { synced = count }) own in
-    let found = found_if read start.anew (take start.end.length disk) start.kept start.end start.then
-    (cut_at first_chain read carried.3.0 disk start.end.length carried.3.1 carried.2) start.recovered.2 start.rewritten in
-    let log = found_log read start.anew in
-    let bytes : keeps ≡ Some (log_bytes first_chain after.log) =
-    log_grows log (start_entries copy) start.then.chain.state start.kept keeps found.bytes found.chained
-    (log_bytes start.then.chain.state (start_entries copy)) start.appended
-    ∙ ap (λ (c : ℕ). Some (log_bytes first_chain log ++ log_bytes c (start_entries copy))) found.chained
-    ∙ ap Some (sym (bytes_then first_chain log (start_entries copy))) in
     have_events names number processes to [] (λ written at. (written ≡ []) × IsBetweenRounds at node chain keeps)
-    (leads_on names number processes next to [] [] (leads_once names number processes event refl may)
+    (leads_on names number processes next to [] [] (leads_once names number processes event refl so.may)
     (leads_once names number next syncs refl within)) (
       refl,
       record {
         runs = ap (λ (p : Process). p.running) same;
         synced = ap (λ (p : Process). p.synced) same ∙ ap (λ (p : Process). length p.log) (sym same);
         told = ap (λ (p : Process). p.answers) same;
-        chained = start.chained ∙ ap (λ (c : ℕ). chain_behind c (start_entries copy)) found.chained
-            ∙ sym (chain_then first_chain log (start_entries copy))
-            ∙ ap (λ (p : Process). chain_behind first_chain p.log) (sym same);
-        bytes = bytes ∙ ap (λ (p : Process). Some (log_bytes first_chain p.log)) (sym same);
+        chained = so.chained ∙ ap (λ (p : Process). chain_behind first_chain p.log) (sym same);
+        bytes = so.bytes ∙ ap (λ (p : Process). Some (log_bytes first_chain p.log)) (sym same);
       },
     )
 

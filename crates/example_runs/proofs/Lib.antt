@@ -1,0 +1,5 @@
+mod GoingLemmas
+mod GrowthLemmas
+mod MemberLemmas
+mod ReachedLemmas
+mod StepLemmas

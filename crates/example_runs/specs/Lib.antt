@@ -1,0 +1,3 @@
+pub mod Members
+pub mod Reached
+pub mod Steps
