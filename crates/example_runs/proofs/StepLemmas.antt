@@ -23,15 +23,15 @@ use Rattle.example_runs.proofs.GoingLemmas.{goes_once}
 use Rattle.example_runs.proofs.MemberLemmas.{started_goes}
 use Rattle.example_runs.proofs.ReachedLemmas.{led_on}
 
-ok_is : (file other : FileContents) → Ok {E = FileFault} file ≡ Ok other → file ≡ other
-ok_is file other same = cc
+ok_is : (file other : FileContents) (read : Result FileContents FileFault) → read ≡ Ok file → read ≡ Ok other → file ≡ other
+ok_is file other read one two = let same = sym one ∙ two in cc
 
 started_leads : LeftLogIsRead → (number : ℕ) (old new : ProcessRun) → IsStartedIn number old new → LeadsOn old new
 started_leads law number old new is = (
   is.changed.text,
   λ processes by are.
       let at = are.at number is.member is.changed.at in
-      let same : by.file ≡ is.file = ok_is by.file is.file (sym by.read ∙ is.read) in
+      let same : by.file ≡ is.file = ok_is by.file is.file (file_of old.text) by.read is.read in
       let goes = started_goes law processes by.reached is.file (by.names ∙ ap names_of same) number is.member is.after at is.started in
       led_on by.reached.names number old new processes goes.0 is.after [] [] are goes.1 goes.2 is.changed.members
       (is.sent ∙ sym (append-nil old.sent.items)) (ap all_seen is.seen ∙ sym (append-nil (all_seen old.seen.items))),
