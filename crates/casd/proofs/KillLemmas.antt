@@ -78,7 +78,7 @@ good_start law processes reached number None kept new chain keeps ((stopped, (di
 good_start law processes reached number (Some bytes) kept new chain keeps ((stopped, (disk, is, left)), before, more) start =
     let same : disk ≡ bytes = cc in
     law processes reached number bytes new chain keeps stopped
-    (subst (IsLeft (processes.at number).log (processes.at number).synced) same left) start
+    (subst (IsLeft (processes.at number).log (processes.at number).synced) same left) start.1
 
 -- a start that failed
 pub bad_start : StoppedStartsAreEvents → (processes : Processes) (reached : AreReached processes) (number : ℕ)
@@ -103,7 +103,7 @@ bad_start law processes reached number found kept keeps fault may failed = go fo
         let f : others ≡ before = cc in
         law processes reached number disk before keeps stopped (subst (IsLeft log synced) e left)
         (subst (IsLeft log synced) f held) (rest, grows)
-        (failed_at reached.names number disk (Some before) keeps fault failed)
+        (failed_at reached.names number disk (Some before) keeps fault failed.0)
 
 -- whatever a start returned
 pub start_leaves : StartsAreEvents → StoppedStartsAreEvents → (old : Node) (found kept : Known) (new : Node) (keeps : Known)

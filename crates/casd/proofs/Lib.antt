@@ -1,5 +1,6 @@
 mod ThreeWordLemmas
 mod CutLemmas
+mod FormLemmas
 mod StartLemmas
 mod FailedStartLemmas
 mod ReaderLemmas

@@ -15,7 +15,7 @@ pub no_run : (T : Type 0) (names : FileOfNames) (number : ℕ) (found kept input
     (fault : Fault) → IsFailedStart names number found kept keeps fault →
     HasRun {T = T} names number found kept input held new keeps held (Err fault)
 no_run T names number None kept input held new keeps (faults.Ended error) failed = absurd failed
-no_run T names number (Some disk) kept input held new keeps (faults.Ended error) failed = absurd failed
+no_run T names number (Some disk) kept input held new keeps (faults.Ended error) failed = absurd failed.0
 no_run T names number found kept input held new keeps (faults.NotExchanged error) failed = inr (failed, refl)
 no_run T names number found kept input held new keeps faults.NoMemory failed = inr (failed, refl)
 no_run T names number found kept input held new keeps _ failed = (failed, refl)

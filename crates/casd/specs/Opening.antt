@@ -1,6 +1,6 @@
 -- The contracts that docs/trusted.md lists do not depend on this file; other contracts and proofs do.
 -- How the program starts its node, and how it writes its log anew.
-use Rattle.std.specs.Prelude.{◌≡◌, ◌≤◌, ◌⊎◌, ℕ, List, length, Option, Some, None, Result, Ok, Err}
+use Rattle.std.specs.Prelude.{◌≡◌, ◌≤◌, ◌⊎◌, ℕ, List, length, take, Option, Some, None, Result, Ok, Err, ⊤}
 use Rattle.std.specs.List.{AllByRecursion, FoldsTo}
 use Rattle.recoveries.specs.Records.{IsStarted}
 use Rattle.deeds.specs.Kept.{FileOfNames}
@@ -10,9 +10,12 @@ use Rattle.node.specs.Recovering.{CarriesOutEntry}
 use Rattle.node.specs.Starts.{CanBeNamed, IsNotStarted}
 use Rattle.node.specs.declared.node.Node.{Node}
 use Rattle.node_effects.specs.declared.error.NodeError.TheVariants as errors
+use Rattle.node_log.specs.Entry.{IsOldHead}
+use Rattle.node_log.specs.Reading.{HadLeft}
 use Rattle.node_store.specs.Disk.{IsFrontOf}
-use Rattle.node_store.specs.Recovery.{IsWholeEntry}
+use Rattle.node_store.specs.Recovery.{HasRecovered, IsWholeEntry}
 use Rattle.node_store.specs.declared.end.LogEnd.{LogEnd}
+use Rattle.node_store.specs.declared.error.StoreError.{StoreError}
 use Rattle.processes.specs.Events.{IsNewNode}
 use Rattle.processes.specs.Programs.{IsBegun, IsHalfRewritten, IsPartlyBegun, IsPartlyCut, IsPerhapsRewritten, IsStart}
 use Rattle.processes.specs.Programs.{IsStoppedAt, StartStage}
@@ -21,6 +24,28 @@ use Rattle.casd.specs.declared.fault.Fault.{Fault}
 use Rattle.casd.specs.declared.fault.Fault.TheVariants as faults
 
 -- The parts of a start
+
+-- a log of these bytes has an older form: they begin with a head of such a form
+abbrev pub HasOldForm : (disk : List ℕ) → Type 0
+HasOldForm disk = IsOldHead (take 16 disk)
+
+-- the first bytes of a log were read, and it has no older form; or it has one; or it could not be read, or there was no
+-- memory
+abbrev pub HasReadForm : {T : Type 0} → (found : Option (List ℕ)) → Result T Fault → Type 0
+HasReadForm found (Ok done) = HadLeft (λ disk. HasOldForm disk → ⊥) found
+HasReadForm found (Err faults.OldForm) = HadLeft HasOldForm found
+HasReadForm found (Err (faults.Unopened error)) = ⊤
+HasReadForm found (Err faults.NoMemory) = ⊤
+HasReadForm found (Err _) = ⊥
+
+-- the node carried out the entries of a log again, up to its end, which is the result; or up to the byte where reading
+-- stopped, for the reason that the error names; or the log could not be read, or there was no memory
+abbrev pub HasReadLog : (old new : Node) → (found : Option (List ℕ)) → Result LogEnd Fault → Type 0
+HasReadLog old new found (Ok end) = HasRecovered CarriesOutEntry old new found (Ok end)
+HasReadLog old new found (Err (faults.BadLog error)) = HasRecovered CarriesOutEntry old new found (Err error)
+HasReadLog old new found (Err (faults.Unopened error)) = ⊤
+HasReadLog old new found (Err faults.NoMemory) = ⊤
+HasReadLog old new found (Err _) = ⊥
 
 -- a log, which had the bytes `written`, was cut behind so many of them and keeps these; or it was not, or not for sure
 abbrev pub HasCut : {T : Type 0} → (count : ℕ) → (written kept keeps : Option (List ℕ)) → Result T Fault → Type 0
@@ -63,10 +88,11 @@ pub record IsUnknownStart (names : FileOfNames) (number : ℕ) (node : Node) : T
   pub started : IsStarted (kept_of copy.keeper) (kept_of node.keeper)
   pub desk : node.desk ≡ copy.desk
 
--- the program started with these bytes of a log, if they are known
+-- the program started with these bytes of a log, if they are known, and the log has no older form
 abbrev pub HasStarted : FileOfNames → (number : ℕ) → (found : Option (List ℕ)) → Node → (chain : ℕ)
     → (keeps : Option (List ℕ)) → Type 0
-HasStarted names number (Some disk) node chain keeps = IsStart names number disk node chain keeps
+HasStarted names number (Some disk) node chain keeps =
+    (HasOldForm disk → ⊥) × IsStart names number disk node chain keeps
 HasStarted names number None node chain keeps = IsUnknownStart names number node
 
 -- What the log keeps if a start fails with this fault, in which these bytes were found, and which kept those. If it was
@@ -93,7 +119,25 @@ LeavesLog names number disk kept keeps (faults.Stopped error) =
     IsStoppedAt StartStage.Starting names number disk kept keeps
 LeavesLog names number disk kept keeps _ = ⊥
 
--- a start failed with this fault, and the log keeps what the fault says, if the bytes that were found in it are known
+-- a new node of this number carried out the entries with which these bytes of a log begin, up to the byte that the
+-- error names, where reading stopped for the reason that it names
+abbrev pub IsBadLog : FileOfNames → (number : ℕ) → (disk : List ℕ) → StoreError → Type 0
+IsBadLog names number disk error =
+    (new after : Node) × IsNewNode names number new × HasRecovered CarriesOutEntry new after (Some disk) (Err error)
+
+-- What a fault of a start says of the bytes that were found in the log. An older form is named as such, unless the log
+-- cannot be read or there is no memory, and it is not changed. Any other fault says that the log has no older form.
+abbrev pub IsCauseIn : FileOfNames → (number : ℕ) → (disk : List ℕ) → (kept keeps : Option (List ℕ)) → Fault → Type 0
+IsCauseIn names number disk kept keeps faults.OldForm = HasOldForm disk
+IsCauseIn names number disk kept keeps (faults.Unopened error) = HasOldForm disk → keeps ≡ kept
+IsCauseIn names number disk kept keeps faults.NoMemory = ⊤
+IsCauseIn names number disk kept keeps (faults.BadLog error) =
+    (HasOldForm disk → ⊥) × IsBadLog names number disk error
+IsCauseIn names number disk kept keeps _ = HasOldForm disk → ⊥
+
+-- a start failed with this fault, which has a cause, and the log keeps what the fault says, if the bytes that were found
+-- in it are known
 abbrev pub IsFailedStart : FileOfNames → (number : ℕ) → (found kept keeps : Option (List ℕ)) → Fault → Type 0
-IsFailedStart names number (Some disk) kept keeps fault = LeavesLog names number disk kept keeps fault
+IsFailedStart names number (Some disk) kept keeps fault =
+    LeavesLog names number disk kept keeps fault × IsCauseIn names number disk kept keeps fault
 IsFailedStart names number None kept keeps fault = IsStartFault fault

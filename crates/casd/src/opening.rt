@@ -1,16 +1,16 @@
 //! The log of a node at its start.
-ghost use Rattle.std.specs.Prelude.{◌≡◌, ℕ, Ok, IsTrue, IfOk, IfErr, OnOk};
+ghost use Rattle.std.specs.Prelude.{◌≡◌, ℕ, IsTrue, IfOk, IfErr, OnOk};
 ghost use Rattle.deeds.specs.Kept.{FileOfNames};
 ghost use Rattle.node.specs.Anew.{AreAnew};
-ghost use Rattle.node.specs.Recovering.{CarriesOutEntry};
 ghost use Rattle.node.specs.declared.node.Node.{Node};
-ghost use Rattle.node_store.specs.Recovery.{HasRecovered};
 ghost use Rattle.processes.specs.Events.{IsNewNode};
 ghost use Rattle.casd.specs.Fault.{IsReadFault, IsRefusal, IsStartFault};
-ghost use Rattle.casd.specs.Opening.{HasBegun, HasCut, HasStarted, HasWrittenAnew, IsFailedStart};
+ghost use Rattle.casd.specs.Opening.{HasBegun, HasCut, HasReadForm, HasReadLog, HasStarted, HasWrittenAnew};
+ghost use Rattle.casd.specs.Opening.{IsFailedStart};
 
 use crate::fault::Fault;
 use crate::folder::unopened;
+use frames::read_full;
 use node::Node;
 use node_effects::NodeError;
 use node_log::{Entry, HEAD_LENGTH, is_old_head};
@@ -20,7 +20,7 @@ use node_store::{
 };
 use std::alloc::Global;
 use std::fmt::Display;
-use std::io::{BufReader, ErrorKind, Read, Write};
+use std::io::{BufReader, Write};
 
 // The size of the buffer with which the log is read, in bytes.
 const LOG_BUFFER: usize = 65_536;
@@ -63,34 +63,42 @@ pub fn start_with<L: StoredLog, E: Write>(
 
 // Fails with `OldForm` if the log has an older form.
 fn refuse_old_form<L: StoredLog>(log: &L) -> Result<(), Fault>
-    ensures { IfErr result IsReadFault }
+    ensures form { HasReadForm (L.written log.now) result }
+    ensures reads { IfErr result IsReadFault }
 {
-    let mut reader = log.read().map_err(unopened)?;
+    let mut reader = match log.read() {
+        Ok(reader) => reader,
+        Err(error) => return Err(unopened(error)),
+    };
     let mut head = [0; HEAD_LENGTH];
-    match reader.read_exact(&mut head) {
-        Ok(()) => {
+    match read_full(&mut reader, &mut head) {
+        Ok(count) => {
+            if count < HEAD_LENGTH {
+                return Ok(());
+            }
             if is_old_head(&head) {
                 return Err(Fault::OldForm);
             }
+            Ok(())
         }
-        Err(error) => {
-            if error.kind() != ErrorKind::UnexpectedEof {
-                return Err(Fault::Unopened(error));
-            }
-        }
+        Err(error) => Err(Fault::Unopened(error)),
     }
-    Ok(())
 }
 
 // Has the node carry out the log again. Returns where its last entry ends.
 fn recover<L: StoredLog>(alloc: Global, log: &L, node: &mut Node) -> Result<LogEnd, Fault>
-    ensures recovered { IfOk result
-        (λ end. HasRecovered CarriesOutEntry node.old node.new (L.written log.now) (Ok end)) }
+    ensures recovered { HasReadLog node.old node.new (L.written log.now) result }
     ensures reads { IfErr result IsReadFault }
 {
-    let reader = log.read().map_err(unopened)?;
+    let reader = match log.read() {
+        Ok(reader) => reader,
+        Err(error) => return Err(unopened(error)),
+    };
     match BufReader::with_capacity(alloc, LOG_BUFFER, reader) {
-        Ok(mut reader) => recover_machine(alloc, &mut reader, node).map_err(Fault::BadLog),
+        Ok(mut reader) => match recover_machine(alloc, &mut reader, node) {
+            Ok(end) => Ok(end),
+            Err(error) => Err(Fault::BadLog(error)),
+        },
         Err(_) => Err(Fault::NoMemory),
     }
 }
