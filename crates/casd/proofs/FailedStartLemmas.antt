@@ -1,15 +1,13 @@
 -- What the log keeps if a start of the program fails.
-use Rattle.std.proofs.Common.{◌≡◌, ◌≤◌, ℕ, List, length, take, None, Some, Result, Ok, Err, IfOk, IfErr}
-use Rattle.std.proofs.Common.{refl, sym, subst, ap, ◌∙◌, inl, inr, arith, length-append}
+use Rattle.std.proofs.Common.{◌≡◌, ℕ, List, take, None, Some, Result, Ok, Err, IfOk, IfErr, refl, sym, subst, inl, inr}
 use Rattle.deeds.specs.Kept.{FileOfNames}
 use Rattle.node.specs.Recovering.{CarriesOutEntry}
 use Rattle.node.specs.Starts.{HasMoreEpochs}
 use Rattle.node.specs.declared.node.Node.{Node}
 use Rattle.node_effects.specs.declared.error.NodeError.{NodeError}
 use Rattle.node_effects.specs.declared.error.NodeError.TheVariants as errors
-use Rattle.node_log.specs.Entry.{first_chain}
 use Rattle.node_store.specs.Disk.{IsFrontOf}
-use Rattle.node_store.specs.Recovery.{HasRecovered, log_bytes}
+use Rattle.node_store.specs.Recovery.{HasRecovered}
 use Rattle.node_store.specs.declared.end.LogEnd.{LogEnd}
 use Rattle.processes.specs.Events.{IsNewNode}
 use Rattle.processes.specs.Programs.{IsHalfRewritten, IsPerhapsRewritten, IsStoppedAt, StartStage}
@@ -19,7 +17,7 @@ use Rattle.casd.specs.declared.fault.Fault.{Fault}
 use Rattle.casd.specs.declared.fault.Fault.TheVariants as faults
 use Rattle.casd.proofs.CutLemmas.{Known}
 use Rattle.casd.proofs.FormLemmas.{HasNoOldForm}
-use Rattle.casd.proofs.StartLemmas.{started}
+use Rattle.casd.proofs.StartLemmas.{started, within_log}
 
 pub read_starts : (fault : Fault) → IsReadFault fault → IsStartFault fault
 read_starts faults.OldForm is = tt
@@ -68,14 +66,6 @@ unrecovered names number (Some disk) kept new after (faults.BadLog error) is_new
 unrecovered names number (Some disk) kept new after (faults.Unopened error) is_new form read = (inl refl, λ old. refl)
 unrecovered names number (Some disk) kept new after faults.NoMemory is_new form read = (refl, tt)
 unrecovered names number (Some disk) kept new after _ is_new form read = absurd read
-
--- what a new node carried out of a log
-
--- the entries have no more bytes than the log
-within_log : (new copy : Node) (disk : List ℕ) (end : LogEnd) → HasRecovered CarriesOutEntry new copy (Some disk) (Ok end) →
-    end.length ≤ length disk
-within_log new copy disk end (entries, (all, folds, long, (rest, begins, ends)), chained) =
-    let lengths = ap length begins ∙ length-append (log_bytes first_chain entries) rest in omega arith
 
 -- the log was not cut, or not for sure
 pub uncut : (T : Type 0) (names : FileOfNames) (number : ℕ) (found kept keeps : Known) (new copy : Node) (end : LogEnd)
@@ -177,7 +167,7 @@ pub begun_starts : (names : FileOfNames) (number : ℕ) (r : Result LogEnd Fault
     (new copy node : Node) (end later : LogEnd) → HasNoOldForm found → IsNewNode names number new →
     HasRecovered CarriesOutEntry new copy found (Ok end) → IsFrontOf end.length found cut →
     IsPerhapsRewritten copy cut end kept later → HasBegun copy node later kept keeps r →
-    IfOk r (λ last. HasStarted names number found node last.chain.state keeps)
+    IfOk r (λ last. HasStarted names number found node last keeps)
 begun_starts names number (Ok last) found cut kept keeps new copy node end later form is_new recovered front renewed begun =
     started names number found new copy node end later last cut kept keeps form is_new recovered front renewed begun
 begun_starts names number (Err fault) found cut kept keeps new copy node end later form is_new recovered front renewed begun = tt

@@ -70,15 +70,15 @@ failed_at names number disk kept keeps _ is = absurd is
 
 -- a start that succeeded, at bytes that a stop may have left
 pub good_start : StartsAreEvents → (processes : Processes) (reached : AreReached processes) (number : ℕ)
-    (found kept : Known) (new : Node) (chain : ℕ) (keeps : Known) → MayBeStarted (processes.at number) found kept →
-    HasStarted reached.names number found new chain keeps →
-    HaveEvents reached.names number processes (λ written process. (written ≡ []) × IsBetweenRounds process new chain keeps)
-good_start law processes reached number None kept new chain keeps ((stopped, (disk, is, left)), before, more) start =
+    (found kept : Known) (new : Node) (end : LogEnd) (keeps : Known) → MayBeStarted (processes.at number) found kept →
+    HasStarted reached.names number found new end keeps →
+    HaveEvents reached.names number processes (λ written process. (written ≡ []) × IsBetweenRounds process new end.chain.state keeps)
+good_start law processes reached number None kept new end keeps ((stopped, (disk, is, left)), before, more) start =
     absurd (cc)
-good_start law processes reached number (Some bytes) kept new chain keeps ((stopped, (disk, is, left)), before, more) start =
+good_start law processes reached number (Some bytes) kept new end keeps ((stopped, (disk, is, left)), before, more) start =
     let same : disk ≡ bytes = cc in
-    law processes reached number bytes new chain keeps stopped
-    (subst (IsLeft (processes.at number).log (processes.at number).synced) same left) start.1
+    law processes reached number bytes new end.chain.state keeps stopped
+    (subst (IsLeft (processes.at number).log (processes.at number).synced) same left) start.1.0
 
 -- a start that failed
 pub bad_start : StoppedStartsAreEvents → (processes : Processes) (reached : AreReached processes) (number : ℕ)
@@ -109,7 +109,7 @@ bad_start law processes reached number found kept keeps fault may failed = go fo
 pub start_leaves : StartsAreEvents → StoppedStartsAreEvents → (old : Node) (found kept : Known) (new : Node) (keeps : Known)
     (result : Result LogEnd Fault) →
     ((names : FileOfNames) (number : ℕ) → IsNewNode names number old →
-    IfOk result (λ end. HasStarted names number found new end.chain.state keeps)) →
+    IfOk result (λ end. HasStarted names number found new end keeps)) →
     ((names : FileOfNames) (number : ℕ) → IsNewNode names number old →
     IfErr result (IsFailedStart names number found kept keeps)) → LeavesStart old found kept new keeps result
 start_leaves law other old found kept new keeps (Ok end) starts fails processes reached number is_new may =
@@ -117,7 +117,7 @@ start_leaves law other old found kept new keeps (Ok end) starts fails processes 
     (λ written process. (written ≡ []) × IsBetweenRounds process new end.chain.state keeps)
     (λ written process. (written ≡ []) × IsLeftOf process keeps × IsAfterStart new keeps (Ok end) process)
     (λ written process at. (at.0, rests_left process new end.chain.state keeps at.1, at.1))
-    (good_start law processes reached number found kept new end.chain.state keeps may (starts reached.names number is_new))
+    (good_start law processes reached number found kept new end keeps may (starts reached.names number is_new))
 start_leaves law other old found kept new keeps (Err fault) starts fails processes reached number is_new may =
     told_otherwise reached.names number processes
     (λ written process. (written ≡ []) × IsStoppedWith process keeps)

@@ -6,6 +6,7 @@ use Rattle.node.specs.declared.node.Node.{Node}
 use Rattle.node_store.specs.Outputs.{AppendsFront}
 use Rattle.node_store.specs.Rounds.{BetweenRounds}
 use Rattle.node_store.specs.Serving.{LoopEvent}
+use Rattle.node_store.specs.declared.end.LogEnd.{LogEnd}
 use Rattle.processes.specs.Events.{IsNewNode, ProcessEvent}
 use Rattle.processes.specs.Interleaved.{GoesOnAmongOthers, HaveEventsAmongOthers, IsLeftBehind, ServesAmongOthers, SessionStep}
 use Rattle.processes.specs.Interleaved.{SessionsAreEvents, StoppedSessionsAreEvents, UnexchangedSessionsAreEvents}
@@ -15,12 +16,14 @@ use Rattle.processes.specs.Processes.{Process, Processes}
 use Rattle.processes.specs.Programs.{StartsAreEvents}
 use Rattle.processes.specs.Runs.{AreReached, processes_run}
 use Rattle.processes.specs.StoppedStarts.{IsStoppedWith, StoppedStartsAreEvents}
-use Rattle.casd.specs.Kills.{HaveSilentEvents, LeavesAfterStart, LeavesRun, LeavesSession, MayBeStarted}
+use Rattle.casd.specs.Kills.{EndsSession, HaveSilentEvents, LeavesAfterStart, LeavesRun, LeavesSession, MayBeStarted}
+use Rattle.casd.specs.Kills.{ReadsAtEnd}
 use Rattle.casd.specs.Program.{HasNotStarted, HasOnlyStarted, HasRun, HasServed, HasStartedAndServed}
 use Rattle.casd.specs.declared.fault.Fault.{Fault}
 use Rattle.casd.specs.declared.fault.Fault.TheVariants as faults
 use Rattle.casd.proofs.CutLemmas.{Known}
 use Rattle.casd.proofs.KillLemmas.{bad_start, good_start, rests_left}
+use Rattle.casd.proofs.SessionLemmas.{at}
 
 -- What is told of the end of a session
 
@@ -69,11 +72,6 @@ left_all held holds keeps node chain written process all rests =
 
 -- The start, and what follows
 
--- the program behind its start, with a log of this length, behind this chain
-abbrev behind : (long chain : ℕ) → Node → (left kept held : Known) → BetweenRounds Node
-behind long chain machine left kept held =
-    record { length = long; chain = chain; machine = machine; left = left; kept = kept; held = held }
-
 -- events that write nothing, and what holds then of all processes
 silent : (names : FileOfNames) (number : ℕ) (processes : Processes) (P : Process → Type 0) (Holds : Processes → Type 0) →
     ((started : Processes) → P (started.at number) → Holds started) →
@@ -89,49 +87,45 @@ silent names number processes P Holds then have = record {
 
 module _ (starts : StartsAreEvents) (stops : StoppedStartsAreEvents) (ends : SessionsAreEvents)
     (breaks : StoppedSessionsAreEvents) (halves : UnexchangedSessionsAreEvents) where
+  -- what the loop did behind a start, whatever it returned
+  served_events : (T : Type 0) (names : FileOfNames) (number : ℕ) (from : Processes) (bytes : List ℕ) (first : BetweenRounds Node)
+      (new : Node) (left keeps holds : Known) (result : Result T Fault) → first.left ≡ Some bytes →
+      IsBetweenRounds (from.at number) first.machine first.chain first.kept →
+      HasServed first new left keeps holds result →
+      HaveEventsAmongOthers names number from first (λ last. EndsSession last new left keeps holds result)
+      (λ last. ReadsAtEnd last.left left result) (IsLeftBehind first.held holds keeps)
+  served_events T names number from bytes first new left keeps holds (Ok done) known rests serves =
+      ended_otherwise names number from first _ _
+      (λ written process. Appends first.held holds written × ((then : ℕ) × IsBetweenRounds process new then keeps))
+      (IsLeftBehind first.held holds keeps)
+      (λ written process ended. left_all first.held holds keeps new ended.1.0 written process ended.0 ended.1.1)
+      (ends names number from first bytes new left keeps holds known rests serves)
+  served_events T names number from bytes first new left keeps holds (Err (faults.Ended error)) known rests serves =
+      breaks names number from first bytes new left keeps holds error known rests serves
+  served_events T names number from bytes first new left keeps holds (Err (faults.NotExchanged error)) known rests serves =
+      ended_otherwise names number from first _ _
+      (λ written process. Appends first.held holds written
+      × ((node : Node) × (then : ℕ) × IsBetweenRounds process node then keeps))
+      (IsLeftBehind first.held holds keeps)
+      (λ written process ended. left_all first.held holds keeps ended.1.0 ended.1.1 written process ended.0 ended.1.2)
+      (halves names number from first bytes left keeps holds known rests serves)
+  served_events T names number from bytes first new left keeps holds (Err _) known rests serves = absurd serves
+
   -- what was served behind a start
-  served : (T : Type 0) (names : FileOfNames) (number : ℕ) (from : Processes) (bytes : List ℕ) (started : Node) (long chain : ℕ)
+  served : (T : Type 0) (names : FileOfNames) (number : ℕ) (from : Processes) (bytes : List ℕ) (started : Node) (end : LogEnd)
       (kept held : Known) (new : Node) (left keeps holds : Known) (result : Result T Fault) →
-      IsBetweenRounds (from.at number) started chain kept →
-      HasServed (behind long chain started (Some bytes) kept held) new left keeps holds result →
+      IsBetweenRounds (from.at number) started end.chain.state kept →
+      HasServed (at end started (Some bytes) kept held) new left keeps holds result →
       LeavesSession names number from (Some bytes) held new keeps holds result
-  served T names number from bytes started long chain kept held new left keeps holds (Ok done) rests serves =
-      let first = behind long chain started (Some bytes) kept held in record {
-        first = first;
-        left_is = refl;
-        held_is = refl;
-        rests = rests;
-        left = left;
-        served = ended_otherwise names number from first _ _
-            (λ written process. Appends held holds written × ((then : ℕ) × IsBetweenRounds process new then keeps))
-            (IsLeftBehind held holds keeps)
-            (λ written process ended. left_all held holds keeps new ended.1.0 written process ended.0 ended.1.1)
-            (ends names number from first bytes new left keeps holds refl rests serves);
-      }
-  served T names number from bytes started long chain kept held new left keeps holds (Err (faults.Ended error)) rests serves =
-      let first = behind long chain started (Some bytes) kept held in record {
-        first = first;
-        left_is = refl;
-        held_is = refl;
-        rests = rests;
-        left = left;
-        served = breaks names number from first bytes new left keeps holds error refl rests serves;
-      }
-  served T names number from bytes started long chain kept held new left keeps holds (Err (faults.NotExchanged error)) rests serves =
-      let first = behind long chain started (Some bytes) kept held in record {
-        first = first;
-        left_is = refl;
-        held_is = refl;
-        rests = rests;
-        left = left;
-        served = ended_otherwise names number from first _ _
-            (λ written process. Appends held holds written
-            × ((node : Node) × (then : ℕ) × IsBetweenRounds process node then keeps))
-            (IsLeftBehind held holds keeps)
-            (λ written process ended. left_all held holds keeps ended.1.0 ended.1.1 written process ended.0 ended.1.2)
-            (halves names number from first bytes left keeps holds refl rests serves);
-      }
-  served T names number from bytes started long chain kept held new left keeps holds (Err _) rests serves = absurd serves
+  served T names number from bytes started end kept held new left keeps holds result rests serves = record {
+    first = at end started (Some bytes) kept held;
+    left_is = refl;
+    held_is = refl;
+    rests = rests;
+    left = left;
+    served = served_events T names number from bytes (at end started (Some bytes) kept held) new left keeps holds result
+        refl rests serves;
+  }
 
   module _ (T : Type 0) (old : Node) (found before : Known) (bytes : List ℕ) (held : Known) (new : Node) (keeps holds : Known)
       (processes : Processes) (reached : AreReached processes) (number : ℕ)
@@ -154,19 +148,19 @@ module _ (starts : StartsAreEvents) (stops : StoppedStartsAreEvents) (ends : Ses
         ((from : Processes) → LeavesSession reached.names number from (Some bytes) held new keeps holds result →
         After result from) → HasStartedAndServed reached.names number found (Some bytes) held new keeps holds result →
         HaveSilentEvents reached.names number processes (After result)
-    started_and_served result then (started, long, chain, kept, left, start, serves) =
-        silent reached.names number processes (λ process. IsBetweenRounds process started chain kept) (After result)
+    started_and_served result then (started, end, kept, left, start, serves) =
+        silent reached.names number processes (λ process. IsBetweenRounds process started end.chain.state kept) (After result)
         (λ from rests. then from
-        (served T reached.names number from bytes started long chain kept held new left keeps holds result rests serves))
-        (good_start starts processes reached number found before started chain kept may start)
+        (served T reached.names number from bytes started end kept held new left keeps holds result rests serves))
+        (good_start starts processes reached number found before started end kept may start)
 
     -- the start succeeded, and then nothing was done
     only_started : HasOnlyStarted reached.names number found held new keeps holds →
         HaveSilentEvents reached.names number processes (After (Err faults.NoMemory))
-    only_started (chain, start, same) =
-        silent reached.names number processes (λ process. IsBetweenRounds process new chain keeps) (After (Err faults.NoMemory))
-        (λ from rests. (same, rests_left (from.at number) new chain keeps rests))
-        (good_start starts processes reached number found before new chain keeps may start)
+    only_started (end, start, same) =
+        silent reached.names number processes (λ process. IsBetweenRounds process new end.chain.state keeps)
+        (After (Err faults.NoMemory)) (λ from rests. (same, rests_left (from.at number) new end.chain.state keeps rests))
+        (good_start starts processes reached number found before new end keeps may start)
 
     go : (result : Result T Fault) → HasRun reached.names number found before (Some bytes) held new keeps holds result →
         HaveSilentEvents reached.names number processes (After result)

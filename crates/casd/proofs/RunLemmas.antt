@@ -21,20 +21,20 @@ no_run T names number found kept input held new keeps faults.NoMemory failed = i
 no_run T names number found kept input held new keeps _ failed = (failed, refl)
 
 -- a start, and no memory behind it
-pub only_started : (T : Type 0) (names : FileOfNames) (number : ℕ) (found kept input held : Known) (new : Node) (chain : ℕ)
-    (keeps : Known) → HasStarted names number found new chain keeps →
+pub only_started : (T : Type 0) (names : FileOfNames) (number : ℕ) (found kept input held : Known) (new : Node) (end : LogEnd)
+    (keeps : Known) → HasStarted names number found new end keeps →
     HasRun {T = T} names number found kept input held new keeps held (Err faults.NoMemory)
-only_started T names number found kept input held new chain keeps start = inl (chain, start, refl)
+only_started T names number found kept input held new end keeps start = inl (end, start, refl)
 
 -- a start, and a session behind it
 pub ran : (T : Type 0) (names : FileOfNames) (number : ℕ) (found before input held : Known) (started new : Node) (end : LogEnd)
-    (kept left keeps holds : Known) (r : Result T Fault) → HasStarted names number found started end.chain.state kept →
+    (kept left keeps holds : Known) (r : Result T Fault) → HasStarted names number found started end kept →
     HasServed (at end started input kept held) new left keeps holds r →
     HasRun names number found before input held new keeps holds r
 ran T names number found before input held started new end kept left keeps holds (Ok done) start served =
-    (started, end.length, end.chain.state, kept, left, start, served)
+    (started, end, kept, left, start, served)
 ran T names number found before input held started new end kept left keeps holds (Err (faults.Ended error)) start served =
-    (started, end.length, end.chain.state, kept, left, start, served)
+    (started, end, kept, left, start, served)
 ran T names number found before input held started new end kept left keeps holds (Err (faults.NotExchanged error)) start
-    served = inl (started, end.length, end.chain.state, kept, left, start, served)
+    served = inl (started, end, kept, left, start, served)
 ran T names number found before input held started new end kept left keeps holds (Err _) start served = absurd served

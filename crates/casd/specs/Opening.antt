@@ -1,19 +1,20 @@
 -- The contracts that docs/trusted.md lists do not depend on this file; other contracts and proofs do.
 -- How the program starts its node, and how it writes its log anew.
-use Rattle.std.specs.Prelude.{◌≡◌, ◌≤◌, ◌⊎◌, ℕ, List, length, take, Option, Some, None, Result, Ok, Err, ⊤}
+use Rattle.std.specs.Prelude.{◌≡◌, ◌≤◌, ◌⊎◌, ◌+◌, ◌-◌, ◌^◌, ℕ, List, length, min, take, Option, Some, None}
+use Rattle.std.specs.Prelude.{Result, Ok, Err, ⊤}
 use Rattle.std.specs.List.{AllByRecursion, FoldsTo}
 use Rattle.recoveries.specs.Records.{IsStarted}
 use Rattle.deeds.specs.Kept.{FileOfNames}
 use Rattle.node_keeper.specs.Keeping.{kept_of}
 use Rattle.node_strings.specs.Strings.{Strings}
 use Rattle.node.specs.Recovering.{CarriesOutEntry}
-use Rattle.node.specs.Starts.{CanBeNamed, IsNotStarted}
+use Rattle.node.specs.Starts.{CanBeNamed, IsNotStarted, start_entries}
 use Rattle.node.specs.declared.node.Node.{Node}
 use Rattle.node_effects.specs.declared.error.NodeError.TheVariants as errors
 use Rattle.node_log.specs.Entry.{IsOldHead}
 use Rattle.node_log.specs.Reading.{HadLeft}
 use Rattle.node_store.specs.Disk.{IsFrontOf}
-use Rattle.node_store.specs.Recovery.{HasRecovered, IsWholeEntry}
+use Rattle.node_store.specs.Recovery.{HasRecovered, IsWholeEntry, log_bytes}
 use Rattle.node_store.specs.declared.end.LogEnd.{LogEnd}
 use Rattle.node_store.specs.declared.error.StoreError.{StoreError}
 use Rattle.processes.specs.Events.{IsNewNode}
@@ -64,10 +65,12 @@ HasWrittenAnew node old end new (Ok then) = IsPerhapsRewritten node old end new 
 HasWrittenAnew node old end new (Err (faults.NotExchanged error)) = IsHalfRewritten node old new
 HasWrittenAnew node old end new (Err _) = ⊥
 
--- the node was started, and the log has the entries of the start up to the end that is the result; or the node was not
--- started, for this reason; or it was, and the log perhaps has a front of the entries
+-- the node was started, and the log has the entries of the start up to the end that is the result, which counts their
+-- bytes up to 2^64 - 1; or the node was not started, for this reason; or it was, and the log perhaps has a front of the
+-- entries
 abbrev pub HasBegun : (old new : Node) → LogEnd → (kept keeps : Option (List ℕ)) → Result LogEnd Fault → Type 0
 HasBegun old new end kept keeps (Ok then) = IsBegun old new end.chain.state then.chain.state kept keeps
+    × (then.length ≡ min (end.length + length (log_bytes end.chain.state (start_entries old))) (2 ^ 64 - 1))
 HasBegun old new end kept keeps (Err (faults.Stopped error)) =
     IsNotStarted old.keeper.digest old.keeper.ids error × (keeps ≡ kept)
 HasBegun old new end kept keeps (Err (faults.LogLost error)) = IsPartlyBegun old new end.chain.state kept keeps
@@ -88,12 +91,17 @@ pub record IsUnknownStart (names : FileOfNames) (number : ℕ) (node : Node) : T
   pub started : IsStarted (kept_of copy.keeper) (kept_of node.keeper)
   pub desk : node.desk ≡ copy.desk
 
--- the program started with these bytes of a log, if they are known, and the log has no older form
-abbrev pub HasStarted : FileOfNames → (number : ℕ) → (found : Option (List ℕ)) → Node → (chain : ℕ)
+-- this is the number of the bytes, which are known; or 2^64 - 1, if there are more
+abbrev pub IsCountOf : Option (List ℕ) → (count : ℕ) → Type 0
+IsCountOf known count = (bytes : List ℕ) × (known ≡ Some bytes) × (count ≡ min (length bytes) (2 ^ 64 - 1))
+
+-- the program started with these bytes of a log, if they are known, which has no older form; the log then keeps those
+-- bytes up to this end
+abbrev pub HasStarted : FileOfNames → (number : ℕ) → (found : Option (List ℕ)) → Node → LogEnd
     → (keeps : Option (List ℕ)) → Type 0
-HasStarted names number (Some disk) node chain keeps =
-    (HasOldForm disk → ⊥) × IsStart names number disk node chain keeps
-HasStarted names number None node chain keeps = IsUnknownStart names number node
+HasStarted names number (Some disk) node end keeps =
+    (HasOldForm disk → ⊥) × IsStart names number disk node end.chain.state keeps × IsCountOf keeps end.length
+HasStarted names number None node end keeps = IsUnknownStart names number node
 
 -- What the log keeps if a start fails with this fault, in which these bytes were found, and which kept those. If it was
 -- not carried out again, it was not changed. If the node had no more epoch, it was cut. It may be that it was not cut,
@@ -135,8 +143,8 @@ IsCauseIn names number disk kept keeps (faults.BadLog error) =
     (HasOldForm disk → ⊥) × IsBadLog names number disk error
 IsCauseIn names number disk kept keeps _ = HasOldForm disk → ⊥
 
--- a start failed with this fault, which has a cause, and the log keeps what the fault says, if the bytes that were found
--- in it are known
+-- a start failed with this fault, which has a cause, and the log keeps what the fault says, if the bytes that were
+-- found in it are known
 abbrev pub IsFailedStart : FileOfNames → (number : ℕ) → (found kept keeps : Option (List ℕ)) → Fault → Type 0
 IsFailedStart names number (Some disk) kept keeps fault =
     LeavesLog names number disk kept keeps fault × IsCauseIn names number disk kept keeps fault

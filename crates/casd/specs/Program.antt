@@ -38,11 +38,11 @@ HasServedOnce first new left keeps holds (Err fault) = HasServed {T = Unit {0}} 
 abbrev pub HasStartedAndServed : {T : Type 0} → FileOfNames → (number : ℕ) → (found : Option (List ℕ))
     → (input held : Option (List ℕ)) → Node → (keeps holds : Option (List ℕ)) → Result T Fault → Type 0
 HasStartedAndServed names number found input held new keeps holds result =
-    (started : Node) × (length chain : ℕ) × (kept left : Option (List ℕ))
-    × HasStarted names number found started chain kept
+    (started : Node) × (end : LogEnd) × (kept left : Option (List ℕ))
+    × HasStarted names number found started end kept
     × HasServed (record {
-      length = length;
-      chain = chain;
+      length = end.length;
+      chain = end.chain.state;
       machine = started;
       left = input;
       kept = kept;
@@ -54,7 +54,7 @@ HasStartedAndServed names number found input held new keeps holds result =
 abbrev pub HasOnlyStarted : FileOfNames → (number : ℕ) → (found held : Option (List ℕ)) → Node
     → (keeps holds : Option (List ℕ)) → Type 0
 HasOnlyStarted names number found held new keeps holds =
-    (chain : ℕ) × HasStarted names number found new chain keeps × (holds ≡ held)
+    (end : LogEnd) × HasStarted names number found new end keeps × (holds ≡ held)
 
 -- the program could not start, for this fault, and wrote nothing to its output
 abbrev pub HasNotStarted : FileOfNames → (number : ℕ) → (found kept held keeps holds : Option (List ℕ)) → Fault → Type 0

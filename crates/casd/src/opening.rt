@@ -41,8 +41,7 @@ pub fn start_with<L: StoredLog, E: Write>(
 ) -> Result<LogEnd, Fault>
     requires { IsTrue (L.sound log.old) }
     ensures starts { (names : FileOfNames) (number : ℕ) → IsNewNode names number node.old
-        → IfOk result (λ end.
-        HasStarted names number (L.written log.old) node.new end.chain.state (L.kept log.new)) }
+        → IfOk result (λ end. HasStarted names number (L.written log.old) node.new end (L.kept log.new)) }
     ensures fails { (names : FileOfNames) (number : ℕ) → IsNewNode names number node.old
         → IfErr result (IsFailedStart names number (L.written log.old) (L.kept log.old) (L.kept log.new)) }
     ensures refused { IfErr result (λ fault. IsRefusal fault
