@@ -62,7 +62,7 @@ unrecovered names number None kept new after (faults.Unopened error) is_new form
 unrecovered names number None kept new after faults.NoMemory is_new form read = tt
 unrecovered names number None kept new after _ is_new form read = absurd read
 unrecovered names number (Some disk) kept new after (faults.BadLog error) is_new form read =
-    (refl, form, new, after, is_new, read)
+    (refl, (form, (new, after, is_new, read)))
 unrecovered names number (Some disk) kept new after (faults.Unopened error) is_new form read = (inl refl, λ old. refl)
 unrecovered names number (Some disk) kept new after faults.NoMemory is_new form read = (refl, tt)
 unrecovered names number (Some disk) kept new after _ is_new form read = absurd read

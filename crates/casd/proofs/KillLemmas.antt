@@ -78,7 +78,7 @@ good_start law processes reached number None kept new end keeps ((stopped, (disk
 good_start law processes reached number (Some bytes) kept new end keeps ((stopped, (disk, is, left)), before, more) start =
     let same : disk ≡ bytes = cc in
     law processes reached number bytes new end.chain.state keeps stopped
-    (subst (IsLeft (processes.at number).log (processes.at number).synced) same left) start.1.0
+    (subst (IsLeft (processes.at number).log (processes.at number).synced) same left) start.1
 
 -- a start that failed
 pub bad_start : StoppedStartsAreEvents → (processes : Processes) (reached : AreReached processes) (number : ℕ)

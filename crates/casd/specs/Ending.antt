@@ -1,7 +1,7 @@
 -- The contracts that docs/trusted.md lists do not depend on this file; other contracts and proofs do.
 -- What a run of the program does, by the words after its name, and with which status it ends.
 use Rattle.std.specs.Prelude.{◌≡◌, ◌⊎◌, ◌++◌, ℕ, List, [], ◌∷◌, codes, Option, Result, Ok, Err}
-use Rattle.std.specs.Io.KnownBytes.{Appends}
+use Rattle.std.specs.Io.KnownBytes.{Appends, Keeps}
 use Rattle.cluster_file.specs.File.{FileContents}
 use Rattle.node.specs.declared.node.Node.{Node}
 use Rattle.node_keeper.specs.Keeping.{names_of}
@@ -17,16 +17,19 @@ use Rattle.casd.specs.declared.program.TheConstants.{HELP, VERSION}
 abbrev pub RunResult : Type 0
 RunResult = Result (Unit {0}) Fault
 
--- the cluster file was not read, for this fault, and nothing was written to the output
-abbrev pub HasNoFile : (given : Option (List ℕ)) → (number : ℕ) → (held holds : Option (List ℕ)) → RunResult → Type 0
-HasNoFile given number held holds result =
-    (fault : Fault) × (result ≡ Err fault) × HasReadFile given number (Err fault) × (holds ≡ held)
+-- the cluster file was not read, for this fault; nothing was written to the output, and the log keeps what it kept
+abbrev pub HasNoFile : (given : Option (List ℕ)) → (number : ℕ) → (kept held keeps holds : Option (List ℕ))
+    → RunResult → Type 0
+HasNoFile given number kept held keeps holds result =
+    (fault : Fault) × (result ≡ Err fault) × HasReadFile given number (Err fault) × (keeps ≡ kept) × (holds ≡ held)
 
--- the cluster file was read, the log was not opened, for this fault, and nothing was written to the output
-abbrev pub HasNoLog : (given : Option (List ℕ)) → (number : ℕ) → (held holds : Option (List ℕ)) → RunResult → Type 0
-HasNoLog given number held holds result =
+-- the cluster file was read, the log was not opened, for this fault; nothing was written to the output, and the log
+-- keeps what it kept
+abbrev pub HasNoLog : (given : Option (List ℕ)) → (number : ℕ) → (kept held keeps holds : Option (List ℕ))
+    → RunResult → Type 0
+HasNoLog given number kept held keeps holds result =
     (fault : Fault) × (result ≡ Err fault) × (file : FileContents) × HasReadFile given number (Ok file)
-    × IsOpenFault fault × (holds ≡ held)
+    × IsOpenFault fault × (keeps ≡ kept) × (holds ≡ held)
 
 -- the program ran a node of this number with this cluster file, and with a log in which these bytes were found
 abbrev pub HasRunNode : FileContents → (number : ℕ) → (found kept input held keeps holds : Option (List ℕ)) →
@@ -34,28 +37,30 @@ abbrev pub HasRunNode : FileContents → (number : ℕ) → (found kept input he
 HasRunNode file number found kept input held keeps holds result =
     (node : Node) × HasRun (names_of file) number found kept input held node keeps holds result
 
--- the program was to run a node of this number, with the cluster file in these bytes, and with a log in which those
--- were found
-abbrev pub RunsNode : (number : ℕ) → (given found : Option (List ℕ)) → (input held holds : Option (List ℕ)) →
-    RunResult → Type 0
-RunsNode number given found input held holds result =
-    HasNoFile given number held holds result ⊎ HasNoLog given number held holds result
-    ⊎ ((file : FileContents) × (kept keeps : Option (List ℕ)) × HasReadFile given number (Ok file)
-    × HasRunNode file number found kept input held keeps holds result)
+-- The program was to run a node of this number, with the cluster file in these bytes, and with a log in which those
+-- were found. What that log kept when it was closed, the folder keeps in the end, if it is known what the folder keeps.
+-- What the log kept when it was opened is not known.
+abbrev pub RunsNode : (number : ℕ) → (given found kept input held keeps holds : Option (List ℕ)) → RunResult → Type 0
+RunsNode number given found kept input held keeps holds result =
+    HasNoFile given number kept held keeps holds result ⊎ HasNoLog given number kept held keeps holds result
+    ⊎ ((file : FileContents) × (opened closed : Option (List ℕ)) × HasReadFile given number (Ok file)
+    × HasRunNode file number found opened input held closed holds result × Keeps keeps closed)
 
 -- the text and a line feed were written, and the status is 0; or they were not, or only in part, and the status is 1
 abbrev pub Prints : (text : List ℕ) → (held holds : Option (List ℕ)) → (status : ℕ) → Type 0
 Prints text held holds status = ((status ≡ 0) × Appends held holds (text ++ 10 ∷ [])) ⊎ (status ≡ 1)
 
 -- The words ask for a text, which is printed; or for nothing, and the status says why; or for a node of a number, which
--- the program was to run, and the status is that of its result. `given` says which bytes are in the file of a name, and
--- `found` which are in the log of a folder, if they are known.
-abbrev pub EndsBy : (given found : List ℕ → Option (List ℕ)) → (input : Option (List ℕ)) → List Word →
-    (held holds : Option (List ℕ)) → (status : ℕ) → Type 0
-EndsBy given found input words held holds status =
-    ((words ≡ codes "--help" ∷ []) × Prints HELP.now held holds status)
-    ⊎ ((words ≡ codes "--version" ∷ []) × Prints VERSION.now held holds status)
-    ⊎ ((fault : Fault) × IsFaultOf words fault × (status ≡ exit_status_of fault) × (holds ≡ held))
+-- the program was to run, and the status is that of its result. `given` says which bytes are in the file of a name,
+-- `found` which are in the log of a folder, and `kept` and `keeps` which the log of a folder keeps before and in the
+-- end, if they are known.
+abbrev pub EndsBy : (given found kept : List ℕ → Option (List ℕ)) → (input : Option (List ℕ)) → List Word →
+    (held : Option (List ℕ)) → (keeps : List ℕ → Option (List ℕ)) → (holds : Option (List ℕ)) → (status : ℕ) → Type 0
+EndsBy given found kept input words held keeps holds status =
+    ((words ≡ codes "--help" ∷ []) × (keeps ≡ kept) × Prints HELP.now held holds status)
+    ⊎ ((words ≡ codes "--version" ∷ []) × (keeps ≡ kept) × Prints VERSION.now held holds status)
+    ⊎ ((fault : Fault) × IsFaultOf words fault × (status ≡ exit_status_of fault) × (keeps ≡ kept) × (holds ≡ held))
     ⊎ ((file word folder : Word) × (number : ℕ) × (result : RunResult) × (words ≡ file ∷ word ∷ folder ∷ [])
-    × IsNodeWord word number × RunsNode number (given file) (found folder) input held holds result
+    × IsNodeWord word number
+    × RunsNode number (given file) (found folder) (kept folder) input held (keeps folder) holds result
     × (status ≡ status_of result))

@@ -7,7 +7,7 @@ ghost use Rattle.casd.specs.Files.{HasReadFile};
 use crate::fault::Fault;
 use crate::folder::unopened;
 use cluster_file::{ClusterFile, read_cluster_file};
-use node_store::{DiskFolder, FolderLog};
+use node_store::{DiskFolder, FolderLog, Log};
 use std::alloc::Global;
 use std::io;
 
@@ -22,6 +22,10 @@ pub trait GivenFiles {
     // The bytes of the file `log` in a folder, where they are known. If there is no such file, these are none.
     ghost found: { Self → (folder : List ℕ) → Option (List ℕ) } = { λ _ folder. None };
 
+    // The bytes that the log of a folder keeps after the machine stops, where they are known: those that it kept when
+    // it was closed.
+    ghost kept: { Self → (folder : List ℕ) → Option (List ℕ) } = { λ _ folder. None };
+
     /// A folder that is locked.
     type Folder: DiskFolder + Drop;
 
@@ -34,6 +38,10 @@ pub trait GivenFiles {
         ensures found { IfOk result (λ taken. Self.Folder.found taken ≡ found self.now folder.now) }
         ensures sound { IfOk result (λ taken. IsTrue (Self.Folder.sound taken)) }
         ensures fault { IfErr result IsOpenFault };
+
+    /// Closes the log of a folder, and unlocks the folder. What this log keeps then, the folder keeps.
+    fn close_log<L: Log + Drop>(&mut self, folder: &str, log: L)
+        ensures { Keeps (kept self.new folder.now) (L.kept log) };
 }
 
 /// Reads the cluster file of this name. Fails with `NoNode` if it has no node of this number.

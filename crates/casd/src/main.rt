@@ -34,7 +34,7 @@ fn run(rt: &HostRuntime) -> Result<u8, Fault> {
     let words = words_of(rt).map_err(Fault::from_arguments)?;
     Ok(run_words(
         rt.alloc(),
-        &SystemFiles::new(rt),
+        &mut SystemFiles::new(rt),
         words.as_slice(),
         rt.stdin(),
         &mut rt.stdout(),

@@ -40,14 +40,14 @@ const VERSION: &str = "casd 1";
 /// otherwise that of the fault, whose text goes to `err`.
 pub fn run_words<G: GivenFiles, I: Read + Drop, O: Write, E: Write>(
     alloc: Global,
-    files: &G,
+    files: &mut G,
     words: &[String],
     input: I,
     output: &mut O,
     err: &mut E,
 ) -> u8
-    ensures { EndsBy (G.given files.now) (G.found files.now) (I.remaining input) (map string_bytes words.now)
-        (O.contents output.old) (O.contents output.new) result }
+    ensures { EndsBy (G.given files.old) (G.found files.old) (G.kept files.old) (I.remaining input)
+        (map string_bytes words.now) (O.contents output.old) (G.kept files.new) (O.contents output.new) result }
 {
     match read_request(words) {
         Ok(request) => carry_out(alloc, files, request, input, output, err),
@@ -58,15 +58,15 @@ pub fn run_words<G: GivenFiles, I: Read + Drop, O: Write, E: Write>(
 // Carries out what the words ask for, and returns the exit status.
 fn carry_out<G: GivenFiles, I: Read + Drop, O: Write, E: Write>(
     alloc: Global,
-    files: &G,
+    files: &mut G,
     request: Request<'_>,
     input: I,
     output: &mut O,
     err: &mut E,
 ) -> u8
     ensures { (words : List Word) → Spells words request.entry
-        → EndsBy (G.given files.now) (G.found files.now) (I.remaining input) words
-        (O.contents output.old) (O.contents output.new) result }
+        → EndsBy (G.given files.old) (G.found files.old) (G.kept files.old) (I.remaining input) words
+        (O.contents output.old) (G.kept files.new) (O.contents output.new) result }
 {
     match request {
         Request::Help => print_line(output, err, HELP),
@@ -105,7 +105,7 @@ fn end<E: Write>(done: Result<(), Fault>, err: &mut E) -> u8
 // The node of this number runs until its input ends.
 fn run_node<G: GivenFiles, I: Read + Drop, O: Write, E: Write>(
     alloc: Global,
-    files: &G,
+    files: &mut G,
     file: &str,
     number: u8,
     folder: &str,
@@ -113,18 +113,20 @@ fn run_node<G: GivenFiles, I: Read + Drop, O: Write, E: Write>(
     output: &mut O,
     err: &mut E,
 ) -> Result<(), Fault>
-    ensures { RunsNode number (G.given files.now file.now) (G.found files.now folder.now) (I.remaining input)
-        (O.contents output.old) (O.contents output.new) result }
+    ensures { RunsNode number (G.given files.old file.now) (G.found files.old folder.now) (G.kept files.old folder.now)
+        (I.remaining input) (O.contents output.old) (G.kept files.new folder.now) (O.contents output.new) result }
 {
-    let file = match read_file(alloc, files, file, number) {
+    let file = match read_file(alloc, &*files, file, number) {
         Ok(file) => file,
         Err(fault) => return Err(fault),
     };
-    let mut log = match open_log(files, folder) {
+    let mut log = match open_log(&*files, folder) {
         Ok(log) => log,
         Err(fault) => return Err(fault),
     };
-    run_log(alloc, file, number, &mut log, input, output, err)
+    let done = run_log(alloc, file, number, &mut log, input, output, err);
+    files.close_log(folder, log);
+    done
 }
 
 // A new node of this number runs with this log until its input ends.

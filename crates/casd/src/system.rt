@@ -1,8 +1,12 @@
 //! The files of the operating system.
+ghost use Rattle.std.specs.Prelude.{None};
+ghost use Rattle.std.specs.Io.KnownBytes.{Keeps};
+
 use crate::fault::Fault;
 use crate::files::GivenFiles;
 use crate::folder::NodeFolder;
 use crate::lock::LockFile;
+use node_store::Log;
 use std::rt::Files;
 use std::{fs, io};
 
@@ -36,5 +40,11 @@ where
 
     fn lock(&self, folder: &str) -> Result<NodeFolder<'a, R>, Fault> {
         NodeFolder::open(self.rt, folder)
+    }
+
+    fn close_log<L: Log + Drop>(&mut self, _folder: &str, log: L)
+        ensures { Keeps None (L.kept log) }
+    {
+        let _ = log;
     }
 }
