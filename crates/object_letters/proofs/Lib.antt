@@ -1,4 +1,5 @@
 pub mod ClosedCopyLemmas
+pub mod HeardPositionLemmas
 pub mod HearingLemmas
 pub mod LateDroppingLemmas
 pub mod LeadableLemmas

@@ -30,7 +30,7 @@ use Rattle.local_object.specs.May.{MayHappenHere}
 use Rattle.local_object.specs.Resent.{IsResent, current_letters}
 use Rattle.object_letters.specs.Rebuildable.{HasLawfulLayouts, IsFit, IsLawfulIfThere, IsOwnPlace, IsRebuildable}
 use Rattle.object_letters.proofs.PlaceLetterLemmas.{at_place}
-use Rattle.object_letters.proofs.RebuildableLemmas.{heard_rebuildable, letter_rebuildable}
+use Rattle.object_letters.proofs.HeardPositionLemmas.{heard_rebuildable, letter_rebuildable}
 
 -- Layouts
 

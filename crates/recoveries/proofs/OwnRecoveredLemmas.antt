@@ -15,7 +15,7 @@ use Rattle.local_object.specs.Going.{next_if}
 use Rattle.layout.specs.Layout.{Layout}
 use Rattle.local_object.specs.Local.{LocalObject, Place, with_heard}
 use Rattle.local_object.proofs.HeardPlaceLemmas.{layout_stays}
-use Rattle.object_letters.proofs.RebuildableLemmas.{heard_rebuildable}
+use Rattle.object_letters.proofs.HeardPositionLemmas.{heard_rebuildable}
 use Rattle.local_object.specs.Taking.{AreSettling, IsReplyOutcome, call_events, can_begin, lead_events, machine_of, repeats}
 use Rattle.local_object.specs.Taking.{step_events}
 use Rattle.open_calls.specs.OpenCalls.{NodeCall, open_call}
