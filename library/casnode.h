@@ -134,8 +134,8 @@ uint8_t casnode_open(struct casnode *node, const uint8_t *text, size_t text_leng
 /* Handles the frames with which `input` begins, one after another: at most 1,024, and fewer once a mebibyte of bytes
    waits to be sent or written. It sets `used` to the number of bytes that they have. The program hands over the other
    bytes again, followed by those that come next. If `used` is 0, the input has no whole frame at its front.
-   `other` is the number of a node from which a message came and which has another cluster file, so that neither takes
-   the other's messages, or else CASNODE_NO_OTHER. An operator should know; each is told once.
+   `other` is the number of a node from which a message came in an earlier call and which has another cluster file, so
+   that neither takes the other's messages, or else CASNODE_NO_OTHER. An operator should know; each is told once.
    What is to be done for the frames are the tasks of the node then, in place of those of before, which have been
    carried out.
    Answers CASNODE_NOT_OPEN; CASNODE_STOPPED; CASNODE_NO_FRAME, CASNODE_NO_MORE_IDS, CASNODE_FAILED or
@@ -165,7 +165,8 @@ uint8_t casnode_should_rewrite(struct casnode *node, uint8_t *worth);
 
 /* Writes the log anew, once all tasks of the node are carried out. If this can be done now, it sets `given` to 1, and
    the node's task then is CASNODE_REPLACE: the bytes are a shorter log, which gives back what the node keeps.
-   Otherwise, because a move is open at this node, it sets `given` to 0, and nothing changes.
+   Otherwise, because a move is open at this node, it sets `given` to 0, and nothing changes: the node still has the
+   tasks of before, which are not to be carried out again.
    If the second file cannot be written or renamed, the program removes it, calls casnode_keep_log, and goes on with the
    old log. If it was renamed, but the folder was not synced, the program closes the node.
    Answers CASNODE_NOT_OPEN; else CASNODE_STOPPED; else CASNODE_NO_MEMORY or CASNODE_FAILED. Then nothing changes. */
