@@ -2,11 +2,16 @@
 use Rattle.std.proofs.Common.{◌≡◌, ◌<◌, ◌+◌, ℕ, List, [], ◌∷◌, ◌++◌, length, get_or, take}
 use Rattle.std.proofs.Common.{refl, sym, subst, ap, ◌∙◌, append_assoc}
 use Rattle.std.proofs.lemmas.List.{take_more}
+use Rattle.node_effects.proofs.GrowthLemmas.{entries_append}
+use Rattle.node_effects.specs.Work.{entries_in}
+use Rattle.node_effects.specs.declared.output.Output.{Output}
+use Rattle.node_effects.specs.declared.output.Output.TheVariants as output
 use Rattle.node_log.specs.Entry.{chain_behind}
 use Rattle.node_store.specs.Recovery.{log_bytes}
 use Rattle.node_store.proofs.LogBytesLemmas.{bytes_then, chain_then}
 use Rattle.node_strings.specs.Strings.{Strings}
-use Rattle.example_runs.specs.Members.{HasGrown}
+use Rattle.processes.specs.Processes.{SentFrame}
+use Rattle.example_runs.specs.Members.{HasGrown, frames_from}
 use Rattle.example_runs.specs.declared.members.Member.{Member}
 
 pub grown_then : (first old new : Member) (xs ys : List Strings) → HasGrown xs first old → HasGrown ys old new →
@@ -29,3 +34,23 @@ grown_more first old new xs i d x less is grew more =
     subst (λ (es : List Strings). HasGrown es first new)
     (ap (λ (y : Strings). take i xs ++ y ∷ []) is ∙ sym (take_more xs i d less))
     (grown_then first old new (take i xs) (x ∷ []) grew more)
+
+frames_append : (sender : ℕ) (xs ys : List Output) →
+    frames_from sender (xs ++ ys) ≡ frames_from sender xs ++ frames_from sender ys
+frames_append sender [] ys = refl
+frames_append sender (output.Log entry ∷ xs) ys = frames_append sender xs ys
+frames_append sender (output.Send frame ∷ xs) ys =
+    ap (λ (ss : List SentFrame). record { sender = sender; frame = frame } ∷ ss) (frames_append sender xs ys)
+
+-- more outputs were carried out
+pub carried_more : (sender : ℕ) (first old new : Member) (sent had has : List SentFrame) (xs ys : List Output) →
+    HasGrown (entries_in xs) first old × (had ≡ sent ++ frames_from sender xs) → HasGrown (entries_in ys) old new →
+    has ≡ had ++ frames_from sender ys →
+    HasGrown (entries_in (xs ++ ys)) first new × (has ≡ sent ++ frames_from sender (xs ++ ys))
+carried_more sender first old new sent had has xs ys (grew, wrote) more writes = (
+  subst (λ (es : List Strings). HasGrown es first new) (sym (entries_append xs ys))
+      (grown_then first old new (entries_in xs) (entries_in ys) grew more),
+  writes ∙ ap (λ (ss : List SentFrame). ss ++ frames_from sender ys) wrote
+      ∙ append_assoc sent (frames_from sender xs) (frames_from sender ys)
+      ∙ ap (λ (ss : List SentFrame). sent ++ ss) (sym (frames_append sender xs ys)),
+)

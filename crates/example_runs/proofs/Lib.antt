@@ -1,5 +1,9 @@
 mod GoingLemmas
 mod GrowthLemmas
+mod HandledLemmas
+mod HandledStepLemmas
 mod MemberLemmas
+mod NoticeLemmas
 mod ReachedLemmas
 mod StepLemmas
+mod ValueLemmas

@@ -26,7 +26,7 @@ use Rattle.example_runs.proofs.ReachedLemmas.{led_on}
 ok_is : (file other : FileContents) (read : Result FileContents FileFault) → read ≡ Ok file → read ≡ Ok other → file ≡ other
 ok_is file other read one two = let same = sym one ∙ two in cc
 
-started_leads : LeftLogIsRead → (number : ℕ) (old new : ProcessRun) → IsStartedIn number old new → LeadsOn old new
+pub started_leads : LeftLogIsRead → (number : ℕ) (old new : ProcessRun) → IsStartedIn number old new → LeadsOn old new
 started_leads law number old new is = (
   is.changed.text,
   λ processes by are.
@@ -37,7 +37,7 @@ started_leads law number old new is = (
       (is.sent ∙ sym (append-nil old.sent.items)) (ap all_seen is.seen ∙ sym (append-nil (all_seen old.seen.items))),
 )
 
-stopped_leads : (number : ℕ) (old new : ProcessRun) → IsStoppedIn number old new → LeadsOn old new
+pub stopped_leads : (number : ℕ) (old new : ProcessRun) → IsStoppedIn number old new → LeadsOn old new
 stopped_leads number old new is = (
   is.changed.text,
   λ processes by are.
@@ -52,7 +52,7 @@ stopped_leads number old new is = (
 )
 
 -- a run that is led on from a reached one is reached
-reached_on : (old new : ProcessRun) → LeadsOn old new → IsReached old → IsReached new
+pub reached_on : (old new : ProcessRun) → LeadsOn old new → IsReached old → IsReached new
 reached_on old new (text, leads) is =
     let by = is.reached in
     let more = leads is.processes by is.are in
@@ -104,24 +104,11 @@ module _ (number : ℕ) (old : ProcessRun) (member : Member) (at : slice_get old
       seen = refl;
     }
 
-    pub start_leads : LeftLogIsRead → HasStarted file number member after → LeadsOn old (changed_run old number after)
-    start_leads law is = started_leads law number old (changed_run old number after) (started_in is)
-
-    pub start_reached : LeftLogIsRead → HasStarted file number member after → IsReached old →
-        IsReached (changed_run old number after)
-    start_reached law is = reached_on old (changed_run old number after) (start_leads law is)
-
   abbrev pub stopped : ProcessRun
   stopped = changed_run old number (record member { node = None })
 
   pub stopped_in : IsStoppedIn number old stopped
   stopped_in = record { member = member; changed = record { at = at; members = refl; text = refl }; sent = refl; seen = refl }
-
-  pub stop_leads : LeadsOn old stopped
-  stop_leads = stopped_leads number old stopped stopped_in
-
-  pub stop_reached : IsReached old → IsReached stopped
-  stop_reached = reached_on old stopped stop_leads
 
 -- New runs
 

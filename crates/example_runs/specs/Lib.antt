@@ -1,3 +1,4 @@
 pub mod Members
 pub mod Reached
 pub mod Steps
+pub mod Values

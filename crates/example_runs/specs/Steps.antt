@@ -1,9 +1,15 @@
 -- The contracts that docs/trusted.md lists do not depend on this file; other contracts and proofs do.
--- What happens in a run of processes: a start and a stop.
-use Rattle.std.specs.Prelude.{◌≡◌, ℕ, Ok, Some, None, set, slice_get}
+-- What happens in a run of processes: a start, a stop, and a frame that is handled.
+use Rattle.std.specs.Prelude.{◌≡◌, ◌<◌, ◌^◌, ◌∷◌, ◌++◌, ℕ, Bool, true, false, Ok, Some, None, set, slice_get}
 use Rattle.cluster_file.specs.File.{FileContents}
 use Rattle.cluster_file.specs.Reading.{file_of}
-use Rattle.example_runs.specs.Members.{HasStarted}
+use Rattle.node_effects.specs.Seen.{all_seen}
+use Rattle.node_effects.specs.Work.{entries_in}
+use Rattle.node_effects.specs.declared.effects.Effects.{Effects}
+use Rattle.node_strings.specs.Arrival.{node_address}
+use Rattle.node_strings.specs.Strings.{Strings}
+use Rattle.processes.specs.Processes.{SentFrame}
+use Rattle.example_runs.specs.Members.{HasGrown, HasHandled, HasStarted, frames_from, seen_by}
 use Rattle.example_runs.specs.declared.members.Member.{Member}
 use Rattle.example_runs.specs.declared.process_run.ProcessRun.{ProcessRun}
 
@@ -30,3 +36,30 @@ pub record IsStoppedIn (number : ℕ) (old new : ProcessRun) : Type 0 where
   pub changed : HasChanged number member (record member { node = None }) old new
   pub sent : new.sent.items ≡ old.sent.items
   pub seen : new.seen.items ≡ old.seen.items
+
+-- The process of this number handled a frame. Its log got the entries that its node wanted, and then the frames to
+-- nodes and the answers were written.
+pub record IsHandledIn (number : ℕ) (frame : Strings) (old new : ProcessRun) : Type 0 where
+  pub member : Member
+  pub handled : Member
+  pub after : Member
+  pub effects : Effects
+  pub handles : HasHandled frame effects member handled
+  pub grown : HasGrown (entries_in effects.outputs.items) handled after
+  pub changed : HasChanged number member after old new
+  pub sent : new.sent.items ≡ old.sent.items ++ frames_from number effects.outputs.items
+  pub seen : all_seen new.seen.items ≡ all_seen old.seen.items ++ seen_by effects
+
+-- a frame that was written to the node of this number comes there, with the address of its sender in place of its own
+pub record IsReaddressed (number : ℕ) (sent : SentFrame) (frame : Strings) : Type 0 where
+  pub rest : Strings
+  pub to : sent.frame ≡ node_address number ∷ rest
+  pub from : frame ≡ node_address sent.sender ∷ rest
+  pub sender : sent.sender < 2 ^ 8
+
+-- the frame that was written at this place came to the node of this number, which handled it; or it was to another one,
+-- and nothing has changed
+abbrev pub IsCarriedIn : (place number : ℕ) → (old new : ProcessRun) → (is_to : Bool) → Type 0
+IsCarriedIn place number old new false = new ≡ old
+IsCarriedIn place number old new true = (sent : SentFrame) × (frame : Strings)
+    × (slice_get old.sent.items place ≡ Some sent) × IsReaddressed number sent frame × IsHandledIn number frame old new

@@ -2,11 +2,14 @@
 ghost use Rattle.std.specs.Prelude.{◌∷◌, [], IfOk, OnOk};
 ghost use Rattle.std.specs.List.{AllByRecursion};
 ghost use Rattle.cluster_file.specs.File.{IsLawfulFile};
-ghost use Rattle.example_runs.specs.Members.{HasBegun, HasGrown, HasStarted, IsNewMember};
+ghost use Rattle.example_runs.specs.Members.{HasBegun, HasGrown, HasHandled, HasStarted};
+ghost use Rattle.example_runs.specs.Members.{IsNewMember};
 
 use crate::error::RunError;
 use cluster_file::ClusterFile;
+use frames::Frame;
 use node::Node;
+use node_effects::{Effects, Machine};
 use node_log::{Chain, Entry, write_entry};
 use node_store::{GivenBytes, LogEnd, recover_machine};
 use std::alloc::Global;
@@ -52,6 +55,16 @@ impl Member {
         self.begin(node, end)
     }
 
+    /// The node handles a frame. What it wants is still to be done.
+    pub(crate) fn handle(&mut self, frame: Frame) -> Result<Effects, RunError>
+        ensures { IfOk result (λ effects. HasHandled frame effects self.old self.new) }
+    {
+        match &mut self.node {
+            Some(node) => Ok(node.handle(frame)?),
+            None => Err(RunError::Stopped),
+        }
+    }
+
     // Begins an epoch of a node that has carried out the log, which ends there. Bytes behind that are cut off.
     fn begin(&mut self, node: Node, end: LogEnd) -> Result<(), RunError>
         ensures { OnOk result (HasBegun node end self.old self.new) }
@@ -75,8 +88,8 @@ impl Member {
         Ok(())
     }
 
-    // The log gets this entry.
-    fn push_entry(&mut self, entry: &Entry) -> Result<(), RunError>
+    /// The log gets this entry.
+    pub(crate) fn push_entry(&mut self, entry: &Entry) -> Result<(), RunError>
         ensures { OnOk result (HasGrown (entry.now ∷ []) self.old self.new) }
     {
         write_entry(&mut self.log, self.chain, entry)?;

@@ -1,15 +1,22 @@
 //! A run of processes.
-ghost use Rattle.std.specs.Prelude.{IfOk, OnOk};
+ghost use Rattle.std.specs.Prelude.{◌≡◌, ◌∷◌, false, true, ℕ, IfOk, List, OnOk, Some, slice_get};
+ghost use Rattle.node_strings.specs.Arrival.{arrival_at, client_address};
+ghost use Rattle.processes.specs.Events.{WasWritten};
+ghost use Rattle.processes.specs.Processes.{SentFrame};
+ghost use Rattle.example_runs.specs.Members.{with_sent};
 ghost use Rattle.example_runs.specs.Reached.{IsReached, LeadsOn};
-ghost use Rattle.example_runs.specs.Steps.{IsStartedIn, IsStoppedIn};
+ghost use Rattle.example_runs.specs.Steps.{IsCarriedIn, IsHandledIn, IsStartedIn, IsStoppedIn};
 
 use crate::error::RunError;
 use crate::members::{Member, know_lawful, new_members};
 use crate::sent::Sent;
+use crate::steps::{carry_out, command_of, note_seen, readdressed};
 use bytes::Bytes;
 use cluster_file::read_cluster_file;
+use frames::Frame;
 use node_effects::Notice;
 use node_store::left_logs_are_read;
+use node_strings::ConnectionId;
 use std::alloc::Global;
 
 /// The processes of a cluster, in one program. Their numbers are their places.
@@ -81,5 +88,98 @@ impl ProcessRun {
         let member = &mut self.members[place];
         member.node = None;
         Ok(())
+    }
+
+    /// A client sends a command to the process of this number, which handles it.
+    ///
+    /// Fails with `NoMember` or `Stopped` if there is no such process, or it does not run, with `NoFrame` if the
+    /// strings are none, and otherwise as a node fails. Nobody may go on with a run after a failure.
+    pub fn ask(&mut self, number: u8, client: ConnectionId, words: &[Bytes]) -> Result<(), RunError>
+        ensures does { OnOk result (IsHandledIn number (client_address client ∷ words.now) self.old self.new) }
+        ensures leads { OnOk result (LeadsOn self.old self.new) }
+        ensures reached { OnOk result (IsReached self.old → IsReached self.new) }
+    {
+        let frame = command_of(self.alloc, client, words)?;
+        self.handle(number, frame)
+    }
+
+    /// The network carries the frame that was written at this place to the process of this number, which handles it, if
+    /// the frame is to its node. Returns whether it is.
+    ///
+    /// Fails with `NoFrameThere` if so many frames were not written, and otherwise as `ask` does.
+    pub fn carry(&mut self, place: usize, number: u8) -> Result<bool, RunError>
+        ensures does { IfOk result (IsCarriedIn place number self.old self.new) }
+        ensures leads { OnOk result (LeadsOn self.old self.new) }
+        ensures reached { OnOk result (IsReached self.old → IsReached self.new) }
+    {
+        if place >= self.sent.len() {
+            return Err(RunError::NoFrameThere);
+        }
+        let sent = &self.sent[place];
+        match readdressed(self.alloc, sent, number)? {
+            Some(frame) => {
+                self.handle(number, frame)?;
+                Ok(true)
+            }
+            None => Ok(false),
+        }
+    }
+
+    /// The network carries the frames from this place on, one after another, each once, and also those that are written
+    /// meanwhile, until none is left, or 10,000 were carried. Returns the place behind the last one.
+    ///
+    /// Fails as `carry` does.
+    pub fn carry_all(&mut self, first: usize) -> Result<usize, RunError>
+        ensures reached { OnOk result (IsReached self.old → IsReached self.new) }
+    {
+        let mut place = first;
+        for _ in 0..10_000u32 {
+            if place >= self.sent.len() {
+                return Ok(place);
+            }
+            self.carry_to_any(place)?;
+            place += 1;
+        }
+        Ok(place)
+    }
+
+    // The network carries the frame of this place to the process to whose node it is.
+    fn carry_to_any(&mut self, place: usize) -> Result<(), RunError>
+        ensures { OnOk result (IsReached self.old → IsReached self.new) }
+    {
+        for number in 0..u8::MAX {
+            if self.is_carried(place, number)? {
+                return Ok(());
+            }
+        }
+        Ok(())
+    }
+
+    // Whether the network carries the frame of this place to the process of this number, or there is no such process.
+    fn is_carried(&mut self, place: usize, number: u8) -> Result<bool, RunError>
+        ensures { OnOk result (IsReached self.old → IsReached self.new) }
+    {
+        if number as usize >= self.members.len() {
+            return Ok(true);
+        }
+        self.carry(place, number)
+    }
+
+    // The process of this number handles a frame, which a client or a process of this run sent. Then its log is synced,
+    // and the frames and answers that came of it are written.
+    fn handle(&mut self, number: u8, frame: Frame) -> Result<(), RunError>
+        requires { WasWritten (with_sent self.old.sent.items) number (arrival_at frame) }
+        ensures does { OnOk result (IsHandledIn number frame self.old self.new) }
+        ensures leads { OnOk result (LeadsOn self.old self.new) }
+        ensures reached { OnOk result (IsReached self.old → IsReached self.new) }
+    {
+        let place = number as usize;
+        if place >= self.members.len() {
+            return Err(RunError::NoMember);
+        }
+        let member = &mut self.members[place];
+        let effects = member.handle(frame)?;
+        carry_out(number, member, &mut self.sent, effects.outputs)?;
+        note_seen(self.alloc, &mut self.seen, effects.notices)
     }
 }

@@ -1,15 +1,20 @@
-//! The run is carried out.
-use crate::three_nodes_start_twice;
+//! The run is carried out, and the value is read.
+use crate::{three_nodes_write_and_read, write_and_read};
 use std::alloc::Global;
 use std::process::Abort;
 
 #[test]
-fn three_processes_start(rt: HostRuntime) {
-    assert_start(&rt, rt.alloc());
+fn the_value_is_read(rt: HostRuntime) {
+    assert_read(&rt, rt.alloc());
 }
 
-fn assert_start(rt: &impl Abort, alloc: Global) {
-    let run = three_nodes_start_twice(alloc).expect(rt, "a run");
-    assert!(rt; run.members.len() == 3);
-    assert!(rt; run.members.iter().all(|member| member.node.is_some()));
+fn assert_read(rt: &impl Abort, alloc: Global) {
+    let run = three_nodes_write_and_read(alloc).expect(rt, "a run");
+    match write_and_read(&run) {
+        Some((written, read)) => {
+            assert_eq!(rt; written.as_slice(), b"hello".as_slice());
+            assert_eq!(rt; read.as_slice(), b"hello".as_slice());
+        }
+        None => assert!(rt; false),
+    }
 }
