@@ -4,8 +4,6 @@ use Rattle.std.proofs.Common.{refl, sym, subst, ap, ◌∙◌, append-nil, lengt
 use Rattle.std.specs.List.{filter}
 use Rattle.deeds.specs.Deeds.{Notice}
 use Rattle.deeds.specs.Kept.{FileOfNames}
-use Rattle.node.specs.Handles.{Handles as HandlesFrame}
-use Rattle.node.specs.declared.node.Node.{Node}
 use Rattle.node_effects.specs.Work.{entries_in}
 use Rattle.node_effects.specs.declared.effects.Effects.{Effects}
 use Rattle.node_effects.specs.declared.output.Output.{Output}

@@ -1,6 +1,6 @@
 -- A start and a stop in a run of processes lead on, by events that may happen; and a new run is reached.
-use Rattle.std.proofs.Common.{◌≡◌, ℕ, zero, suc, Bool, true, false, List, [], ◌∷◌, ◌++◌, Option, None, Some, is_some}
-use Rattle.std.proofs.Common.{Result, Ok, Err, OnOk, set, slice_get, refl, sym, subst, ap, ◌∙◌, append-nil}
+use Rattle.std.proofs.Common.{◌≡◌, ℕ, zero, suc, false, List, [], ◌∷◌, ◌++◌, Option, None, Some, is_some}
+use Rattle.std.proofs.Common.{Result, Ok, Err, OnOk, slice_get, refl, sym, subst, ap, ◌∙◌, append-nil}
 use Rattle.std.proofs.lemmas.Option.{same_Some}
 use Rattle.std.specs.List.{AllByRecursion}
 use Rattle.std.specs.Vec.{with_item}
@@ -91,23 +91,20 @@ abbrev pub changed_run : ProcessRun → (number : ℕ) → Member → ProcessRun
 changed_run old number after = record old { members = with_item old.members number after }
 
 module _ (number : ℕ) (old : ProcessRun) (member : Member) (at : slice_get old.members.items number ≡ Some member) where
-  module _ (file : FileContents) (after : Member) (read : file_of old.text ≡ Ok file) where
-    pub started_in : HasStarted file number member after → IsStartedIn number old (changed_run old number after)
-    started_in is = record {
-      member = member;
-      after = after;
-      file = file;
-      read = read;
-      started = is;
-      changed = record { at = at; members = refl; text = refl };
-      sent = refl;
-      seen = refl;
-    }
+  pub started_in : (file : FileContents) (after : Member) → file_of old.text ≡ Ok file →
+      HasStarted file number member after → IsStartedIn number old (changed_run old number after)
+  started_in file after read is = record {
+    member = member;
+    after = after;
+    file = file;
+    read = read;
+    started = is;
+    changed = record { at = at; members = refl; text = refl };
+    sent = refl;
+    seen = refl;
+  }
 
-  abbrev pub stopped : ProcessRun
-  stopped = changed_run old number (record member { node = None })
-
-  pub stopped_in : IsStoppedIn number old stopped
+  pub stopped_in : IsStoppedIn number old (changed_run old number (record member { node = None }))
   stopped_in = record { member = member; changed = record { at = at; members = refl; text = refl }; sent = refl; seen = refl }
 
 -- New runs

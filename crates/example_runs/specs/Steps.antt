@@ -1,6 +1,7 @@
 -- The contracts that docs/trusted.md lists do not depend on this file; other contracts and proofs do.
 -- What happens in a run of processes: a start, a stop, and a frame that is handled.
-use Rattle.std.specs.Prelude.{◌≡◌, ◌<◌, ◌^◌, ◌∷◌, ◌++◌, ℕ, Bool, true, false, Ok, Some, None, set, slice_get}
+use Rattle.std.specs.Prelude.{◌≡◌, ◌≢◌, ◌<◌, ◌^◌, ◌∷◌, ◌++◌, ℕ, Bool, true, false, Ok}
+use Rattle.std.specs.Prelude.{Option, Some, None, set, slice_get}
 use Rattle.cluster_file.specs.File.{FileContents}
 use Rattle.cluster_file.specs.Reading.{file_of}
 use Rattle.node_effects.specs.Seen.{all_seen}
@@ -57,9 +58,15 @@ pub record IsReaddressed (number : ℕ) (sent : SentFrame) (frame : Strings) : T
   pub from : frame ≡ node_address sent.sender ∷ rest
   pub sender : sent.sender < 2 ^ 8
 
+-- the frame as it comes to the node of this number, or none, if it was written to another one
+abbrev pub IsFoundFor : (number : ℕ) → SentFrame → Option Strings → Type 0
+IsFoundFor number sent (Some frame) = IsReaddressed number sent frame
+IsFoundFor number sent None = (rest : Strings) → sent.frame ≢ node_address number ∷ rest
+
 -- the frame that was written at this place came to the node of this number, which handled it; or it was to another one,
 -- and nothing has changed
 abbrev pub IsCarriedIn : (place number : ℕ) → (old new : ProcessRun) → (is_to : Bool) → Type 0
-IsCarriedIn place number old new false = new ≡ old
+IsCarriedIn place number old new false = (sent : SentFrame)
+    × (slice_get old.sent.items place ≡ Some sent) × IsFoundFor number sent None × (new ≡ old)
 IsCarriedIn place number old new true = (sent : SentFrame) × (frame : Strings)
     × (slice_get old.sent.items place ≡ Some sent) × IsReaddressed number sent frame × IsHandledIn number frame old new

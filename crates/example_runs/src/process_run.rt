@@ -1,8 +1,7 @@
 //! A run of processes.
-ghost use Rattle.std.specs.Prelude.{◌≡◌, ◌∷◌, false, true, ℕ, IfOk, List, OnOk, Some, slice_get};
+ghost use Rattle.std.specs.Prelude.{◌∷◌, IfOk, OnOk};
 ghost use Rattle.node_strings.specs.Arrival.{arrival_at, client_address};
 ghost use Rattle.processes.specs.Events.{WasWritten};
-ghost use Rattle.processes.specs.Processes.{SentFrame};
 ghost use Rattle.example_runs.specs.Members.{with_sent};
 ghost use Rattle.example_runs.specs.Reached.{IsReached, LeadsOn};
 ghost use Rattle.example_runs.specs.Steps.{IsCarriedIn, IsHandledIn, IsStartedIn, IsStoppedIn};

@@ -1,5 +1,5 @@
 //! What is done with what a node wants, and which frames come to nodes.
-ghost use Rattle.std.specs.Prelude.{◌≡◌, ◌∷◌, ◌++◌, [], ℕ, IfOk, IfSome, List, OnOk};
+ghost use Rattle.std.specs.Prelude.{◌≡◌, ◌∷◌, ◌++◌, [], ℕ, IfOk, List, OnOk};
 ghost use Rattle.std.specs.List.{filter};
 ghost use Rattle.node_effects.specs.Seen.{all_seen, seen_of};
 ghost use Rattle.node_effects.specs.Work.{entries_in};
@@ -7,7 +7,7 @@ ghost use Rattle.node_strings.specs.Arrival.{arrival_at, client_address as addre
 ghost use Rattle.processes.specs.Events.{WasWritten, is_begun, is_told};
 ghost use Rattle.processes.specs.Processes.{SentFrame};
 ghost use Rattle.example_runs.specs.Members.{HasGrown, frames_from, seen_among, with_sent};
-ghost use Rattle.example_runs.specs.Steps.{IsReaddressed};
+ghost use Rattle.example_runs.specs.Steps.{IsFoundFor};
 
 use crate::error::RunError;
 use crate::members::Member;
@@ -125,7 +125,7 @@ pub(crate) fn command_of(
 
 /// The frame as it comes to the node of this number, if it is to that node: with the address of its sender in front.
 pub(crate) fn readdressed(alloc: Global, sent: &Sent, number: u8) -> Result<Option<Frame>, RunError>
-    ensures { IfOk result (λ found. IfSome found (IsReaddressed number sent.now)) }
+    ensures { IfOk result (IsFoundFor number sent.now) }
 {
     readdressed_from(alloc, sent.sender, &sent.frame, number)
 }
@@ -137,16 +137,19 @@ fn readdressed_from(
     frame: &Frame,
     number: u8,
 ) -> Result<Option<Frame>, RunError>
-    ensures { IfOk result (λ found. IfSome found
-        (IsReaddressed number (record { sender = sender; frame = frame.now }))) }
+    ensures { IfOk result (IsFoundFor number (record { sender = sender; frame = frame.now })) }
 {
     let address = node_address(alloc, number)?;
     match frame.strings() {
-        [to, rest @ ..] if *to == address => {
-            let from = node_address(alloc, sender)?;
-            Ok(Some(addressed(alloc, from, rest)?))
+        [] => Ok(None),
+        [to, rest @ ..] => {
+            if *to == address {
+                let from = node_address(alloc, sender)?;
+                Ok(Some(addressed(alloc, from, rest)?))
+            } else {
+                Ok(None)
+            }
         }
-        _ => Ok(None),
     }
 }
 

@@ -1,4 +1,4 @@
-use Rattle.std.proofs.Common.{◌≡◌, ℕ, List, Some, Ok, refl, sym, subst, ◌∙◌}
+use Rattle.std.proofs.Common.{ℕ, List, Some, Ok, refl, sym, subst, ◌∙◌}
 use Rattle.node.specs.Recovering.{CarriesOutEntry}
 use Rattle.node_store.specs.Recovery.{HasRecovered}
 use Rattle.example_runs.proofs.MemberLemmas.{has_started}

@@ -1,4 +1,4 @@
-use Rattle.std.proofs.Common.{◌≡◌, ◌<◌, length, refl, arith}
+use Rattle.std.proofs.Common.{◌<◌, length, refl, arith}
 use Rattle.std.proofs.lemmas.Option.{slice_get_read}
 use Rattle.example_runs.proofs.HandledStepLemmas.{handled_in, handled_leads}
 use Rattle.example_runs.proofs.StepLemmas.{on_ok, reached_on}

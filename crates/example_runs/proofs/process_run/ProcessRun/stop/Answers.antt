@@ -1,6 +1,6 @@
-use Rattle.std.proofs.Common.{◌≡◌, ◌<◌, length, refl, arith}
+use Rattle.std.proofs.Common.{◌<◌, length, refl, arith}
 use Rattle.std.proofs.lemmas.Option.{slice_get_read}
-use Rattle.example_runs.proofs.StepLemmas.{on_ok, reached_on, stopped_in, stopped_leads}
+use Rattle.example_runs.proofs.StepLemmas.{reached_on, stopped_in, stopped_leads}
 use Rattle.example_runs.proofs.process_run.ProcessRun.stop.Goals as goal
 
 pub returns-clause-does : goal.returns-clause-does
