@@ -98,11 +98,11 @@ bad_start law processes reached number found kept keeps fault may failed = go fo
         HaveEvents reached.names number processes (λ written process. (written ≡ []) × IsStoppedWith process keeps)
     go None kept ((stopped, (disk, is, left)), before, more) failed = absurd (cc)
     go found None (at, (stopped, (before, is, left)), more) failed = absurd (cc)
-    go (Some disk) (Some before) ((stopped, (bytes, is, left)), (still, (others, same, held)), (rest, grows)) failed =
+    go (Some disk) (Some before) ((stopped, (bytes, is, left)), (still, (others, same, held)), fronts) failed =
         let e : bytes ≡ disk = cc in
         let f : others ≡ before = cc in
         law processes reached number disk before keeps stopped (subst (IsLeft log synced) e left)
-        (subst (IsLeft log synced) f held) (rest, grows)
+        (subst (IsLeft log synced) f held) fronts
         (failed_at reached.names number disk (Some before) keeps fault failed.0)
 
 -- whatever a start returned

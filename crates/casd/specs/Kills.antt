@@ -24,9 +24,10 @@ abbrev pub IsLeftOf : Process → (keeps : Option (List ℕ)) → Type 0
 IsLeftOf process keeps = (disk : List ℕ) × (keeps ≡ Some disk) × IsLeft process.log process.synced disk
 
 -- the process is stopped; a stop may have left the bytes that are found in its log, and also those that are kept of it,
--- with which the ones found begin
+-- and the one begins with the other
 abbrev pub MayBeStarted : Process → (found kept : Option (List ℕ)) → Type 0
-MayBeStarted process found kept = IsStoppedWith process found × IsStoppedWith process kept × Grows kept found
+MayBeStarted process found kept =
+    IsStoppedWith process found × IsStoppedWith process kept × (Grows kept found ⊎ Grows found kept)
 
 -- A start
 

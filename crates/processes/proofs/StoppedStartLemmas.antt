@@ -21,7 +21,7 @@ use Rattle.node_store.proofs.GrowthLemmas.{Known}
 use Rattle.processes.specs.Events.{AreAnewIf, MayStart, ProcessEvent, found_log, found_synced, processes_after, started_process}
 use Rattle.processes.specs.Loops.{HaveEvents}
 use Rattle.processes.specs.Processes.{Process, Processes}
-use Rattle.processes.specs.Programs.{IsReadLog, IsRewrittenIf, IsStoppedAt, StartStage}
+use Rattle.processes.specs.Programs.{IsPartlyCut, IsReadLog, IsRewrittenIf, IsStoppedAt, StartStage}
 use Rattle.processes.specs.Runs.{AreReached}
 use Rattle.processes.specs.StoppedStarts.{IsStoppedWith, StoppedStartsAreEvents}
 use Rattle.processes.proofs.LeadLemmas.{leads_nowhere, leads_on, leads_once, own_process}
@@ -109,13 +109,14 @@ module _ (law : LeftLogIsRead) (processes : Processes) (reached : AreReached pro
     stays_read keeps is =
         stays reached.names number processes keeps (log_bytes first_chain read) stopped (is ∙ ap Some cut_is) left_read
 
-    -- a front is kept, which is long enough
-    pub stays_cut : (keeps : Known) (kept now : List ℕ) →
-        IsLeft (processes.at number).log (processes.at number).synced kept → keeps ≡ Some now → IsFront now disk →
+    -- a front is kept of bytes that a stop may leave, and it is long enough
+    pub stays_cut : (keeps : Known) (kept whole now : List ℕ) →
+        IsLeft (processes.at number).log (processes.at number).synced kept →
+        IsLeft (processes.at number).log (processes.at number).synced whole → keeps ≡ Some now → IsFront now whole →
         (end.length ≤ length now) ⊎ (length kept ≤ length now) → HaveEvents reached.names number processes (Leaves keeps)
-    stays_cut keeps kept now left_kept is (rest, front) enough =
+    stays_cut keeps kept whole now left_kept left_whole is (rest, front) enough =
         stays reached.names number processes keeps now stopped is
-        (left_front (processes.at number).log (processes.at number).synced disk now rest left front (long enough))
+        (left_front (processes.at number).log (processes.at number).synced whole now rest left_whole front (long enough))
       where
         least : List ℕ
         least = log_bytes first_chain (take (processes.at number).synced (processes.at number).log)
@@ -182,8 +183,21 @@ module _ (law : LeftLogIsRead) (processes : Processes) (reached : AreReached pro
         (subst (λ (k : Known). Appends k k []) (sym is) (sym (append-nil (log_bytes first_chain entries))))
 
 pub stopped_starts_are_events : LeftLogIsRead → StoppedStartsAreEvents
-stopped_starts_are_events law processes reached number disk kept keeps stopped left left_kept front (stage, at) = go stage at
+stopped_starts_are_events law processes reached number disk kept keeps stopped left left_kept fronts (stage, at) = go stage at
   where
+    -- the log was to be cut, and what it keeps begins as the longer of the two: what was found, or what was kept
+    cut_short : (copy : Node) (end : LogEnd) → IsReadLog reached.names number disk copy end →
+        IsPartlyCut end.length disk (Some kept) keeps → IsFront kept disk ⊎ IsFront disk kept →
+        HaveEvents reached.names number processes (Leaves keeps)
+    cut_short copy end found cut (inl front) =
+        let now = cut kept disk refl front ([], sym (append-nil disk)) in
+        stays_cut law processes reached number disk stopped left copy end found keeps kept disk now.0 left_kept left now.1 now.2
+        now.3
+    cut_short copy end found cut (inr front) =
+        let now = cut kept kept refl ([], sym (append-nil kept)) front in
+        stays_cut law processes reached number disk stopped left copy end found keeps kept kept now.0 left_kept left_kept now.1
+        now.2 now.3
+
     perhaps : (copy : Node) (end then : LogEnd) → IsReadLog reached.names number disk copy end →
         HasMoreEpochs copy.keeper.ids → (anew : Option (List Strings)) → AreAnewIf copy anew →
         IsRewrittenIf anew (Some (take end.length disk)) end keeps then →
@@ -206,9 +220,7 @@ stopped_starts_are_events law processes reached number disk kept keeps stopped l
     go : (stage : StartStage) → IsStoppedAt stage reached.names number disk (Some kept) keeps →
         HaveEvents reached.names number processes (Leaves keeps)
     go StartStage.Reading is = stays reached.names number processes keeps kept stopped is left_kept
-    go StartStage.Cutting (copy, end, found, cut) =
-        let now = cut kept disk refl front ([], sym (append-nil disk)) in
-        stays_cut law processes reached number disk stopped left copy end found keeps kept now.0 left_kept now.1 now.2 now.3
+    go StartStage.Cutting (copy, end, found, cut) = cut_short copy end found cut fronts
     go StartStage.Asking (copy, end, found, none, is) =
         stays_read law processes reached number disk stopped left copy end found keeps is
     go StartStage.Exchanging (copy, end, found, more, (entries, anew, either)) =
