@@ -1,12 +1,12 @@
 -- The contracts that docs/trusted.md lists do not depend on this file; other contracts and proofs do.
 -- What a run of the program does, by the words after its name, and with which status it ends.
-use Rattle.std.specs.Prelude.{◌≡◌, ◌⊎◌, ◌++◌, ℕ, List, [], ◌∷◌, codes, Option, Result, Ok, Err}
+use Rattle.std.specs.Prelude.{◌≡◌, ◌⊎◌, ◌++◌, ℕ, List, [], ◌∷◌, codes, drop, Option, IfSome, Result, Ok, Err}
 use Rattle.std.specs.Io.KnownBytes.{Appends, Keeps}
 use Rattle.cluster_file.specs.File.{FileContents}
 use Rattle.node.specs.declared.node.Node.{Node}
 use Rattle.node_keeper.specs.Keeping.{names_of}
 use Rattle.words.specs.Word.{Word}
-use Rattle.casd.specs.Fault.{IsOpenFault, exit_status_of, status_of}
+use Rattle.casd.specs.Fault.{IsOpenFault, IsWordsFault, exit_status_of, status_of}
 use Rattle.casd.specs.Files.{HasReadFile}
 use Rattle.casd.specs.Program.{HasRun}
 use Rattle.casd.specs.Request.{IsFaultOf, IsNodeWord}
@@ -64,3 +64,13 @@ EndsBy given found kept input words held keeps holds status =
     × IsNodeWord word number
     × RunsNode number (given file) (found folder) (kept folder) input held (keeps folder) holds result
     × (status ≡ status_of result))
+
+-- The program ended as the words behind its name say; if it is known with which words it was called, these are they. Or
+-- they could not be read, for a fault, and then nothing was written to the output, and each log keeps what it kept.
+abbrev pub EndsAsCalled : (words : Option (List Word)) → (given found kept : List ℕ → Option (List ℕ))
+    → (input held : Option (List ℕ)) → (keeps : List ℕ → Option (List ℕ)) → (holds : Option (List ℕ))
+    → (status : ℕ) → Type 0
+EndsAsCalled words given found kept input held keeps holds status =
+    ((all : List Word) × IfSome words (λ known. all ≡ known)
+    × EndsBy given found kept input (drop 1 all) held keeps holds status)
+    ⊎ ((fault : Fault) × IsWordsFault fault × (status ≡ exit_status_of fault) × (keeps ≡ kept) × (holds ≡ held))

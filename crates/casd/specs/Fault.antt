@@ -39,6 +39,12 @@ abbrev pub status_of : {T : Type 0} → Result T Fault → ℕ
 status_of (Ok done) = 0
 status_of (Err fault) = exit_status_of fault
 
+-- why the words of the command line cannot be read: one is no text, or there is no memory
+abbrev pub IsWordsFault : Fault → Type 0
+IsWordsFault faults.NotText = ⊤
+IsWordsFault faults.NoMemory = ⊤
+IsWordsFault _ = ⊥
+
 -- why the folder cannot be locked
 abbrev pub IsLockFault : Fault → Type 0
 IsLockFault faults.NoFolder = ⊤

@@ -1,7 +1,7 @@
 //! Why the program ends with a status other than 0.
 ghost use Rattle.std.specs.Prelude.{◌≡◌, ◌≢◌};
 ghost use Rattle.std.specs.IoError.{error_kind};
-ghost use Rattle.casd.specs.Fault.{exit_status_of};
+ghost use Rattle.casd.specs.Fault.{IsWordsFault, exit_status_of};
 ghost use Rattle.casd.specs.declared.fault.Fault.TheVariants.{NotText, NoMemory};
 
 use cluster_file::FileError;
@@ -78,6 +78,7 @@ impl Fault {
     pub fn from_arguments(error: io::Error) -> Fault
         ensures memory { error_kind error ≡ ErrorKind.OutOfMemory → result ≡ NoMemory }
         ensures text { error_kind error ≢ ErrorKind.OutOfMemory → result ≡ NotText }
+        ensures fault { IsWordsFault result }
     {
         match error.kind() {
             ErrorKind::OutOfMemory => Fault::NoMemory,

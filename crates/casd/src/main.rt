@@ -2,15 +2,16 @@
 #![tactic(auto)]
 
 use fault::Fault;
-use program::run_words;
+use given_words::run_given;
+use std::fs;
 use std::process::ExitCode;
-use std::{env, fs, io};
-use system::SystemFiles;
+use system::{SystemFiles, SystemWords};
 
 mod arguments;
 mod fault;
 mod files;
 mod folder;
+mod given_words;
 mod kills;
 mod lock;
 mod opening;
@@ -31,20 +32,12 @@ fn run(rt: &HostRuntime) -> Result<u8, Fault> {
     let _first = fs::open(rt, "/dev/null").map_err(Fault::NoNull)?;
     let _second = fs::open(rt, "/dev/null").map_err(Fault::NoNull)?;
     let _third = fs::open(rt, "/dev/null").map_err(Fault::NoNull)?;
-    let words = words_of(rt).map_err(Fault::from_arguments)?;
-    Ok(run_words(
+    Ok(run_given(
         rt.alloc(),
+        &SystemWords::new(rt),
         &mut SystemFiles::new(rt),
-        words.as_slice(),
         rt.stdin(),
         &mut rt.stdout(),
         &mut rt.stderr(),
     ))
-}
-
-// The words after the program's name.
-fn words_of(rt: &HostRuntime) -> io::Result<Vec<String>> {
-    let mut arguments = env::args(rt)?;
-    let _program = arguments.next();
-    Ok(arguments.collect(rt.alloc())?)
 }

@@ -1,14 +1,18 @@
-//! The files of the operating system.
+//! The words and the files that the operating system gives.
+//!
+//! Each function makes the calls of the runtime for which it stands, and decides nothing.
 ghost use Rattle.std.specs.Prelude.{None};
 ghost use Rattle.std.specs.Io.KnownBytes.{Keeps};
 
 use crate::fault::Fault;
 use crate::files::GivenFiles;
 use crate::folder::NodeFolder;
+use crate::given_words::GivenWords;
 use crate::lock::LockFile;
 use node_store::Log;
+use std::env::Env;
 use std::rt::Files;
-use std::{fs, io};
+use std::{env, fs, io};
 
 /// The files of a runtime. Nothing is known of their bytes.
 pub struct SystemFiles<'a, R: Files> {
@@ -46,5 +50,36 @@ where
         ensures { Keeps None (L.kept log) }
     {
         let _ = log;
+    }
+}
+
+/// The words with which a runtime was called. Nothing is known of them.
+pub struct SystemWords<'a, R: Env> {
+    rt: &'a R,
+}
+
+impl<'a, R: Env> Drop for SystemWords<'a, R> {
+    fn drop(self) {
+        let Self { rt: _ } = self;
+    }
+}
+
+impl<'a, R: Env> SystemWords<'a, R> {
+    /// The words with which this runtime was called.
+    pub fn new(rt: &'a R) -> SystemWords<'a, R> {
+        SystemWords { rt }
+    }
+}
+
+impl<'a, R: Env + AllocGlobal> GivenWords for SystemWords<'a, R> {
+    fn all_words(&self) -> Result<Vec<String>, Fault> {
+        let words = match env::args(self.rt) {
+            Ok(words) => words,
+            Err(error) => return Err(Fault::from_arguments(error)),
+        };
+        match words.collect(self.rt.alloc()) {
+            Ok(all) => Ok(all),
+            Err(_) => Err(Fault::NoMemory),
+        }
     }
 }
