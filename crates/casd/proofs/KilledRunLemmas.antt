@@ -162,18 +162,19 @@ module _ (starts : StartsAreEvents) (stops : StoppedStartsAreEvents) (ends : Ses
         (After (Err faults.NoMemory)) (λ from rests. (same, rests_left (from.at number) new end.chain.state keeps rests))
         (good_start starts processes reached number found before new end keeps may start)
 
-    go : (result : Result T Fault) → HasRun reached.names number found before (Some bytes) held new keeps holds result →
+    -- what the program did is told by its result
+    pub run_events : (result : Result T Fault) → HasRun reached.names number found before (Some bytes) held new keeps holds result →
         HaveSilentEvents reached.names number processes (After result)
-    go (Ok done) run = started_and_served (Ok done) (λ from leaves. leaves) run
-    go (Err (faults.Ended error)) run = started_and_served (Err (faults.Ended error)) (λ from leaves. leaves) run
-    go (Err (faults.NotExchanged error)) (inl run) =
+    run_events (Ok done) run = started_and_served (Ok done) (λ from leaves. leaves) run
+    run_events (Err (faults.Ended error)) run = started_and_served (Err (faults.Ended error)) (λ from leaves. leaves) run
+    run_events (Err (faults.NotExchanged error)) (inl run) =
         started_and_served (Err (faults.NotExchanged error)) (λ from leaves. inl leaves) run
-    go (Err (faults.NotExchanged error)) (inr failed) =
+    run_events (Err (faults.NotExchanged error)) (inr failed) =
         not_started (faults.NotExchanged error) (λ started stopped. inr (stopped.0, stopped.1.1)) failed
-    go (Err faults.NoMemory) (inl run) = only_started run
-    go (Err faults.NoMemory) (inr failed) =
+    run_events (Err faults.NoMemory) (inl run) = only_started run
+    run_events (Err faults.NoMemory) (inr failed) =
         not_started faults.NoMemory (λ started stopped. (stopped.0, stopped.1.1)) failed
-    go (Err _) failed = not_started _ (λ started stopped. (stopped.0, stopped.1.1)) failed
+    run_events (Err _) failed = not_started _ (λ started stopped. (stopped.0, stopped.1.1)) failed
 
   -- whatever a run returned
   pub run_leaves : (T : Type 0) (old : Node) (found before input held : Known) (new : Node) (keeps holds : Known)
@@ -184,6 +185,6 @@ module _ (starts : StartsAreEvents) (stops : StoppedStartsAreEvents) (ends : Ses
   run_leaves T old found before input held new keeps holds result runs processes reached number bytes known is_new may =
       subst (λ (i : Known). HaveSilentEvents reached.names number processes
       (λ started. LeavesAfterStart reached.names number started i held new keeps holds result)) (sym known)
-      (go T old found before bytes held new keeps holds processes reached number may result
+      (run_events T old found before bytes held new keeps holds processes reached number may result
       (subst (λ (i : Known). HasRun reached.names number found before i held new keeps holds result) known
       (runs reached.names number is_new)))

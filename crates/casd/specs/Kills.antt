@@ -1,5 +1,5 @@
 -- The contracts that docs/trusted.md lists do not depend on this file; other contracts and proofs do.
--- What the program leaves that is killed, as events of its process.
+-- What the program leaves, also if it is killed, as events of its process.
 use Rattle.std.specs.Prelude.{◌≡◌, ◌⊎◌, ℕ, List, [], Option, None, Some, Result, Ok, Err}
 use Rattle.deeds.specs.Kept.{FileOfNames}
 use Rattle.node.specs.declared.node.Node.{Node}
@@ -16,6 +16,8 @@ use Rattle.processes.specs.Processes.{Process, Processes}
 use Rattle.processes.specs.Programs.{IsHalfRewritten}
 use Rattle.processes.specs.Runs.{AreReached, MayAllHappenTo, processes_run}
 use Rattle.processes.specs.StoppedStarts.{IsStoppedWith}
+use Rattle.casd.specs.Ending.{RunResult}
+use Rattle.casd.specs.Program.{HasRun}
 use Rattle.casd.specs.declared.fault.Fault.{Fault}
 use Rattle.casd.specs.declared.fault.Fault.TheVariants as faults
 
@@ -127,3 +129,14 @@ LeavesRun old found kept input held new keeps holds result = (processes : Proces
     MayBeStarted (processes.at number) found kept →
     HaveSilentEvents reached.names number processes
     (λ started. LeavesAfterStart reached.names number started input held new keeps holds result)
+
+-- What the clause of `run_words` says of a run (`HasRun`) is a list of events of the process. Its start writes nothing.
+-- What it served after the start is among the events of other processes: the output got a front of the bytes that these
+-- events write, and what the log keeps is what a stop may leave.
+abbrev pub RunsAreEvents : Type 0
+RunsAreEvents = (processes : Processes) (reached : AreReached processes) (number : ℕ) (bytes : List ℕ)
+    (found kept held : Option (List ℕ)) (node : Node) (keeps holds : Option (List ℕ)) (result : RunResult) →
+    MayBeStarted (processes.at number) found kept →
+    HasRun reached.names number found kept (Some bytes) held node keeps holds result →
+    HaveSilentEvents reached.names number processes
+    (λ started. LeavesAfterStart reached.names number started (Some bytes) held node keeps holds result)

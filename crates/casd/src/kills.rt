@@ -1,10 +1,10 @@
-//! What the program leaves that is killed.
+//! What the program leaves, also if it is killed, as events of its process.
 //!
-//! These laws run the code of the program, over a log and an output that stop after any numbers of calls, as
-//! `killed_rounds_are_events` of `processes` runs its loop. A program that is killed just before some call to its log
-//! or its output leaves what it leaves over a log and an output that stop after the calls before.
+//! The laws of killed programs run the code of the program, over a log and an output that stop after any numbers of
+//! calls, as `killed_rounds_are_events` of `processes` runs its loop. A program that is killed just before some call to
+//! its log or its output leaves what it leaves over a log and an output that stop after the calls before.
 ghost use Rattle.std.specs.Prelude.{◌≡◌, IsTrue};
-ghost use Rattle.casd.specs.Kills.{LeavesRewriting, LeavesRun, LeavesStart};
+ghost use Rattle.casd.specs.Kills.{LeavesRewriting, LeavesRun, LeavesStart, RunsAreEvents};
 
 use crate::fault::Fault;
 use crate::opening::{start_with, write_anew};
@@ -71,4 +71,15 @@ pub fn killed_runs_are_events<L: StoredLog, I: Read + Drop, O: Write, E: Write>(
     stopped_sessions_are_events();
     unexchanged_sessions_are_events();
     start_and_serve(alloc, node, log, input, output, err)
+}
+
+/// A law: what the clause of `run_words` says of a run is a list of events of the process.
+pub fn runs_are_events()
+    ensures { RunsAreEvents }
+{
+    starts_are_events();
+    stopped_starts_are_events();
+    sessions_are_events();
+    stopped_sessions_are_events();
+    unexchanged_sessions_are_events();
 }
