@@ -1,3 +1,4 @@
+mod BroughtLemmas
 mod GoingLemmas
 mod GrowthLemmas
 mod HandledLemmas

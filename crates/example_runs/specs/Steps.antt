@@ -1,7 +1,7 @@
 -- The contracts that docs/trusted.md lists do not depend on this file; other contracts and proofs do.
 -- What happens in a run of processes: a start, a stop, and a frame that is handled.
-use Rattle.std.specs.Prelude.{◌≡◌, ◌≢◌, ◌<◌, ◌^◌, ◌∷◌, ◌++◌, ℕ, Bool, true, false, Ok}
-use Rattle.std.specs.Prelude.{Option, Some, None, set, slice_get}
+use Rattle.std.specs.Prelude.{◌≡◌, ◌≢◌, ◌<◌, ◌≤◌, ◌⊎◌, ◌+◌, ◌^◌, ◌∷◌, ◌++◌, ℕ, zero, suc, Bool, true, false, Ok}
+use Rattle.std.specs.Prelude.{Option, Some, None, length, set, slice_get}
 use Rattle.cluster_file.specs.File.{FileContents}
 use Rattle.cluster_file.specs.Reading.{file_of}
 use Rattle.node_effects.specs.Seen.{all_seen}
@@ -70,3 +70,26 @@ IsCarriedIn place number old new false = (sent : SentFrame)
     × (slice_get old.sent.items place ≡ Some sent) × IsFoundFor number sent None × (new ≡ old)
 IsCarriedIn place number old new true = (sent : SentFrame) × (frame : Strings)
     × (slice_get old.sent.items place ≡ Some sent) × IsReaddressed number sent frame × IsHandledIn number frame old new
+
+-- the frame that was written at this place is to none of the nodes of the run with a number below this one
+abbrev pub IsToNone : (place below : ℕ) → ProcessRun → Type 0
+IsToNone place below run = (number : ℕ) → number < below → number < length run.members.items
+    → IsCarriedIn place number run run false
+
+-- the frame that was written at this place came to the node of the run to which it is; or it is to none of the nodes 0
+-- to 254 of the run, and nothing has changed
+abbrev pub IsBroughtIn : (place : ℕ) → (old new : ProcessRun) → Type 0
+IsBroughtIn place old new = ((number : ℕ) × IsCarriedIn place number old new true)
+    ⊎ (IsToNone place 255 old × (new ≡ old))
+
+-- so many frames, from this place on, came one after another
+abbrev pub AreBroughtIn : (count first : ℕ) → (old new : ProcessRun) → Type 0
+AreBroughtIn zero first old new = new ≡ old
+AreBroughtIn (suc count) first old new =
+    (between : ProcessRun) × AreBroughtIn count first old between × IsBroughtIn (first + count) between new
+
+-- all frames came, from the one place on up to the other, one after another: none is left behind that place, or 10,000
+-- came
+abbrev pub AreAllBroughtIn : (first then : ℕ) → (old new : ProcessRun) → Type 0
+AreAllBroughtIn first then old new = (count : ℕ) × (then ≡ first + count) × AreBroughtIn count first old new
+    × ((length new.sent.items ≤ then) ⊎ (count ≡ 10_000))

@@ -1,10 +1,11 @@
 //! A run of processes.
-ghost use Rattle.std.specs.Prelude.{◌∷◌, IfOk, OnOk};
+ghost use Rattle.std.specs.Prelude.{◌≡◌, ◌⊎◌, ◌≤◌, ◌∷◌, true, false, length, IfOk, OnOk};
 ghost use Rattle.node_strings.specs.Arrival.{arrival_at, client_address};
 ghost use Rattle.processes.specs.Events.{WasWritten};
 ghost use Rattle.example_runs.specs.Members.{with_sent};
 ghost use Rattle.example_runs.specs.Reached.{IsReached, LeadsOn};
-ghost use Rattle.example_runs.specs.Steps.{IsCarriedIn, IsHandledIn, IsStartedIn, IsStoppedIn};
+ghost use Rattle.example_runs.specs.Steps.{AreAllBroughtIn, IsBroughtIn, IsCarriedIn, IsHandledIn, IsStartedIn};
+ghost use Rattle.example_runs.specs.Steps.{IsStoppedIn};
 
 use crate::error::RunError;
 use crate::members::{Member, know_lawful, new_members};
@@ -129,10 +130,11 @@ impl ProcessRun {
     ///
     /// Fails as `carry` does.
     pub fn carry_all(&mut self, first: usize) -> Result<usize, RunError>
+        ensures does { IfOk result (λ then. AreAllBroughtIn first then self.old self.new) }
         ensures reached { OnOk result (IsReached self.old → IsReached self.new) }
     {
         let mut place = first;
-        for _ in 0..10_000u32 {
+        for _count in 0..10_000u32 {
             if place >= self.sent.len() {
                 return Ok(place);
             }
@@ -142,9 +144,10 @@ impl ProcessRun {
         Ok(place)
     }
 
-    // The network carries the frame of this place to the process to whose node it is.
+    // The network carries the frame of this place to the process to whose node it is, if there is one.
     fn carry_to_any(&mut self, place: usize) -> Result<(), RunError>
-        ensures { OnOk result (IsReached self.old → IsReached self.new) }
+        ensures does { OnOk result (IsBroughtIn place self.old self.new) }
+        ensures reached { OnOk result (IsReached self.old → IsReached self.new) }
     {
         for number in 0..u8::MAX {
             if self.is_carried(place, number)? {
@@ -156,7 +159,10 @@ impl ProcessRun {
 
     // Whether the network carries the frame of this place to the process of this number, or there is no such process.
     fn is_carried(&mut self, place: usize, number: u8) -> Result<bool, RunError>
-        ensures { OnOk result (IsReached self.old → IsReached self.new) }
+        ensures does { IfOk result (λ is_done. (is_done ≡ false → IsCarriedIn place number self.old self.new false)
+            × (is_done ≡ true → IsCarriedIn place number self.old self.new true
+            ⊎ ((length self.old.members.items ≤ number) × (self.new ≡ self.old)))) }
+        ensures reached { OnOk result (IsReached self.old → IsReached self.new) }
     {
         if number as usize >= self.members.len() {
             return Ok(true);

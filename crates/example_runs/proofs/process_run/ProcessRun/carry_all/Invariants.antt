@@ -1,6 +1,9 @@
--- The run is still one of processes.
+-- So many frames came, one after another, and the run is still one of processes.
+use Rattle.std.proofs.Common.{◌≡◌, ◌+◌}
 use Rattle.example_runs.specs.Reached.{IsReached}
+use Rattle.example_runs.specs.Steps.{AreBroughtIn}
 use Rattle.example_runs.proofs.process_run.ProcessRun.carry_all.Given as goal
 
-abbrev pub invariant-loop : goal.invariant-loop
-invariant-loop l = IsReached l.fn.self → IsReached l.self
+abbrev pub invariant-loop-_count : goal.invariant-loop-_count
+invariant-loop-_count l = (l.place ≡ l.fn.first + l._count) × AreBroughtIn l._count l.fn.first l.fn.self l.self
+    × (IsReached l.fn.self → IsReached l.self)
