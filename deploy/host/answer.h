@@ -1,4 +1,4 @@
-/* An answer of the child: strings at a place of a frame, whose bytes go to a client one after another. */
+/* An answer of the node: strings at a place of a frame, whose bytes go to a client one after another. */
 #ifndef ANSWER_H
 #define ANSWER_H
 

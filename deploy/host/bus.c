@@ -7,7 +7,7 @@
 #include <stdio.h>
 #include <string.h>
 
-enum { MOST_FOR_CHILD = 32 << 20 };  /* with so many bytes waiting for the child, frames from nodes are dropped */
+enum { MOST_FOR_NODE = 32 << 20 };  /* with so many bytes waiting for the node, frames from nodes are dropped */
 
 /* What a message's subject says. */
 struct subject {
@@ -65,19 +65,19 @@ static uint64_t frames_in(const char *bytes, size_t length) {
     return count;
 }
 
-/* Hands the frames of a message to the child, with the sender as their address. Counts each that it drops. `lent` is
+/* Hands the frames of a message to the node, with the sender as their address. Counts each that it drops. `lent` is
  * how many bytes stay where they lie. */
-static bool hand_on(struct bus *bus, uint64_t from, const char *bytes, size_t length, struct child *child,
+static bool hand_on(struct bus *bus, uint64_t from, const char *bytes, size_t length, struct node *node,
                     size_t *lent) {
     char address[LONGEST_ADDRESS];
     size_t at = 0;
     snprintf(address, sizeof address, "node %" PRIu64, from);
-    while (at < length && queue_holds(&child->out) <= MOST_FOR_CHILD) {
+    while (at < length && node_holds(node) <= MOST_FOR_NODE) {
         struct scanner found = {0};
         const char *frame = bytes + at;
         if (scan(&found, frame, length - at, MOST_STRINGS - 1) != FRAME)
             break;
-        if (!child_lend(child, address, found.count, frame + found.body, found.at - found.body, lent))
+        if (!node_lend(node, address, found.count, frame + found.body, found.at - found.body, lent))
             return false;
         at += found.at;
     }
@@ -105,7 +105,7 @@ static void tell_stranger(struct bus *bus, uint64_t node) {
 }
 
 /* Takes a message: greetings say who the sender is, and others have frames. False where something failed. */
-static bool take_message(struct bus *bus, natsMsg *message, struct child *child, size_t *lent) {
+static bool take_message(struct bus *bus, natsMsg *message, struct node *node, size_t *lent) {
     struct subject subject;
     size_t length = (size_t)natsMsg_GetDataLength(message);
     const char *bytes = length == 0 ? "" : natsMsg_GetData(message);
@@ -117,7 +117,7 @@ static bool take_message(struct bus *bus, natsMsg *message, struct child *child,
     if (hearing == STRANGE && good)
         tell_stranger(bus, subject.from);
     if (hearing == HEARD && !greets)
-        return hand_on(bus, subject.from, bytes, length, child, lent);
+        return hand_on(bus, subject.from, bytes, length, node, lent);
     if (!greets || length > 0)
         bus->lost += frames_in(bytes, length);
     else if (hearing == HEARD && subject.from == bus->peers.own && subject.to_all)
@@ -127,15 +127,15 @@ static bool take_message(struct bus *bus, natsMsg *message, struct child *child,
     return true;
 }
 
-/* A message in which long frames lie is freed when the child has them, and any other one now. */
-bool bus_serve(struct bus *bus, struct child *child, bool changed, bool readable) {
+/* A message in which long frames lie is freed when the node has them, and any other one now. */
+bool bus_serve(struct bus *bus, struct node *node, bool changed, bool readable) {
     bool good = connection_serve(&bus->connection, changed, readable);
     natsMsg *message;
     while (good && (message = connection_next(&bus->connection)) != NULL) {
         size_t lent = 0;
-        good = take_message(bus, message, child, &lent);
+        good = take_message(bus, message, node, &lent);
         if (lent > 0)
-            queue_own(&child->out, spent_add, message, (size_t)natsMsg_GetDataLength(message) - lent);
+            node_own(node, spent_add, message, (size_t)natsMsg_GetDataLength(message) - lent);
         else
             spent_add(message);
     }
@@ -158,6 +158,10 @@ void bus_flush(struct bus *bus) {
         if (bus->bundles[place].count > 0)
             send_bundle(bus, &bus->bundles[place]);
     }
+}
+
+void bus_write(struct bus *bus) {
+    connection_write(&bus->connection);
 }
 
 /* The frames that wait for a node, or an empty bundle for it. */

@@ -9,7 +9,7 @@
 #define BUS_H
 
 #include "bundle.h"
-#include "child.h"
+#include "node.h"
 #include "connection.h"
 #include "peers.h"
 
@@ -27,9 +27,9 @@ struct bus {
  * comes. False, with a message, where the folder's files are damaged or an option is refused. */
 bool bus_open(struct bus *bus, int epoll, const struct bus_options *options, const char *node, const char *folder);
 
-/* Reads and writes, and hands the frames that came to the child. `changed` and `readable` say what the host was woken
+/* Reads and writes, and hands the frames that came to the node. `changed` and `readable` say what the host was woken
  * for. False where the connection is closed for good, where NATS refuses this node, or where something else failed. */
-bool bus_serve(struct bus *bus, struct child *child, bool changed, bool readable);
+bool bus_serve(struct bus *bus, struct node *node, bool changed, bool readable);
 
 /* A frame goes to a node, with the next flush at the latest: `count` strings, whose bytes are `body`. It may not change
  * before, and the head of its frame in front of it is overwritten. A frame that cannot be sent is dropped. */
@@ -37,6 +37,9 @@ void bus_send(struct bus *bus, uint64_t node, size_t count, char *body, size_t l
 
 /* Sends what waits. */
 void bus_flush(struct bus *bus);
+
+/* Writes what was sent and waits for NATS, as far as NATS takes it. */
+void bus_write(struct bus *bus);
 
 /* Greets all other nodes. */
 void bus_greet(struct bus *bus);

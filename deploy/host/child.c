@@ -1,6 +1,7 @@
 #define _GNU_SOURCE
 #include "child.h"
 #include "say.h"
+#include "watch.h"
 
 #include <errno.h>
 #include <fcntl.h>
@@ -15,9 +16,11 @@
 
 enum {
     PIPE_SIZE = 1 << 20,    /* takes more in one turn of the loop; the system may refuse it, which does no harm */
-    FULL_CHILD = 1 << 20,   /* with so many bytes waiting for the child, no client is read */
     LEAST_READ = 64 << 10   /* the child's output is read into at least so much room */
 };
+
+/* The status with which the node program ends when it could not write or sync its log. */
+enum { LOG_LOST = 3 };
 
 /*
  * In the child: becomes the node program, which ends where the host ends. For each frame it takes and frees many
@@ -40,8 +43,10 @@ static void become(int input, int output, pid_t host, char *const arguments[]) {
     _exit(127);
 }
 
-bool child_start(struct child *child, const char *program, const char *file, const char *node, const char *folder) {
+bool child_start(struct child *child, int epoll, const char *program, const char *file, const char *number,
+                 const char *folder) {
     int input[2], output[2];
+    uint32_t watched = 0;
     if (pipe2(input, O_CLOEXEC) != 0 || pipe2(output, O_CLOEXEC) != 0) {
         say("cannot make a pipe: %s", strerror(errno));
         return false;
@@ -53,7 +58,7 @@ bool child_start(struct child *child, const char *program, const char *file, con
         return false;
     }
     if (child->process == 0) {
-        char *const arguments[] = {(char *)program, (char *)file, (char *)node, (char *)folder, NULL};
+        char *const arguments[] = {(char *)program, (char *)file, (char *)number, (char *)folder, NULL};
         become(input[0], output[1], host, arguments);
     }
     close(input[0]);
@@ -64,84 +69,60 @@ bool child_start(struct child *child, const char *program, const char *file, con
     fcntl(child->from, F_SETFL, O_NONBLOCK);
     fcntl(child->to, F_SETPIPE_SZ, PIPE_SIZE);
     fcntl(child->from, F_SETPIPE_SZ, PIPE_SIZE);
-    return true;
+    return watch(epoll, child->from, FROM_NODE, &watched, EPOLLIN);
 }
 
-bool child_lend(struct child *child, const char *address, size_t count, const char *body, size_t length, size_t *lent) {
-    char head[LONGEST_HEAD];
-    size_t before = child->out.length;
-    if (!queue_add(&child->out, head, put_head(head, count, address))
-        || !queue_lend(&child->out, body, length, lent))
-        return false;
-    child->queued += child->out.length - before;
-    return true;
-}
-
-bool child_pass(struct child *child, const char *address, size_t count, const char *body, size_t length) {
-    size_t lent = 0;
-    if (!child_lend(child, address, count, body, length, &lent))
-        return false;
-    if (lent > 0)
-        child_write(child);
-    return lent == 0 || queue_settle(&child->out);
-}
-
-bool child_send(struct child *child, const char *address, size_t count, const char *body, size_t length) {
-    char head[LONGEST_HEAD];
-    size_t before = child->out.length;
-    if (!queue_add(&child->out, head, put_head(head, count, address)) || !queue_add(&child->out, body, length))
-        return false;
-    child->queued += child->out.length - before;
-    return true;
-}
-
-bool child_tick(struct child *child, size_t count, const char *heard, size_t length) {
+size_t child_unread(const struct child *child) {
     int unread = 0;
     ioctl(child->to, FIONREAD, &unread);
-    if (child->tick_end > child->queued - child->out.length - (size_t)unread)
-        return true;
-    if (!child_send(child, "tick", count, heard, length))
-        return false;
-    child->tick_end = child->queued;
-    return true;
+    return (size_t)unread;
 }
 
-bool child_is_full(const struct child *child) {
-    return queue_holds(&child->out) >= FULL_CHILD;
+bool child_watch(struct child *child, int epoll, bool waits) {
+    return watch(epoll, child->to, TO_NODE, &child->to_watched, waits ? EPOLLOUT : 0);
 }
 
-/* A frame that has begun gets all the room that it needs, so that its bytes are moved once at most. */
-ssize_t child_read(struct child *child) {
-    struct buffer *in = &child->in;
-    size_t length = buffer_length(in), missing = child->scanner.need > length ? child->scanner.need - length : 0;
-    size_t least = missing > LEAST_READ ? missing : LEAST_READ;
-    size_t room = length + least > KEPT_ROOM ? length + least : KEPT_ROOM;
-    if (in->room - in->end < least && !buffer_resize(in, room)) {
-        errno = ENOMEM;
-        return -1;
-    }
-    ssize_t count = read(child->from, in->bytes + in->end, in->room - in->end);
-    if (count > 0)
-        in->end += (size_t)count;
-    return count;
-}
-
-void child_write(struct child *child) {
-    if (!queue_write(&child->out, child->to) && errno != EPIPE)
+void child_write(struct child *child, struct queue *out) {
+    if (!queue_write(out, child->to) && errno != EPIPE)
         say("cannot write to the node program: %s", strerror(errno));
 }
 
-int child_stop(struct child *child) {
-    int status = 0;
+/* A frame that has begun gets all the room that it needs, so that its bytes are moved once at most. */
+enum coming child_read(struct child *child, struct buffer *in, size_t need) {
+    size_t length = buffer_length(in), missing = need > length ? need - length : 0;
+    size_t least = missing > LEAST_READ ? missing : LEAST_READ;
+    size_t room = length + least > KEPT_ROOM ? length + least : KEPT_ROOM;
+    if (in->room - in->end < least && !buffer_resize(in, room))
+        return HAS_FAILED;
+    ssize_t count = read(child->from, in->bytes + in->end, in->room - in->end);
+    if (count > 0)
+        in->end += (size_t)count;
+    if (count >= 0)
+        return count == 0 ? HAS_ENDED : FRAMES;
+    if (errno == EAGAIN || errno == EINTR)
+        return NOTHING;
+    say("cannot read from the node program: %s", strerror(errno));
+    return HAS_FAILED;
+}
+
+void child_stop(struct child *child) {
     close(child->to);
     close(child->from);
     kill(child->process, SIGTERM);
-    for (int waits = 0; waits < 500 && waitpid(child->process, &status, WNOHANG) == 0; waits++) {
+    for (int waits = 0; waits < 500 && waitpid(child->process, &child->status, WNOHANG) == 0; waits++) {
         if (waits == 300)
             kill(child->process, SIGKILL);
         nanosleep(&(struct timespec){.tv_nsec = 10000000}, NULL);
     }
-    queue_free(&child->out);
-    buffer_free(&child->in);
-    return status;
+}
+
+void child_say_end(const struct child *child) {
+    if (WIFSIGNALED(child->status))
+        say("the node program was ended by signal %d", WTERMSIG(child->status));
+    else
+        say("the node program ended with status %d", WEXITSTATUS(child->status));
+}
+
+int child_status(const struct child *child) {
+    return WIFEXITED(child->status) && WEXITSTATUS(child->status) == LOG_LOST ? LOG_LOST : 1;
 }

@@ -81,7 +81,7 @@ static void write_output(struct client *client) {
 
 /* Where so much waited for it that it was not read, and now does no longer, it is served once more. Nothing is written
  * behind the last look at what waits: it could then be neither read nor written to, and nobody would wait for it. */
-bool client_serve(struct client *client, struct child *child, struct share *share) {
+bool client_serve(struct client *client, struct node *node, struct share *share) {
     uint32_t events = client->events;
     bool readable = events & (EPOLLIN | EPOLLHUP);
     client->events = 0;
@@ -91,7 +91,7 @@ bool client_serve(struct client *client, struct child *child, struct share *shar
     if (client->state == LINGERING && readable)
         input_discard(client);
     for (bool goes_on = true; goes_on && client->state == OPEN; readable = false) {
-        if (!input_serve(client, child, share, readable))
+        if (!input_serve(client, node, share, readable))
             return false;
         bool was_full = commands_are_stopped(client);
         write_output(client);
@@ -101,8 +101,8 @@ bool client_serve(struct client *client, struct child *child, struct share *shar
     return true;
 }
 
-uint32_t client_wants(const struct client *client, const struct child *child) {
-    bool reads = client->state == LINGERING || input_is_read(client, child);
+uint32_t client_wants(const struct client *client, const struct node *node) {
+    bool reads = client->state == LINGERING || input_is_read(client, node);
     bool writes = buffer_length(&client->out) > 0;
     return EPOLLERR | (reads ? EPOLLIN : 0) | (writes ? EPOLLOUT : 0);
 }
@@ -175,12 +175,12 @@ static void count_taken(struct client *client) {
     client->untaken = untaken;
 }
 
-bool client_tick(struct client *client, const struct child *child, unsigned patience) {
+bool client_tick(struct client *client, const struct node *node, unsigned patience) {
     if (client->state == LINGERING && ++client->quiet == LINGER)
         client->state = BROKEN;
     if (client->state >= LINGERING)
         return false;
-    bool sends = buffer_length(&client->in) > 0 && input_is_read(client, child);
+    bool sends = buffer_length(&client->in) > 0 && input_is_read(client, node);
     bool takes = buffer_length(&client->out) > 0;
     count_taken(client);
     client->quiet = sends ? client->quiet + 1 : 0;
@@ -195,10 +195,10 @@ bool client_tick(struct client *client, const struct child *child, unsigned pati
     return client->stuck > patience || client->quiet > patience;
 }
 
-bool client_leaves(struct client *client, struct child *child) {
+bool client_leaves(struct client *client, struct node *node) {
     char address[LONGEST_ADDRESS];
     snprintf(address, sizeof address, "client %" PRIu64, client->number);
-    return client->asked == 0 || child_send(child, address, 0, "", 0);
+    return client->asked == 0 || node_send(node, address, 0, "", 0);
 }
 
 void client_free(struct client *client) {

@@ -3,10 +3,10 @@
 #define CLIENT_H
 
 #include "answer.h"
-#include "child.h"
+#include "node.h"
 #include "share.h"
 
-enum { MOST_UNANSWERED = 1024 };  /* commands of one client that the child has not answered */
+enum { MOST_UNANSWERED = 1024 };  /* commands of one client that the node has not answered */
 
 /*
  * The states of a connection, in order. Refused: its input was no command, or the rest of one may not come, and it is
@@ -42,11 +42,11 @@ struct client {
 /* A client that has just connected. NULL, with a message, where memory is refused. */
 struct client *client_new(uint64_t number, int descriptor);
 
-/* Reads, hands whole commands to the child while it takes them, and writes. False where memory is refused. */
-bool client_serve(struct client *client, struct child *child, struct share *share);
+/* Reads, hands whole commands to the node while it takes them, and writes. False where memory is refused. */
+bool client_serve(struct client *client, struct node *node, struct share *share);
 
 /* The events for which it has to be waited for now. */
-uint32_t client_wants(const struct client *client, const struct child *child);
+uint32_t client_wants(const struct client *client, const struct node *node);
 
 /*
  * Takes an answer to its oldest unanswered command, which lies in memory of `room` bytes. A long answer is written from
@@ -71,13 +71,13 @@ bool client_is_slow(const struct client *client);
 void client_moved(struct client *client, size_t count);
 
 /* Counts how long it lets the host wait. True where it has just been ended, since that was longer than `patience`. */
-bool client_tick(struct client *client, const struct child *child, unsigned patience);
+bool client_tick(struct client *client, const struct node *node, unsigned patience);
 
 /* Counts what it holds. */
 void client_count(struct client *client, struct share *share);
 
-/* Closes the connection, and tells a child that has heard of it. False where memory is refused. */
-bool client_leaves(struct client *client, struct child *child);
+/* Closes the connection, and tells a node that has heard of it. False where memory is refused. */
+bool client_leaves(struct client *client, struct node *node);
 
 void client_free(struct client *client);
 

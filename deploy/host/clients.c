@@ -42,7 +42,7 @@ static size_t free_slot(const struct clients *clients) {
     return slot;
 }
 
-/* What the child still has of its commands counts for some time, since the child does not say when it has ended them.
+/* What the node still has of its commands counts for some time, since the node does not say when it has ended them.
  * */
 static void free_client(struct clients *clients, struct client *client) {
     clients->slots[slot_of(client)] = NULL;
@@ -76,36 +76,36 @@ void clients_accept(struct clients *clients) {
         free_client(clients, client);
 }
 
-/* A client that waits for room or for the child goes on as soon as others leave room: so it is served at each turn. */
-static bool is_held_up(const struct client *client, const struct child *child) {
-    return client->state == OPEN && (client->waits || child_is_full(child));
+/* A client that waits for room or for the node goes on as soon as others leave room: so it is served at each turn. */
+static bool is_held_up(const struct client *client, const struct node *node) {
+    return client->state == OPEN && (client->waits || node_is_full(node));
 }
 
-static bool serve(struct clients *clients, struct client *client, struct child *child) {
+static bool serve(struct clients *clients, struct client *client, struct node *node) {
     client->is_due = false;
-    if (!client_serve(client, child, &clients->share))
+    if (!client_serve(client, node, &clients->share))
         return false;
     if (client->state == BROKEN) {
-        bool told = client_leaves(client, child);
+        bool told = client_leaves(client, node);
         free_client(clients, client);
         return told;
     }
-    if (is_held_up(client, child))
+    if (is_held_up(client, node))
         mark_due(clients, client);
-    clients->held_up |= client->state == OPEN && child_is_full(child);
+    clients->held_up |= client->state == OPEN && node_is_full(node);
     uint32_t source = CLIENTS + (uint32_t)slot_of(client);
-    return watch(clients->epoll, client->descriptor, source, &client->watched, client_wants(client, child));
+    return watch(clients->epoll, client->descriptor, source, &client->watched, client_wants(client, node));
 }
 
 /* Those that are held up come first at the next turn. */
-bool clients_serve(struct clients *clients, struct child *child) {
+bool clients_serve(struct clients *clients, struct node *node) {
     static struct client *served[MOST_CLIENTS];
     size_t count = clients->due_count;
     memcpy(served, clients->due, count * sizeof *served);
     clients->due_count = 0;
     clients->held_up = false;
     for (size_t turn = 0; turn < count; turn++) {
-        if (!serve(clients, served[turn], child))
+        if (!serve(clients, served[turn], node))
             return false;
     }
     return true;
@@ -159,7 +159,7 @@ void clients_keep(struct clients *clients, uint64_t number, const struct buffer 
     settle(clients, client);
 }
 
-void clients_tick(struct clients *clients, const struct child *child) {
+void clients_tick(struct clients *clients, const struct node *node) {
     clients->paused = false;
     share_tick(&clients->share);
     for (size_t slot = 0; slot < clients->top; slot++) {
@@ -167,7 +167,7 @@ void clients_tick(struct clients *clients, const struct child *child) {
         if (client == NULL)
             continue;
         enum state before = client->state;
-        if (client_tick(client, child, clients->patience))
+        if (client_tick(client, node, clients->patience))
             clients->late++;
         if (client->state != before)
             mark_due(clients, client);

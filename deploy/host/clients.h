@@ -15,7 +15,7 @@ struct clients {
     size_t top;         /* all slots from this one on are free */
     struct client *due[MOST_CLIENTS];  /* the clients that are served at the next turn */
     size_t due_count;
-    bool held_up;       /* at the last turn, some client could not go on because the child was full */
+    bool held_up;       /* at the last turn, some client could not go on because the node was full */
     struct share share;
     unsigned patience;  /* ticks for a client to send or to take something */
     uint64_t late, crowded, said;  /* connections that were ended as too slow, or for their memory; reported so far */
@@ -35,7 +35,7 @@ void clients_accept(struct clients *clients);
 
 /* Serves the clients that are due: those to which something happened, those that got an answer, and those that could
  * not go on at their last turn because of others. False where memory is refused. */
-bool clients_serve(struct clients *clients, struct child *child);
+bool clients_serve(struct clients *clients, struct node *node);
 
 /* Hands an answer to a client. Without strings the connection is closed behind what was written. Gives how many bytes
  * at the end of the answer wait for `clients_keep`, as `client_answer` does. */
@@ -45,7 +45,7 @@ size_t clients_answer(struct clients *clients, uint64_t number, struct answer *a
 void clients_keep(struct clients *clients, uint64_t number, const struct buffer *memory);
 
 /* Counts how long clients let the host wait. */
-void clients_tick(struct clients *clients, const struct child *child);
+void clients_tick(struct clients *clients, const struct node *node);
 
 /* Reports how many connections were ended as too slow or for their memory, where more were since the last report. */
 void clients_report(struct clients *clients);

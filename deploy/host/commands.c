@@ -9,16 +9,16 @@
 enum {
     FULL_UNANSWERED = 1 << 20,  /* bytes of unanswered commands of a client; a longer command is handed on alone */
     FULL_CLIENT = 1 << 20,      /* with so many bytes waiting for a client, that client is not read */
-    COST_OF_STRING = 64         /* bytes that the child needs for a string, and for a command, besides those in it */
+    COST_OF_STRING = 64         /* bytes that the node needs for a string, and for a command, besides those in it */
 };
 
 bool commands_are_stopped(const struct client *client) {
     return buffer_length(&client->out) >= FULL_CLIENT;
 }
 
-bool commands_are_taken(const struct client *client, const struct child *child) {
+bool commands_are_taken(const struct client *client, const struct node *node) {
     return client->asked - client->answered < MOST_UNANSWERED && client->unanswered < FULL_UNANSWERED
-        && !commands_are_stopped(client) && !child_is_full(child);
+        && !commands_are_stopped(client) && !node_is_full(node);
 }
 
 /* Finds the next command: a frame, or the words of a line. */
@@ -43,16 +43,16 @@ static bool is_alone(const struct client *client, const struct buffer *from, con
         && command->used == buffer_length(from) && command->length >= from->room / 2;
 }
 
-/* A long command goes out from where it lies: its memory is the child's from now on, or else it is written at once. */
-static bool send_command(struct client *client, struct buffer *from, struct child *child, const struct command *command,
+/* A long command goes out from where it lies: its memory is the node's from now on, or else it is written at once. */
+static bool send_command(struct client *client, struct buffer *from, struct node *node, const struct command *command,
                          size_t cost) {
     char address[LONGEST_ADDRESS];
     size_t lent = 0, count = command->count, length = command->length;
     snprintf(address, sizeof address, "client %" PRIu64, client->number);
-    bool sent = is_alone(client, from, command) ? child_lend(child, address, count, command->body, length, &lent)
-                                                : child_pass(child, address, count, command->body, length);
+    bool sent = is_alone(client, from, command) ? node_lend(node, address, count, command->body, length, &lent)
+                                                : node_pass(node, address, count, command->body, length);
     if (lent > 0) {
-        queue_own(&child->out, free, from->bytes, from->room - lent);
+        node_own(node, free, from->bytes, from->room - lent);
         *from = (struct buffer){0};
     }
     client->costs[client->asked++ % MOST_UNANSWERED] = (uint32_t)cost;
@@ -60,29 +60,29 @@ static bool send_command(struct client *client, struct buffer *from, struct chil
     return sent;
 }
 
-/* Hands a command to the child, or answers it, if the client has not given the password. One without words gets no
- * answer in Redis, and the child does not get it. */
-static bool hand_on(struct client *client, struct buffer *from, struct child *child, struct command *command,
+/* Hands a command to the node, or answers it, if the client has not given the password. One without words gets no
+ * answer in Redis, and the node does not get it. */
+static bool hand_on(struct client *client, struct buffer *from, struct node *node, struct command *command,
                     size_t cost) {
     const char *answer = command->count == 0 ? NULL : password_judge(&client->known, command);
     bool done = answer != NULL ? buffer_add(&client->out, answer, strlen(answer))
-        : command->count == 0 || send_command(client, from, child, command, cost);
+        : command->count == 0 || send_command(client, from, node, command, cost);
     buffer_drop(from, command->used);
     client->scanner = (struct scanner){0};
     return done;
 }
 
-bool commands_forward(struct client *client, struct buffer *from, struct child *child, struct share *share,
+bool commands_forward(struct client *client, struct buffer *from, struct node *node, struct share *share,
                       const char **error) {
     struct command command;
     client->found = FRAME;
-    while (commands_are_taken(client, child)
+    while (commands_are_taken(client, node)
            && (client->found = next_command(client, from, &command, error)) == FRAME) {
         size_t cost = command.length + COST_OF_STRING * (command.count + 1);
         bool fits = client->unanswered + cost <= FULL_UNANSWERED && share_has(share, &client->part, cost);
         if (client->unanswered > 0 && !fits)
             break;
-        if (!hand_on(client, from, child, &command, cost))
+        if (!hand_on(client, from, node, &command, cost))
             return false;
         client_count(client, share);
     }

@@ -106,6 +106,11 @@ static bool has_unsent(struct connection *connection) {
     return writes;
 }
 
+void connection_write(struct connection *connection) {
+    if (has_unsent(connection))
+        natsConnection_ProcessWriteEvent(connection->nats);
+}
+
 bool connection_serve(struct connection *connection, bool changed, bool readable) {
     uint64_t changes;
     if (changed && read(connection->wake, &changes, sizeof changes) < 0) {
@@ -114,8 +119,7 @@ bool connection_serve(struct connection *connection, bool changed, bool readable
     }
     if (readable)
         natsConnection_ProcessReadEvent(connection->nats);
-    if (has_unsent(connection))
-        natsConnection_ProcessWriteEvent(connection->nats);
+    connection_write(connection);
     return true;
 }
 

@@ -53,6 +53,9 @@ bool connection_watch(struct connection *connection);
 /* Writes, and reads. `changed` and `readable` say which of the two descriptors can be read. False where it cannot. */
 bool connection_serve(struct connection *connection, bool changed, bool readable);
 
+/* Writes what waits for NATS, as far as NATS takes it. */
+void connection_write(struct connection *connection);
+
 /* Takes the next message to this node, or to all nodes. NULL where none is left. */
 natsMsg *connection_next(struct connection *connection);
 

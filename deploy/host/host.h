@@ -6,21 +6,20 @@
 #include "clients.h"
 #include "quorum.h"
 
-/* What the loop goes on with: it runs, it was told to stop, the child ended, or something failed that was reported. */
+/* What the loop goes on with: it runs, it was told to stop, the node ended, or something failed that was reported. */
 enum course { RUNS, STOPS, ENDED, FAILS };
 
 struct host {
-    struct child child;
+    struct node node;
     struct clients clients;
     struct bus bus;
     struct quorum quorum;
     int epoll, signals, timer, greetings;
-    uint32_t to_child_watched;  /* the events for which the pipe to the child is waited for */
     uint64_t ticks;
     bool hurries;               /* the next turn waits for nothing: clients that were held up can go on */
 };
 
-/* Reads what the child wrote, and sends the frames that are whole where their addresses say. */
-enum course route_frames(struct host *host);
+/* Reads what the node wrote, and sends the frames that are whole where their addresses say. */
+enum coming route_frames(struct host *host);
 
 #endif

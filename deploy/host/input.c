@@ -13,7 +13,7 @@ enum {
 
 static const char NO_MEMORY[] = "-ERR out of memory\r\n";
 
-/* What the last read from a client brought. Whole commands go to the child from here. What is left behind the client's
+/* What the last read from a client brought. Whole commands go to the node from here. What is left behind the client's
  * turn is kept in its own buffer. */
 static char memory[LONG + 2 * ONE_READ];
 static struct buffer fresh = {.bytes = memory, .room = sizeof memory};
@@ -22,9 +22,9 @@ static size_t least_of(size_t one, size_t other) {
     return one < other ? one : other;
 }
 
-bool input_is_read(const struct client *client, const struct child *child) {
+bool input_is_read(const struct client *client, const struct node *node) {
     return client->state == OPEN && !client->ended && !client->waits && client->found == MORE
-        && commands_are_taken(client, child);
+        && commands_are_taken(client, node);
 }
 
 /* The room without which no more of a command can be read. */
@@ -136,13 +136,13 @@ static bool keep_fresh(struct client *client, const struct share *share) {
 }
 
 /* What the client's own buffer has came before what was read now. */
-static bool forward_all(struct client *client, struct child *child, struct share *share, const char **error) {
+static bool forward_all(struct client *client, struct node *node, struct share *share, const char **error) {
     bool has_begun = buffer_length(&client->in) > 0;
-    if (has_begun && !commands_forward(client, &client->in, child, share, error))
+    if (has_begun && !commands_forward(client, &client->in, node, share, error))
         return false;
     has_begun = buffer_length(&client->in) > 0;
     while (!has_begun) {
-        if (!commands_forward(client, &fresh, child, share, error))
+        if (!commands_forward(client, &fresh, node, share, error))
             return false;
         if (!read_end(client, share))
             break;
@@ -152,21 +152,21 @@ static bool forward_all(struct client *client, struct child *child, struct share
     if (!keep_fresh(client, share))
         client_refuse(client, NO_MEMORY);
     else if (has_begun && client->found == MORE)
-        return commands_forward(client, &client->in, child, share, error);
+        return commands_forward(client, &client->in, node, share, error);
     return true;
 }
 
-bool input_serve(struct client *client, struct child *child, struct share *share, bool readable) {
+bool input_serve(struct client *client, struct node *node, struct share *share, bool readable) {
     const char *error = NULL;
     buffer_drop(&fresh, buffer_length(&fresh));
     bool has_waited = client->waits;
-    if (has_waited || (readable && input_is_read(client, child))) {
+    if (has_waited || (readable && input_is_read(client, node))) {
         size_t room = room_of(client, share);
         size_t need = needed_room(client);
-        if (room > 0 && input_is_read(client, child))
+        if (room > 0 && input_is_read(client, node))
             note_read(client, need >= LONG ? read_long(client, room, need) : read_short(client, room));
     }
-    if (client->state == OPEN && !forward_all(client, child, share, &error))
+    if (client->state == OPEN && !forward_all(client, node, share, &error))
         return false;
     if (client->state != OPEN)
         return true;

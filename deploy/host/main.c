@@ -7,6 +7,7 @@
 #include "options.h"
 #include "password.h"
 #include "say.h"
+#include "streams.h"
 #include "watch.h"
 
 #include <errno.h>
@@ -17,11 +18,8 @@
 #include <string.h>
 #include <sys/signalfd.h>
 #include <sys/timerfd.h>
-#include <sys/wait.h>
 #include <unistd.h>
 
-/* The status with which the node program ends when it could not write or sync its log. */
-enum { LOG_LOST = 3 };
 enum { TICKS_OF_A_REPORT = 100, LARGE = 128 << 10, GREETING = 1000 /* milliseconds */, MOST_READY = 256 };
 
 /* A descriptor that can be read each time that so many milliseconds have passed, or -1. */
@@ -62,7 +60,7 @@ static void greet(struct host *host) {
         bus_greet(&host->bus);
 }
 
-/* Tells the child that time has passed, and which nodes were heard lately. */
+/* Tells the node that time has passed, and which nodes were heard lately. */
 static bool tick(struct host *host) {
     uint64_t passed;
     char heard[LONGEST_LIST];
@@ -73,19 +71,17 @@ static bool tick(struct host *host) {
         bus_report(&host->bus);
         clients_report(&host->clients);
     }
-    clients_tick(&host->clients, &host->child);
+    clients_tick(&host->clients, &host->node);
     peers_miss(&host->bus.peers);
     quorum_miss(&host->quorum, &host->bus.peers);
     size_t count = peers_list(&host->bus.peers, heard, &length);
-    return child_tick(&host->child, count, heard, length);
+    return node_tick(&host->node, count, heard, length);
 }
 
 /* Waits until something is ready, and notes what: `ready` gets the events of each source but the clients. */
 static enum course wait_for_events(struct host *host, uint32_t *ready) {
     static struct epoll_event events[MOST_READY];
-    uint32_t to_child = host->child.out.length > 0 ? EPOLLOUT : 0;
-    if (!watch(host->epoll, host->child.to, TO_CHILD, &host->to_child_watched, to_child)
-        || !connection_watch(&host->bus.connection) || !clients_watch(&host->clients))
+    if (!node_watch(&host->node, host->epoll) || !connection_watch(&host->bus.connection) || !clients_watch(&host->clients))
         return FAILS;
     int count = epoll_wait(host->epoll, events, MOST_READY, host->hurries ? 0 : -1);
     if (count < 0 && errno != EINTR) {
@@ -102,17 +98,45 @@ static enum course wait_for_events(struct host *host, uint32_t *ready) {
     return RUNS;
 }
 
-/* Serves the clients. What waits for the child is written before, since clients are read no more while much of it
+/* Serves the clients. What waits for a program is written before, since clients are read no more while much of it
  * waits. */
 static bool serve_clients(struct host *host, bool accepts) {
-    struct child *child = &host->child;
-    child_write(child);
+    struct node *node = &host->node;
+    if (node->is_program)
+        node_write(node);
     if (accepts)
         clients_accept(&host->clients);
-    bool served = clients_serve(&host->clients, child);
-    child_write(child);
-    host->hurries = host->clients.held_up && !child_is_full(child);
-    return served;
+    return clients_serve(&host->clients, node);
+}
+
+static enum course course_of(enum coming coming) {
+    return coming == HAS_ENDED ? ENDED : coming == HAS_FAILED ? FAILS : RUNS;
+}
+
+/* A node in this process handles what waits. What it writes goes out at once, and so before it syncs its log, if it
+ * comes before that. */
+static enum course run_node(struct host *host) {
+    enum coming coming;
+    node_write(&host->node);
+    while ((coming = route_frames(host)) == FRAMES) {
+        bus_write(&host->bus);
+        if (!clients_serve(&host->clients, &host->node))
+            return FAILS;
+    }
+    return course_of(coming);
+}
+
+/* Hands over what waits for the node, as far as the node takes it. The next turn waits for nothing if clients can go on
+ * that were held up, or if frames still wait for a node in this process. */
+static enum course serve_node(struct host *host) {
+    struct node *node = &host->node;
+    enum course course = RUNS;
+    if (node->is_program)
+        node_write(node);
+    else
+        course = run_node(host);
+    host->hurries = (host->clients.held_up && !node_is_full(node)) || node_waits(node);
+    return course;
 }
 
 /* One turn of the loop. */
@@ -124,16 +148,18 @@ static enum course turn(struct host *host) {
         return STOPS;
     if (ready[GREETINGS] != 0)
         greet(host);
-    enum course course = ready[FROM_CHILD] != 0 ? route_frames(host) : RUNS;
+    enum course course = ready[FROM_NODE] != 0 ? course_of(route_frames(host)) : RUNS;
     bool served = (ready[TIMER] == 0 || tick(host))
-        && bus_serve(&host->bus, &host->child, ready[NATS_CHANGES] != 0, ready[NATS_SOCKET] & ~(uint32_t)EPOLLOUT)
+        && bus_serve(&host->bus, &host->node, ready[NATS_CHANGES] != 0, ready[NATS_SOCKET] & ~(uint32_t)EPOLLOUT)
         && serve_clients(host, ready[LISTENER] != 0);
-    return course == RUNS && !served ? FAILS : course;
+    if (course != RUNS)
+        return course;
+    return served ? serve_node(host) : FAILS;
 }
 
 /* Ends all, and says why. What failed has been reported before. */
 static int stop(struct host *host, enum course course) {
-    int status = child_stop(&host->child);
+    node_stop(&host->node);
     clients_report(&host->clients);
     clients_close(&host->clients);
     bus_close(&host->bus);
@@ -145,13 +171,9 @@ static int stop(struct host *host, enum course course) {
         say("told to end");
     else if (course == FAILS)
         say("cannot go on, and ends");
-    else if (WIFSIGNALED(status))
-        say("the node program was ended by signal %d", WTERMSIG(status));
     else
-        say("the node program ended with status %d", WEXITSTATUS(status));
-    if (course == STOPS)
-        return 0;
-    return WIFEXITED(status) && WEXITSTATUS(status) == LOG_LOST ? LOG_LOST : 1;
+        node_say_end(&host->node);
+    return course == STOPS ? 0 : node_status(&host->node);
 }
 
 /* A large piece of memory goes back to the system as soon as it is freed. Without this the C library keeps more and
@@ -169,15 +191,17 @@ int main(int count, char **words) {
     enum course course = RUNS;
     if (!read_options(&options, count, words))
         return 2;
+    if (!streams_fill())
+        return 1;
     if (options.password != NULL && !password_read(options.password))
         return 1;
     prepare(&host, &options);
     quorum_read(&host.quorum, options.cluster);
     if (!open_events(&host, options.tick)
-        || !clients_open(&host.clients, host.epoll, options.address, options.port)
-        || !child_start(&host.child, options.program, options.cluster, options.node, options.folder)
-        || !watch_input(&host, host.child.from, FROM_CHILD))
+        || !clients_open(&host.clients, host.epoll, options.address, options.port))
         return 1;
+    if (!node_start(&host.node, host.epoll, options.program, options.cluster, options.node, options.folder))
+        return node_status(&host.node);
     if (!bus_open(&host.bus, host.epoll, &options.bus, options.node, options.folder))
         course = FAILS;
     while (course == RUNS)

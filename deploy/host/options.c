@@ -17,7 +17,7 @@ static const char usage[] =
     "  --listen ADDRESS          where clients connect: a numeric address (127.0.0.1)\n"
     "  --port PORT               (6379; 0 takes any free port, which is printed)\n"
     "  --client-password FILE    what clients have to give by AUTH: the first line of FILE, whose mode is 0600\n"
-    "  --program PATH            the node program, started as PATH FILE NUMBER FOLDER (casd)\n"
+    "  --program PATH            a node program, started as PATH FILE NUMBER FOLDER (the node runs in this process)\n"
     "  --client-memory MEBIBYTES  what clients may hold together (128; at least 64)\n"
     "  --client-timeout SECONDS  for a client to send more of a command, or to take more of an answer (60)\n"
     "  --tick MILLISECONDS       from one tick to the next (100)\n"
@@ -68,7 +68,7 @@ static bool is_sound(const struct options *options) {
 bool read_options(struct options *options, int count, char **words) {
     static struct login login;
     const char *tick = "100", *memory = "128", *timeout = "60", *login_file = NULL;
-    *options = (struct options){.address = "127.0.0.1", .port = "6379", .program = "casd",
+    *options = (struct options){.address = "127.0.0.1", .port = "6379",
                                 .bus = {.url = "nats://127.0.0.1:4222", .prefix = "cas"}};
     const char **values[] = {&options->node, &options->cluster, &options->folder, &options->address, &options->port,
                              &options->program, &tick, &options->bus.url, &options->bus.prefix,

@@ -61,7 +61,7 @@ static bool is_login(const struct word *user, const struct word *given) {
     return is_user && differs == 0;
 }
 
-/* This command goes to the child in the place of another. */
+/* This command goes to the node in the place of another. */
 static void replace(struct command *command, size_t count, const char *body) {
     *command = (struct command){.body = body, .count = count, .length = strlen(body), .used = command->used};
 }

@@ -71,8 +71,7 @@ static int gather(struct queue *queue, struct iovec *parts) {
     return count;
 }
 
-/* Takes bytes that were written from the front. */
-static void take(struct queue *queue, size_t count) {
+void queue_drop(struct queue *queue, size_t count) {
     queue->length -= count;
     while (count > 0) {
         struct piece *piece = queue->count > 0 ? piece_at(queue, 0) : NULL;
@@ -97,7 +96,7 @@ bool queue_write(struct queue *queue, int descriptor) {
         ssize_t count = writev(descriptor, parts, gather(queue, parts));
         if (count < 0)
             return errno == EAGAIN || errno == EINTR;
-        take(queue, (size_t)count);
+        queue_drop(queue, (size_t)count);
     }
     return true;
 }

@@ -49,6 +49,9 @@ void queue_own(struct queue *queue, void (*release)(void *), void *owner, size_t
  * added behind it. False, with a message, where memory is refused. */
 bool queue_settle(struct queue *queue);
 
+/* Takes bytes from the front. */
+void queue_drop(struct queue *queue, size_t count);
+
 /* Writes until all is written or the descriptor takes no more. False where writing fails. */
 bool queue_write(struct queue *queue, int descriptor);
 

@@ -1,6 +1,6 @@
 /*
  * The memory that clients may take together, counted in bytes: the room for what was read from a connection and for the
- * rest of a command that has begun, the commands that the child has not answered, and the answers that were not written
+ * rest of a command that has begun, the commands that the node has not answered, and the answers that were not written
  * yet. Each connection has OWN_ROOM bytes of its own. What it holds beyond them counts for the limit.
  */
 #ifndef SHARE_H

@@ -7,7 +7,7 @@
 #include <sys/epoll.h>
 
 /* What can be ready: one of these, or the client of a slot, whose number is added to CLIENTS. */
-enum source { SIGNALS, TIMER, GREETINGS, FROM_CHILD, TO_CHILD, NATS_CHANGES, NATS_SOCKET, LISTENER, CLIENTS };
+enum source { SIGNALS, TIMER, GREETINGS, FROM_NODE, TO_NODE, NATS_CHANGES, NATS_SOCKET, LISTENER, CLIENTS };
 
 /* Waits for other events of a descriptor from now on. `watched` has those so far, and 0 where it is not waited for at
  * all. False, with a message, where the system refuses it. */

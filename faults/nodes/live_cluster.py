@@ -113,8 +113,9 @@ class LiveCluster:
         (self.folder / f"node-{number}").mkdir(exist_ok=True)
         index = 0 if self.network is None else number - 1
         port = self.relays.get(number, self.nats_ports[index])
+        program = ["--program", self.program] if self.program else []
         return Process([*self.words_on(number), self.host, "--node", number, "--cluster", self.file,
-                        "--folder", self.folder / f"node-{number}", "--program", self.program,
+                        "--folder", self.folder / f"node-{number}", *program,
                         "--listen", self.address_of(number), "--port", self.ports[number],
                         "--nats", f"nats://{self.address_of(number)}:{port}"], self.folder / f"node-{number}.log")
 
@@ -130,23 +131,25 @@ class LiveCluster:
             process.end(signal.SIGTERM)
 
     def kill(self, number, how=signal.SIGKILL):
-        """Kills the host; the system then kills the node program, whose lock on its folder says when it has ended. With
-        another signal, the host ends both."""
+        """Kills the host; the system then kills the node program, if there is one. The lock on the folder says when the
+        node has ended. With another signal, the host ends both."""
         self.nodes[number].end(how)
         folder = os.open(self.folder / f"node-{number}", os.O_RDONLY)
         fcntl.flock(folder, fcntl.LOCK_EX)
         os.close(folder)
 
     def programs_of(self, number):
-        """The processes of the node program that a host has started."""
+        """The processes of the node program that a host has started, if it has."""
         host = self.nodes[number].child
         return [int(child) for child in Path(f"/proc/{host.pid}/task/{host.pid}/children").read_text().split()]
 
     def kill_program(self, number):
-        """Kills the node program; the host then ends by itself."""
-        for child in self.programs_of(number):
+        """Kills the node program; the host then ends by itself. If there is none, the host is killed."""
+        programs = self.programs_of(number)
+        for child in programs:
             os.kill(child, signal.SIGKILL)
-        self.nodes[number].wait()
+        if programs:
+            self.nodes[number].wait()
         self.kill(number)
 
     def start_node(self, number):

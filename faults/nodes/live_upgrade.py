@@ -1,6 +1,7 @@
 """The story in which new programs are rolled through a cluster, one node after another, while clients read and write. The
 nodes begin with the programs of --before and --host-before. Without these options, each new program is a copy of the
-one before, under another path. Some nodes also go on from a copy of their folder, and names are moved in between."""
+one before, under another path: of the node program, or of the host, if the nodes run in their hosts. Some nodes also go
+on from a copy of their folder, and names are moved in between."""
 import shutil
 import signal
 from pathlib import Path
@@ -18,9 +19,9 @@ def upgrade(test):
     while test.goes_on(wanted):
         is_back = options.back and rounds % 2 == 1
         rounds += 1
-        program = options.before if is_back else options.program
-        test.cluster.program = shutil.copy(program, test.folder / f"program-{rounds}")
-        test.cluster.host = options.host_before if is_back else options.host
+        program, host = (options.before, options.host_before) if is_back else (options.program, options.host)
+        copy = shutil.copy(program or host, test.folder / f"program-{rounds}")
+        test.cluster.program, test.cluster.host = (copy, host) if program else (None, copy)
         for node in test.cluster.numbers:
             exchange(test, node)
             move_one(test)
@@ -41,10 +42,12 @@ def exchange(test, node):
         test.count("copied folders")
     cluster.nodes[node] = cluster.make_node(node)
     cluster.start_node(node)
-    cluster.wait_for_answer(node, (b"SET", b"exchanged", cluster.program.name.encode()), b"+OK")
+    newest = cluster.program or cluster.host
+    cluster.wait_for_answer(node, (b"SET", b"exchanged", newest.name.encode()), b"+OK")
     test.history.note("down", node, began)
-    words = [Path(f"/proc/{process}/cmdline").read_text().split("\0") for process in cluster.programs_of(node)]
-    if len(words) != 1 or str(cluster.program) not in words[0]:
+    processes = cluster.programs_of(node) if cluster.program else [cluster.nodes[node].child.pid]
+    words = [Path(f"/proc/{process}/cmdline").read_text().split("\0") for process in processes]
+    if len(words) != 1 or str(newest) not in words[0]:
         raise Broken(f"node {node} does not run its new program, but {words}")
     test.count("exchanged programs")
 

@@ -9,6 +9,12 @@ from frames import Frames, encode
 CLUSTER = "nodes 1\nn 1\nk 1\ndelta 8\nmover 1\nlater\nticks 50\n"
 
 
+def is_embedded(program):
+    """Whether this is piped.c, a node as the host has it in its process. The library says where an error lies, and not
+    which one it is, and its calls of the system come in another order at a start."""
+    return Path(program).name == "piped"
+
+
 def command(*words):
     """The frame of a command of the connection 1."""
     return encode([b"client 1", *words])

@@ -16,7 +16,7 @@ sys.path[:0] = [str(HERE), str(HERE.parents[1] / "deploy" / "test")]
 sys.dont_write_bytecode = True
 
 from frames import Frames  # noqa: E402
-from one_node import CLUSTER, OneNode, command  # noqa: E402
+from one_node import CLUSTER, OneNode, command, is_embedded  # noqa: E402
 
 # The node keeps the fragments of the newest finished write alone.
 DROPPING = CLUSTER.replace("delta 8", "delta 0")
@@ -31,12 +31,22 @@ ANSWERS = [b"$%d\r\n%s\r\n" % (len(value), value) if value else b"$-1\r\n" for v
 # the large value, which is in one of them, is written by itself, as are the bytes before it and behind it.
 CALLS = ["open .", *["open log"] * 3, "fdatasync log", "fsync .", "unlink log.new", "open log.new",
          *["write log.new"] * 4, "fdatasync log.new", "rename log.new", "fsync .", "write log", "fdatasync log"]
-WRITING = range(CALLS.index("open log.new"), CALLS.index("rename log.new"))
-EXCHANGE = range(CALLS.index("rename log.new"), CALLS.index("write log"))
+# A node in the host writes all of the new log at once, behind the entries of the start.
+EMBEDDED_CALLS = ["open .", "open log", "unlink log.new", "fdatasync log", "fsync .", "write log", "fdatasync log",
+                  "open log.new", "write log.new", "fdatasync log.new", "rename log.new", "fsync ."]
 
 
 class Rewriting(unittest.TestCase):
-    program, library, long_log, start_length = None, None, None, None
+    program, library, long_log, start_length, calls = None, None, None, None, CALLS
+
+    def writing(self):
+        """The places of the calls that write the new log."""
+        return range(self.calls.index("open log.new"), self.calls.index("rename log.new"))
+
+    def exchange(self):
+        """The places of those that put it in the place of the old one."""
+        first = self.calls.index("rename log.new")
+        return range(first, self.calls.index("fsync .", first) + 1)
 
     def setUp(self):
         self.node = self.enterContext(OneNode(self.program, DROPPING))
@@ -96,12 +106,12 @@ class Rewriting(unittest.TestCase):
         folder is synced."""
         status, _, said = self.start()
         self.assertEqual((status, said), (0, ""))
-        self.assertEqual(self.list.read_text().splitlines(), CALLS)
+        self.assertEqual(self.list.read_text().splitlines(), self.calls)
 
     def test_kills(self):
         """The program is killed before each call, and after half of each write."""
         for how in ("kill", "half"):
-            for nth, call in enumerate(CALLS, 1):
+            for nth, call in enumerate(self.calls, 1):
                 if how == "half" and not call.startswith("write"):
                     continue
                 self.reset()
@@ -114,7 +124,7 @@ class Rewriting(unittest.TestCase):
 
     def test_short_writes(self):
         """A write may write less than it is given."""
-        for nth, call in enumerate(CALLS, 1):
+        for nth, call in enumerate(self.calls, 1):
             if call.startswith("write"):
                 self.reset()
                 status, _, said = self.start(nth, "short")
@@ -125,28 +135,28 @@ class Rewriting(unittest.TestCase):
     def test_second_log_fails(self):
         """The disk is full, or fails, while the new log is written: the node goes on with the old one."""
         for how, text in (("full", "No space left on device (os error 28)"), ("fail", "Input/output error (os error 5)")):
-            for place in WRITING:
+            for place in self.writing():
                 self.reset()
                 status, written, said = self.start(place + 1, how)
-                self.assertEqual((status, said), (0, f"casd: the log was not written anew: {text}\n"), CALLS[place])
+                self.assertEqual((status, said), (0, f"casd: the log was not written anew: {text}\n"), self.calls[place])
                 self.assertEqual(written.count(b"client 1"), len(QUESTIONS))
                 self.assertEqual([file.name for file in self.node.folder.iterdir()], ["log"])
                 now = self.node.log.read_bytes()
-                self.assertTrue(now.startswith(self.long_log), CALLS[place])
+                self.assertTrue(now.startswith(self.long_log), self.calls[place])
                 self.assertEqual(len(now), len(self.long_log) + self.start_length)
-                self.values_are_there(CALLS[place])
-                self.is_short(CALLS[place])
+                self.values_are_there(self.calls[place])
+                self.is_short(self.calls[place])
 
     def test_exchange_fails(self):
         """If the new log cannot be put in the place of the old one, or the folder cannot be synced, the node stops. It
         does not know which log is there after the machine stops."""
-        for place in EXCHANGE:
+        for place in self.exchange():
             self.reset()
             found = self.start(place + 1, "fail")
             text = "casd: cannot exchange the log: Input/output error (os error 5)\n"
-            self.assertEqual(found, (3, b"", text), CALLS[place])
-            self.values_are_there(CALLS[place])
-            self.is_short(CALLS[place])
+            self.assertEqual(found, (3, b"", text), self.calls[place])
+            self.values_are_there(self.calls[place])
+            self.is_short(self.calls[place])
 
     def test_running(self):
         """The log becomes shorter while the node runs. What was written before and after that is there."""
@@ -195,6 +205,8 @@ class Rewriting(unittest.TestCase):
 
 if __name__ == "__main__":
     Rewriting.program = str(Path(sys.argv.pop(1)).resolve())
+    if is_embedded(Rewriting.program):
+        Rewriting.calls = EMBEDDED_CALLS
     with tempfile.TemporaryDirectory() as folder:
         Rewriting.library = f"{folder}/stop_calls.so"
         subprocess.run(["cc", "-shared", "-fPIC", "-O1", "-o", Rewriting.library, HERE / "stop_calls.c"], check=True)
