@@ -19,9 +19,6 @@ enum {
     LEAST_READ = 64 << 10   /* the child's output is read into at least so much room */
 };
 
-/* The status with which the node program ends when it could not write or sync its log. */
-enum { LOG_LOST = 3 };
-
 /*
  * In the child: becomes the node program, which ends where the host ends. For each frame it takes and frees many
  * small pieces of memory. This takes less time if the C library keeps up to 200 free pieces of each size at hand,

@@ -5,4 +5,8 @@
  * that was reported. */
 enum coming { FRAMES, NOTHING, HAS_ENDED, HAS_FAILED };
 
+/* The status with which a node ends, and the host with it, if the log could not be written, synced or exchanged. The
+ * unit of systemd does not start such a node again. */
+enum { LOG_LOST = 3 };
+
 #endif

@@ -9,9 +9,8 @@
 #include <string.h>
 #include <unistd.h>
 
-/* The statuses of the program `casd`: its log could not be written, synced or exchanged; the cluster file is wrong, or
- * has no such node; anything else. */
-enum { LOG_LOST = 3, WRONG_FILE = 2, OTHER_FAULT = 1 };
+/* The other statuses of the program `casd`: the cluster file is wrong, or has no such node; anything else. */
+enum { WRONG_FILE = 2, OTHER_FAULT = 1 };
 
 static bool ends(struct embedded *node, int status) {
     node->status = status;

@@ -1,6 +1,6 @@
 /*
- * A node that runs in this process: the library `casnode`, and its log. The library takes frames, and says by tasks what
- * is to be done for them. They are carried out here, in their order, as `casnode.h` asks for it.
+ * A node that runs in this process: the library `casnode`, and its log. The library takes frames, and says by tasks
+ * what is to be done for them. They are carried out here, in their order, as `casnode.h` asks for it.
  */
 #ifndef EMBEDDED_H
 #define EMBEDDED_H

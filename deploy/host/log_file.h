@@ -21,7 +21,7 @@ struct log_file {
  * one is as it was. UNKNOWN: after a stop of the machine there may be either. */
 enum exchange { EXCHANGED, UNWRITTEN, UNKNOWN };
 
-/* Locks the folder, and opens its log, or makes it. False, with a message, where this fails; then nothing is changed. */
+/* Locks the folder, and opens its log, or makes it. False, with a message, where this fails; then all is as it was. */
 bool log_open(struct log_file *log, const char *folder);
 
 /* All bytes of the log, as memory that the system fills as it is used: a log may be longer than the memory that is

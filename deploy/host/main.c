@@ -20,7 +20,8 @@
 #include <sys/timerfd.h>
 #include <unistd.h>
 
-enum { TICKS_OF_A_REPORT = 100, LARGE = 128 << 10, GREETING = 1000 /* milliseconds */, MOST_READY = 256 };
+enum { LARGE = 128 << 10, LARGE_OF_NODE = 4 << 20, SPARE_OF_NODE = 16 << 20 };
+enum { TICKS_OF_A_REPORT = 100, GREETING = 1000 /* milliseconds */, MOST_READY = 256 };
 
 /* A descriptor that can be read each time that so many milliseconds have passed, or -1. */
 static int open_timer(long milliseconds) {
@@ -81,7 +82,8 @@ static bool tick(struct host *host) {
 /* Waits until something is ready, and notes what: `ready` gets the events of each source but the clients. */
 static enum course wait_for_events(struct host *host, uint32_t *ready) {
     static struct epoll_event events[MOST_READY];
-    if (!node_watch(&host->node, host->epoll) || !connection_watch(&host->bus.connection) || !clients_watch(&host->clients))
+    if (!node_watch(&host->node, host->epoll) || !connection_watch(&host->bus.connection)
+        || !clients_watch(&host->clients))
         return FAILS;
     int count = epoll_wait(host->epoll, events, MOST_READY, host->hurries ? 0 : -1);
     if (count < 0 && errno != EINTR) {
@@ -177,10 +179,13 @@ static int stop(struct host *host, enum course course) {
 }
 
 /* A large piece of memory goes back to the system as soon as it is freed. Without this the C library keeps more and
- * more. */
+ * more. A node in this process takes and frees pieces of a mebibyte again and again, and it takes long to get each from
+ * the system: there only larger ones go back at once, and of the others some are kept. */
 static void prepare(struct host *host, const struct options *options) {
     long patience = options->timeout * 1000 / options->tick;
-    mallopt(M_MMAP_THRESHOLD, LARGE);
+    mallopt(M_MMAP_THRESHOLD, options->program != NULL ? LARGE : LARGE_OF_NODE);
+    if (options->program == NULL)
+        mallopt(M_TRIM_THRESHOLD, SPARE_OF_NODE);
     host->clients.share.most = (size_t)options->memory << 20;
     host->clients.patience = patience < 1 ? 1 : (unsigned)patience;
 }

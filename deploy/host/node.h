@@ -19,8 +19,8 @@ struct node {
     uint64_t queued, tick_end;  /* bytes queued so far, and the end of the last tick among them */
 };
 
-/* Starts the node of this number, by a program unless that is NULL; this epoll descriptor then waits for what it writes.
- * False, with a message, where it does not start. */
+/* Starts the node of this number, by a program unless that is NULL; this epoll descriptor then waits for what it
+ * writes. False, with a message, where it does not start. */
 bool node_start(struct node *node, int epoll, const char *program, const char *file, const char *number,
                 const char *folder);
 

@@ -282,7 +282,8 @@ class Failures(unittest.TestCase):
         wrong.write_text("nonsense\n")
         if CASD.endswith("standin.py"):
             self.skipTest("the stand-in reads no cluster file so closely")
-        self.fails(r"the host of node [123] has ended with status 1(.*\n)*.*line 1", CLUSTER=str(wrong))
+        status = 1 if CASD else 2  # where the node runs in its host
+        self.fails(rf"the host of node [123] has ended with status {status}(.*\n)*.*line 1", CLUSTER=str(wrong))
 
 
 if __name__ == "__main__":

@@ -16,6 +16,7 @@ sys.dont_write_bytecode = True
 
 from at_once import MOST_TICKS, Cluster  # noqa: E402
 from log_form import bodies_of  # noqa: E402
+from one_node import is_embedded  # noqa: E402
 
 PROGRAM = sys.argv.pop(1)
 FILE = "nodes 1 2 3 4 5\nn 5\nk 3\ndelta 2\nmover {mover}\nlater {later}\nticks 10\n"
@@ -155,7 +156,8 @@ class OwnMover(unittest.TestCase):
         self.cluster.stop(*DATA, MOVER, 9)
         self.write_file(later="7 9")
         for number in (1, MOVER):
-            self.assertIn("line 5, word 2: the mover is named neither under nodes nor under later",
+            self.assertIn("has a fault in line 5" if is_embedded(PROGRAM) else
+                          "line 5, word 2: the mover is named neither under nodes nor under later",
                           self.fails_to_start(number, 2))
         self.write_file(later="6 7 9", mover=7)
         for number in (1, MOVER):

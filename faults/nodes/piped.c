@@ -1,6 +1,6 @@
 /*
- * A node as the host has it in its process (deploy/host/embedded.c), on pipes: piped FILE NODE FOLDER. It takes frames on
- * standard input and writes frames to standard output, as the program `casd` does, so that the tests of `casd` can be
+ * A node as the host has it in its process (deploy/host/embedded.c), on pipes: piped FILE NODE FOLDER. It takes frames
+ * on standard input and writes frames to standard output, as the program `casd` does, so that the tests of `casd` can be
  * run over it. `deploy/build piped` builds it.
  */
 #define _GNU_SOURCE
