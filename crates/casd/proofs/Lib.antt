@@ -1,4 +1,5 @@
 mod ThreeWordLemmas
+mod CalledLemmas
 mod CutLemmas
 mod FormLemmas
 mod StartLemmas

@@ -1,5 +1,5 @@
 //! The words that the program is given, and what it does with them.
-ghost use Rattle.std.specs.Prelude.{◌≡◌, drop, map, string_bytes};
+ghost use Rattle.std.specs.Prelude.{◌≡◌, drop};
 ghost use Rattle.casd.specs.Ending.{EndsAsCalled};
 
 use crate::fault::Fault;
@@ -42,7 +42,7 @@ pub fn run_given<W: GivenWords, G: GivenFiles, I: Read + Drop, O: Write, E: Writ
 
 // The words behind the first one, or none if there is no word.
 fn behind_first(words: &[String]) -> &[String]
-    ensures { map string_bytes result.now ≡ drop 1 (map string_bytes words.now) }
+    ensures { result.now ≡ drop 1 words.now }
 {
     match words {
         [_, rest @ ..] => rest,

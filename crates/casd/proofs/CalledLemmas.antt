@@ -1,0 +1,23 @@
+-- The words behind the name of the program.
+use Rattle.std.proofs.Common.{◌≡◌, ℕ, List, [], ◌∷◌, map, drop, Option, refl, ap, ◌∙◌, subst, inl}
+use Rattle.std.specs.Prelude.{IfSome}
+use Rattle.words.specs.Word.{Word}
+use Rattle.casd.specs.Ending.{EndsAsCalled, EndsBy}
+use Rattle.casd.proofs.CutLemmas.{Known}
+
+-- what is seen of all but the first is all but the first of what is seen
+dropped : {A : Type 0} (see : A → Word) (xs : List A) → map see (drop 1 xs) ≡ drop 1 (map see xs)
+dropped see [] = refl
+dropped see (x ∷ xs) = refl
+
+-- the program ended as the words behind the first one say, where each of them is seen as it is given
+pub as_called : {A : Type 0} (see : A → Word) (words : Option (List Word)) (xs ys : List A) (given found kept : List ℕ → Known)
+    (input held : Known) (keeps : List ℕ → Known) (holds : Known) (status : ℕ) → IfSome words (λ known. map see xs ≡ known) →
+    ys ≡ drop 1 xs → EndsBy given found kept input (map see ys) held keeps holds status →
+    EndsAsCalled words given found kept input held keeps holds status
+as_called see words xs ys given found kept input held keeps holds status known is ends = inl (
+  map see xs,
+  known,
+  subst (λ (ws : List Word). EndsBy given found kept input ws held keeps holds status)
+      (ap (λ t. map see t) is ∙ dropped see xs) ends,
+)
