@@ -1,7 +1,6 @@
 #include "bytes.h"
 
 #include <stdarg.h>
-#include <stdio.h>
 #include <stdlib.h>
 #include <string.h>
 
@@ -84,8 +83,13 @@ long number_behind(const struct frame *frame, const char *word) {
 }
 
 static void put_line(struct bytes *to, char kind, size_t number) {
-  char line[32];
-  bytes_add(to, line, (size_t)snprintf(line, sizeof line, "%c%zu\r\n", kind, number));
+  char line[32], *at = line + sizeof line;
+  *--at = '\n';
+  *--at = '\r';
+  for (bool is_first = true; is_first || number > 0; is_first = false, number /= 10)
+    *--at = (char)('0' + number % 10);
+  *--at = kind;
+  bytes_add(to, at, (size_t)(line + sizeof line - at));
 }
 
 static void put_string(struct bytes *to, const char *string) {

@@ -12,9 +12,18 @@ static size_t write_value(char *to, const struct call *call) {
   return length + call->length;
 }
 
+/* The call that writes this value to this name: a value is the place of its call, from 1 on. */
+static const struct call *value_of(const struct world *world, int name, unsigned value) {
+  if (value == 0 || value > (unsigned)world->call_count)
+    return NULL;
+  const struct call *call = &world->calls[value - 1];
+  return call->is_write && call->name == name ? call : NULL;
+}
+
 /* Sets the value that a read was answered, which has to be that of a write. */
 static void take_value(struct world *world, struct call *read, const char *answer, size_t length) {
   static char wanted[8192];
+  const struct call *call;
   const char *value = memchr(answer, '\n', length);
   if (answer[0] != '$' || value == NULL) {
     world_fault(world, "an unexpected answer to call", (unsigned)(read - world->calls));
@@ -23,13 +32,10 @@ static void take_value(struct world *world, struct call *read, const char *answe
   value++;
   size_t count = (size_t)(answer + length - value);
   read->value = count < 4 ? 0 : (unsigned)strtoul(value, NULL, 10);
-  for (int i = 0; count >= 4 && i < world->call_count; i++) {
-    const struct call *call = &world->calls[i];
-    if (call->is_write && call->value == read->value && call->name == read->name &&
-        write_value(wanted, call) == count - 2 && memcmp(wanted, value, count - 2) == 0)
-      return;
-  }
-  if (count >= 4)
+  if (count < 4)
+    return;
+  call = value_of(world, read->name, read->value);
+  if (call == NULL || write_value(wanted, call) != count - 2 || memcmp(wanted, value, count - 2) != 0)
     world_fault(world, "a value that nobody wrote, at call", (unsigned)(read - world->calls));
 }
 
@@ -37,9 +43,15 @@ static bool begins(const char *bytes, size_t length, const char *with) {
   return length >= strlen(with) && memcmp(bytes, with, strlen(with)) == 0;
 }
 
+void world_end_call(struct world *world, struct client *client) {
+  client->is_open = false;
+  if (client->call >= 0)
+    world->shown[client->call].ended = world->events;
+}
+
 static void take_answer(struct world *world, struct client *client, const char *answer, size_t length) {
   bool is_done = begins(answer, length, "+OK\r\n"), is_given_up = begins(answer, length, "-ERR no quorum");
-  client->is_open = false;
+  world_end_call(world, client);
   world->moment++;
   if (client->call < 0) {
     world->moves += is_done;
@@ -68,6 +80,7 @@ void world_answer(struct world *world, const struct frame *frame, unsigned conne
 
 static struct client *connect(struct world *world, int client, uint8_t node, int call) {
   world->begun[node]++;
+  world->events++;
   world->clients[client] = (struct client){true, ++world->connections, node, call};
   return &world->clients[client];
 }
@@ -79,7 +92,8 @@ void world_call(struct world *world, int client, uint8_t node, int name, bool is
     return;
   struct call *call = &world->calls[world->call_count];
   *call = (struct call){name, is_write, is_write ? (unsigned)world->call_count + 1 : 0, length, ++world->moment, 0};
-  struct client *it = connect(world, client, node, world->call_count++);
+  struct client *it = connect(world, client, node, world->call_count);
+  world->shown[world->call_count++] = (struct shown){client, node, world->events, 0};
   snprintf(address, sizeof address, "client %u", it->connection);
   snprintf(key, sizeof key, "name-%d", name);
   write_value(value, call);
@@ -93,7 +107,8 @@ void world_call(struct world *world, int client, uint8_t node, int name, bool is
 void world_leave(struct world *world, int client) {
   char address[24];
   snprintf(address, sizeof address, "client %u", world->clients[client].connection);
-  world->clients[client].is_open = false;
+  world_end_call(world, &world->clients[client]);
+  world->events++;
   put_words(&world->machines[world->clients[client].node].inbox, address, NULL);
 }
 

@@ -3,6 +3,20 @@
 #include <stdio.h>
 #include <string.h>
 
+/* Messages are written as they are sent, and calls as they begin. */
+void world_clear(struct world *world, uint64_t random) {
+  world->random = random;
+  memset(world->machines, 0, sizeof world->machines);
+  memset(world->clients, 0, sizeof world->clients);
+  for (int i = 0; i <= MACHINES; i++)
+    world->starts[i] = world->begun[i] = 0;
+  world->message_count = 0;
+  world->connections = world->moment = world->now = 0;
+  world->call_count = 0;
+  world->stops = world->losses = world->moves = world->given_up = world->rewritings = world->asked = world->events = 0;
+  world->fault[0] = 0;
+}
+
 unsigned draw(struct world *world, unsigned below) {
   uint64_t mixed = world->random += 0x9e3779b97f4a7c15u;
   mixed = (mixed ^ (mixed >> 30)) * 0xbf58476d1ce4e5b9u;
@@ -30,8 +44,7 @@ static void send(void *network, struct machine *from, const struct frame *frame)
   *message = (struct message){from->number, (uint8_t)to, world->now, world->starts[to], world->begun[to], {0}};
   if (happens(world, world->slow))
     message->due += 50 + draw(world, 450);
-  char address[16];
-  snprintf(address, sizeof address, "node %u", from->number);
+  const char address[] = {'n', 'o', 'd', 'e', ' ', (char)('0' + from->number), 0};
   put_frame(&message->frame, address, frame->count, frame->rest, frame->rest_length);
 }
 
@@ -45,6 +58,9 @@ static struct stop stop_at(struct world *world, unsigned stops) {
 
 void world_stop(struct world *world, uint8_t number) {
   struct machine *machine = &world->machines[number];
+  world->events++;
+  if (world->stops < MOST_STOPS)
+    world->downs[world->stops] = (struct down){number, world->events, 0};
   world->stops++;
   if (happens(world, world->power)) {
     world->losses++;
@@ -55,8 +71,8 @@ void world_stop(struct world *world, uint8_t number) {
     machine_kill(machine);
   }
   for (int i = 0; i <= MOST_CLIENTS; i++)
-    if (world->clients[i].node == number)
-      world->clients[i].is_open = false;
+    if (world->clients[i].is_open && world->clients[i].node == number)
+      world_end_call(world, &world->clients[i]);
 }
 
 /* Carries out the machine's tasks, and stops it if one of them is cut off. */
@@ -70,9 +86,20 @@ static void carry_out(struct world *world, uint8_t number, unsigned stops) {
     world_fault(world, "a log has another length than its node says, at machine", number);
 }
 
+/* The last stop of the machine is over. */
+static void end_down(struct world *world, uint8_t number) {
+  for (unsigned i = world->stops < MOST_STOPS ? world->stops : MOST_STOPS; i-- > 0;)
+    if (world->downs[i].machine == number) {
+      world->downs[i].ended = world->events;
+      return;
+    }
+}
+
 void world_start(struct world *world, uint8_t number, unsigned stops) {
   world->starts[number]++;
   world->begun[number] = 0;
+  world->events++;
+  end_down(world, number);
   uint8_t answer = machine_open(&world->machines[number], world->file);
   if (answer != CASNODE_DONE)
     world_fault(world, casnode_string(answer), number);
@@ -125,8 +152,10 @@ void world_lose(struct world *world, size_t place) {
 void world_deliver(struct world *world, size_t place, bool stays) {
   struct message *message = &world->messages[place];
   struct machine *machine = &world->machines[message->to];
-  if (machine->is_up)
+  if (machine->is_up) {
     bytes_add(&machine->inbox, message->frame.first, message->frame.length);
+    world->events++;
+  }
   if (!stays)
     world_lose(world, place);
 }

@@ -3,16 +3,9 @@
 #define WORLD_H
 
 #include "machine.h"
+#include "register.h"
 
-enum { MACHINES = 5, MOST_CLIENTS = 6, MOST_CALLS = 400, MOST_MESSAGES = 4096, MOST_NAMES = 3 };
-
-/* A call of a client, as the checker wants it. A value begins with its number, and 0 is that of no value. */
-struct call {
-  int name;
-  bool is_write;
-  unsigned value, length;
-  unsigned began, ended; /* moments; `ended` is 0 without an answer */
-};
+enum { MACHINES = 5, MOST_CLIENTS = 6, MOST_CALLS = 400, MOST_MESSAGES = 4096, MOST_NAMES = 3, MOST_STOPS = 4096 };
 
 /* A connection of a client, over which one call is made. */
 struct client {
@@ -29,6 +22,19 @@ struct message {
   struct bytes frame; /* as its receiver gets it */
 };
 
+/* For a picture: where a call was made, and after how many events it began, and was answered or given up. */
+struct shown {
+  int client;
+  uint8_t node;
+  unsigned began, ended;
+};
+
+/* For a picture: after how many events a machine stopped, and was started again. */
+struct down {
+  uint8_t machine;
+  unsigned began, ended;
+};
+
 struct world {
   uint64_t random;
   char file[200]; /* the cluster file */
@@ -40,15 +46,24 @@ struct world {
   struct client clients[MOST_CLIENTS + 1];   /* the last one moves objects */
   unsigned connections;
   struct call calls[MOST_CALLS];
+  struct shown shown[MOST_CALLS]; /* of each call */
   int call_count;
+  struct down downs[MOST_STOPS];  /* of the first stops */
   unsigned moment, now;
   unsigned slow;      /* how many messages of 256 are late */
   bool waits;         /* messages to a machine that is down are not lost, but come when it has had as many calls */
   unsigned rewrites;  /* after how many rounds of 256 a log is written anew */
   unsigned power;     /* how many stops of 256 are losses of power */
   unsigned stops, losses, moves, given_up, rewritings, asked;
+  unsigned events;    /* frames that came to a machine, starts, and stops */
   char fault[200];    /* what went wrong, if something has */
 };
+
+/* Nobody waits for the client's call any more. */
+void world_end_call(struct world *world, struct client *client);
+
+/* The world as a run begins, with this number to draw from. */
+void world_clear(struct world *world, uint64_t random);
 
 /* A number below this one, drawn from the seed; and whether something happens that happens so often of 256. */
 unsigned draw(struct world *world, unsigned below);
