@@ -4,3 +4,5 @@
 
 #[cfg(test)]
 mod embedded;
+#[cfg(test)]
+mod members;
