@@ -4,6 +4,6 @@ use Rattle.example_runs.specs.Reached.{IsReached}
 use Rattle.example_runs.specs.Steps.{AreBroughtIn}
 use Rattle.example_runs.proofs.process_run.ProcessRun.carry_all.Given as goal
 
-abbrev pub invariant-loop-_count : goal.invariant-loop-_count
-invariant-loop-_count l = (l.place ≡ l.fn.first + l._count) × AreBroughtIn l._count l.fn.first l.fn.self l.self
+abbrev pub invariant-loop-count : goal.invariant-loop-count
+invariant-loop-count l = (l.place ≡ l.fn.first + l._count) × AreBroughtIn l._count l.fn.first l.fn.self l.self
     × (IsReached l.fn.self → IsReached l.self)
