@@ -11,13 +11,14 @@ dropped see [] = refl
 dropped see (x ∷ xs) = refl
 
 -- the program ended as the words behind the first one say, where each of them is seen as it is given
-pub as_called : {A : Type 0} (see : A → Word) (words : Option (List Word)) (xs ys : List A) (given found kept : List ℕ → Known)
-    (input held : Known) (keeps : List ℕ → Known) (holds : Known) (status : ℕ) → IfSome words (λ known. map see xs ≡ known) →
-    ys ≡ drop 1 xs → EndsBy given found kept input (map see ys) held keeps holds status →
+pub as_called : {A : Type 0} (see : A → Word) (words : Option (List Word)) (xs all ys : List A)
+    (given found kept : List ℕ → Known) (input held : Known) (keeps : List ℕ → Known) (holds : Known) (status : ℕ) →
+    IfSome words (λ known. map see xs ≡ known) → all ≡ xs → ys ≡ drop 1 all →
+    EndsBy given found kept input (map see ys) held keeps holds status →
     EndsAsCalled words given found kept input held keeps holds status
-as_called see words xs ys given found kept input held keeps holds status known is ends = inl (
+as_called {A} see words xs all ys given found kept input held keeps holds status known same is ends = inl (
   map see xs,
   known,
   subst (λ (ws : List Word). EndsBy given found kept input ws held keeps holds status)
-      (ap (λ t. map see t) is ∙ dropped see xs) ends,
+      (ap (λ (t : List A). map see t) (is ∙ ap (λ (t : List A). drop 1 t) same) ∙ dropped see xs) ends,
 )
