@@ -160,16 +160,21 @@ static void settle(struct world *world) {
   }
 }
 
-/* Each node reads each name, while nothing is lost. */
+/* A node reads a name, while nothing is lost. Returns whether the read is answered. */
+static bool is_read(struct world *world, uint8_t node, int name) {
+  int call = world->call_count;
+  world_call(world, 0, node, name, false, 0);
+  settle(world);
+  return world->calls[call].ended != 0 || world->fault[0] != 0;
+}
+
+/* Each node reads each name. A read may be given up if a move ends meanwhile, since nodes then drop the pieces of the
+   layout that the object leaves. So it is tried again once. */
 static void read_all(struct world *world, const struct plan *plan) {
   for (uint8_t node = 1; node <= MACHINES; node++)
-    for (int name = 0; name < (int)plan->names && world->fault[0] == 0; name++) {
-      int call = world->call_count;
-      world_call(world, 0, node, name, false, 0);
-      settle(world);
-      if (world->calls[call].ended == 0)
+    for (int name = 0; name < (int)plan->names && world->fault[0] == 0; name++)
+      if (!is_read(world, node, name) && !is_read(world, node, name))
         world_fault(world, "all machines are up, and a read has no answer at node", node);
-    }
 }
 
 /* Draws what a run is to be like, and starts the machines. */
