@@ -1,5 +1,5 @@
 -- Calls that begin.
-use Rattle.std.proofs.Common.{◌≡◌, ◌≢◌, ℕ, suc, ◌+◌, ◌^◌, ◌||◌, Bool, true, false, cond, eqb, ltb, is_some, List, [], ◌∷◌, ◌++◌, length}
+use Rattle.std.proofs.Common.{◌≡◌, ◌≢◌, ℕ, suc, ◌+◌, ◌^◌, ◌||◌, Bool, true, false, cond, eqb, ltb, is_some, List, [], ◌∷◌, length}
 use Rattle.std.proofs.Common.{Option, Some, None}
 use Rattle.std.proofs.Common.{IsSome, Result, Ok, Err, IfOk, IfErr, OnOk, ◌<◌, get_or, leb, refl, sym, subst, ap, ◌∙◌, inr, eq-eqb, arith}
 use Rattle.std.specs.List.{AllByRecursion, list_any}
@@ -13,7 +13,8 @@ use Rattle.bank.specs.declared.status.Status.TheVariants.{Pending}
 use Rattle.record.specs.declared.stage.Stage.TheVariants.{MoveSpread, ReadBegin}
 use Rattle.record.specs.Fragments.{AreBytes, IsValue}
 use Rattle.record.specs.PhaseOrder.{begun_at}
-use Rattle.record.specs.declared.call.CallKind.TheVariants.{Write, Move}
+use Rattle.record.specs.declared.call.CallKind.{CallKind}
+use Rattle.record.specs.declared.call.CallKind.TheVariants.{Read, Write, Move}
 use Rattle.record.specs.Legal.{is_move}
 use Rattle.call.specs.Call.{OpenCall as Machine}
 use Rattle.encoder.specs.Fragment.{fragment}
@@ -22,13 +23,15 @@ use Rattle.letter.specs.declared.letter.Letter.{Letter}
 use Rattle.local_object.specs.Codes.{at_node, carried}
 use Rattle.local_object.specs.Distinct.{HaveOtherIds, HaveDistinctIds, IsCallAt}
 use Rattle.local_object.specs.Doing.{IsOutcome, is_moving, move_refusal}
-use Rattle.local_object.specs.Events.{LocalEvent, Outcome, begun_here, done_here, moving_here}
+use Rattle.local_object.specs.Events.{LocalEvent, called_here, done_here, moving_here}
+use Rattle.local_object.specs.Outcomes.{Outcome, begun_here}
 use Rattle.local_object.specs.Local.{LocalObject, Place, added_place, last_position, layout_here, layout_in, with_heard, heard_place}
 use Rattle.local_object.specs.May.{MayHappenHere}
+use Rattle.local_object.specs.Starting.{first_number}
 use Rattle.std.proofs.lemmas.Bool.{leb-true}
 use Rattle.local_object.proofs.CarriedCallLemmas.{open_at}
 use Rattle.local_object.proofs.PieceLemmas.{nil_right}
-use Rattle.local_object.proofs.PlaceLemmas.{known_push, layout_known}
+use Rattle.local_object.proofs.PlaceLemmas.{known_pushed}
 
 -- where no call is found by an id, none has it
 pub others_of : (node : ℕ) (calls : List Machine) (id : ℕ) → open_call (carried node calls) id ≡ None → HaveOtherIds id calls
@@ -99,21 +102,15 @@ module _ (old : LocalObject) (id : ℕ) (new : open_call old.calls id ≡ None) 
   pub move_none : is_moving old ≡ false → ltb (last_position old + 2) (2 ^ 32) ≡ true → move_refusal old id ≡ None
   move_none still room = move_by false true still room
 
-some_place : (o : Option Place) → IsSome (layout_in o) → IsSome o
-some_place None known = known
-some_place (Some place) known = refl
-
 -- a position that is known stays known
 pub known_added : (places : List Place) (o : Option Place) (m : ℕ) (layout : Layout) (n : ℕ) → IsSome (layout_in (heard_place places n))
     → IsSome (layout_in (heard_place (added_place places o m layout) n))
-known_added places None m layout n known =
-    layout_known (heard_place (places ++ record { position = m; layout = layout; bank = None } ∷ []) n)
-    (known_push n places (record { position = m; layout = layout; bank = None }) (some_place (heard_place places n) known))
+known_added places None m layout n known = known_pushed places (record { position = m; layout = layout; bank = None }) n known
 known_added places (Some p) m layout n known = known
 
 -- a move that begins
 abbrev pub move_begun : LocalObject → (id : ℕ) → (last : ℕ) → Outcome
-move_begun m id last = begun_here m id Move (MoveSpread last) (Spread Pending) last (layout_here m last)
+move_begun m id last = begun_here m id Move (MoveSpread last) (Spread Pending) 1 last (layout_here m last)
 
 module _ {o old : LocalObject} (view : o ≡ old) (id : ℕ) {last : ℕ} (layout : Layout) {places : List Place}
     (last_is : last ≡ last_position old)
@@ -145,16 +142,24 @@ pub ok_both : {T E : Type 0} (r : Result T E) {P : Type 0} {Q R : T → Type 0} 
 ok_both (Ok x) p q both = both x p q
 ok_both (Err e) p q both = q
 
--- a write that begins
-abbrev pub write_begun : LocalObject → (id : ℕ) → (value : List ℕ) → (first : ℕ) → Outcome
-write_begun o id value first = begun_here o id (Write value) (begun_at ReadBegin first) Next first (layout_here o first)
+-- a read or a write that begins at the start
+pub start_begun : (old : LocalObject) (id : ℕ) (kind : CallKind) (number start : ℕ) → number ≡ first_number start → start ≡ old.start
+    → begun_here old id kind (begun_at ReadBegin start) Next number start (layout_here old start) ≡ called_here old id kind
+start_begun old id kind number start number_is start_is =
+    ap (λ n. begun_here old id kind (begun_at ReadBegin start) Next n start (layout_here old start)) number_is
+    ∙ ap (λ s. begun_here old id kind (begun_at ReadBegin s) Next (first_number s) s (layout_here old s)) start_is
 
-pub write_done : (o : LocalObject) (id : ℕ) (value : List ℕ) (first : ℕ) → first ≡ 0 → IsSome (layout_here o 0) → IsValue value
-    → (new : LocalObject) (sent : List Letter) → new ≡ (write_begun o id value first).local
-    → sent ≡ (write_begun o id value first).sent → IsOutcome o (LocalEvent.BeginWrite id value ∷ []) new sent
-write_done o id value first first_is known is_value new sent local letters =
-    one_done o (LocalEvent.BeginWrite id value) new sent (known, is_value)
-    (local ∙ ap (λ l. (write_begun o id value l).local) first_is) (letters ∙ ap (λ l. (write_begun o id value l).sent) first_is)
+-- a read that begins
+pub read_done : (o : LocalObject) (id : ℕ) → IsSome (layout_here o o.start) → (new : LocalObject) (sent : List Letter)
+    → new ≡ (called_here o id Read).local → sent ≡ (called_here o id Read).sent → IsOutcome o (LocalEvent.BeginRead id ∷ []) new sent
+read_done o id known new sent local letters = one_done o (LocalEvent.BeginRead id) new sent known local letters
+
+-- a write that begins
+pub write_done : (o : LocalObject) (id : ℕ) (value : List ℕ) → IsSome (layout_here o o.start) → IsValue value
+    → (new : LocalObject) (sent : List Letter) → new ≡ (called_here o id (Write value)).local
+    → sent ≡ (called_here o id (Write value)).sent → IsOutcome o (LocalEvent.BeginWrite id value ∷ []) new sent
+write_done o id value known is_value new sent local letters =
+    one_done o (LocalEvent.BeginWrite id value) new sent (known, is_value) local letters
 
 pub bytes_at : (xs : List ℕ) → ((i : ℕ) → get_or xs i 0 < 256) → AreBytes xs
 bytes_at [] at = tt

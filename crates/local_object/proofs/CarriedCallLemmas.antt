@@ -4,8 +4,15 @@ use Rattle.std.proofs.Common.{length, get_or, set, refl, sym, subst, ap, ◌∙�
 use Rattle.std.proofs.Common.{Option, Some, None, MatchOption}
 use Rattle.std.specs.List.{position, remove}
 use Rattle.std.proofs.lemmas.Option.{get_or_from_slice_get, slice_get_read}
+use Rattle.layout.specs.Layout.{Layout}
+use Rattle.bank.specs.declared.kind.Kind.{Kind}
+use Rattle.bank.specs.declared.kind.Kind.TheVariants.{Next}
+use Rattle.record.specs.declared.call.CallKind.{CallKind}
+use Rattle.record.specs.declared.stage.Stage.TheVariants.{ReadBegin}
 use Rattle.call.specs.Call.{OpenCall as Machine}
+use Rattle.call.specs.Steps.{begun_call}
 use Rattle.open_calls.specs.OpenCalls.{open_call, with_open, without_call}
+use Rattle.local_object.specs.Anew.{reading_machine}
 use Rattle.local_object.specs.Codes.{at_node, carried}
 use Rattle.local_object.specs.Distinct.{HaveOtherIds, DifferInIds, IsCallAt}
 use Rattle.local_object.proofs.FoundLemmas.{element, first_of}
@@ -171,3 +178,13 @@ at_index id calls (Some i) is =
       named = ap (λ (call : Machine). call.id) (sym (get_or_from_slice_get calls i there.0 there.0 there.1))
           ∙ eqb-true (get_or calls i there.0).id id (first.passes there.0);
     }
+
+-- a call that begins to read, with the id and the kind of one that has settled nothing
+pub begun_is : (call : Machine) (id number : ℕ) (kind : CallKind) (asked : Kind) (position : ℕ) (layout : Layout) → id ≡ call.id
+    → kind ≡ call.kind → asked ≡ Next → call.settled ≡ None
+    → begun_call id number kind ReadBegin asked position layout 0 ≡ reading_machine call number position layout
+begun_is call id number kind asked position layout same kinds next unsettled =
+    ap (λ n. begun_call n number kind ReadBegin asked position layout 0) same
+    ∙ ap (λ k. begun_call call.id number k ReadBegin asked position layout 0) kinds
+    ∙ ap (λ a. begun_call call.id number call.kind ReadBegin a position layout 0) next
+    ∙ ap (λ s. record (reading_machine call number position layout) { settled = s }) (sym unsettled)

@@ -13,11 +13,12 @@ use Rattle.local_object.specs.ChangedBanks.{changes_kept, kept_bank}
 use Rattle.local_object.specs.Changing.{HasOnlyHeard, IsUnchangedBy, changes_in_body, is_changed_by}
 use Rattle.local_object.specs.Distinct.{IsBankInOrderIfOpen}
 use Rattle.local_object.specs.Doing.{is_served}
-use Rattle.local_object.specs.Events.{LocalEvent, all_done, learnt_from, served_here}
+use Rattle.local_object.specs.Events.{LocalEvent, all_done, served_here}
+use Rattle.local_object.specs.Outcomes.{learnt_from}
 use Rattle.local_object.specs.Local.{LocalObject, Place, bank_here, bank_in, bank_or_opened, heard_place}
 use Rattle.local_object.specs.Local.{with_bank_here}
 use Rattle.local_object.proofs.HeardLayoutLemmas.{bank_heard, bank_here_heard, bank_put_elsewhere, bank_put_there, calls_heard, delta_heard}
-use Rattle.local_object.proofs.HeardLayoutLemmas.{layout_kept, node_heard}
+use Rattle.local_object.proofs.HeardLayoutLemmas.{layout_kept, node_heard, start_heard}
 use Rattle.local_object.proofs.LearntLemmas.{known_learnt}
 use Rattle.local_object.proofs.PlaceLemmas.{layout_bank}
 use Rattle.local_object.proofs.UnchangedBankLemmas.{kept_unchanged}
@@ -34,6 +35,7 @@ module _ (local : LocalObject) (letter : Letter) where
   only_heard = record {
     node = node_heard local letter;
     delta = delta_heard local letter;
+    start = start_heard local letter;
     calls = calls_heard local letter;
     kept = layout_kept local letter;
     heard = λ m layout e. e;
@@ -45,6 +47,7 @@ module _ (local : LocalObject) (letter : Letter) where
   nothing = record {
     node = refl;
     delta = refl;
+    start = refl;
     calls = refl;
     kept = λ m layout e. e;
     heard = layout_kept local letter;
@@ -87,6 +90,7 @@ module _ (local : LocalObject) (letter : Letter) where
     put_back asked e = record {
       node = node_heard local letter;
       delta = delta_heard local letter;
+      start = start_heard local letter;
       calls = calls_heard local letter;
       kept = λ m layout k. layout_bank heard.places position (served asked) m ∙ layout_kept local letter m layout k;
       heard = λ m layout k. sym (layout_bank heard.places position (served asked) m) ∙ k;

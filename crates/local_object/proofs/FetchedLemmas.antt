@@ -1,6 +1,6 @@
 -- A value that was decoded from pieces of a call's replies may be settled.
 use Rattle.std.proofs.Common.{◌≡◌, ℕ, zero, suc, ◌<◌, nat_eq, eqb, eqb-true, Bool, true, false, cond, List, [], ◌∷◌, ◌++◌, length, take}
-use Rattle.std.proofs.Common.{slice_get, Option, Some, None, refl, sym, ap, ◌∙◌, arith}
+use Rattle.std.proofs.Common.{slice_get, Option, Some, None, MatchOption, refl, sym, ap, ◌∙◌, arith}
 use Rattle.std.specs.List.{All, AllByRecursion}
 use Rattle.std.specs.Option.{option_to_list}
 use Rattle.std.proofs.lemmas.Bool.Decides.{Decides-eqb}
@@ -116,10 +116,11 @@ module _ (places : List Place) (call : Machine) (value : List ℕ) (is : IsFetch
             (all_by _ pieces is.decoded.lawful.lens) (all_by _ pieces is.decoded.interpolated.fragments);
       }
 
-pub may_settle_here : (owner node : ℕ) (delta : Option ℕ) (places : List Place) (calls : List NodeCall) (call : Machine) (value : List ℕ)
-    → IsSettling call false → IsFetchedValue places call value
-    → IsFetchedHere fragment (record { node = owner; delta = delta; places = places; calls = calls }) (at_node node call) value
-may_settle_here owner node delta places calls call value settling is =
+pub may_settle_here : (owner node : ℕ) (delta : Option ℕ) (start : ℕ) (places : List Place) (calls : List NodeCall) (call : Machine)
+    (value : List ℕ) → IsSettling call false → IsFetchedValue places call value
+    → IsFetchedHere fragment (record { node = owner; delta = delta; start = start; places = places; calls = calls })
+    (at_node node call) value
+may_settle_here owner node delta start places calls call value settling is =
     let fetching = fetching_of call false settling in record {
       complete = settling.complete;
       fetch = fetching.0;
@@ -179,3 +180,9 @@ pub decoded_as : {k l : ℕ} {ps qs : List Piece} {value : List ℕ} → k ≡ l
 decoded_as {l = l} {ps = ps} {value = value} same pieces is =
     subst (λ (qs : List Piece). IsDecoded (record { k = l; pieces = qs; value = value })) pieces
     (subst (λ k. IsDecoded (record { k = k; pieces = ps; value = value })) same is)
+
+-- facts of an optional value, by weaker ones
+pub match_weaker : {X : Type 0} {P Q : Type 0} {R S : X → Type 0} (o : Option X) → (P → Q) → ((x : X) → R x → S x)
+    → MatchOption o P R → MatchOption o Q S
+match_weaker None f g h = f h
+match_weaker (Some x) f g h = g x h

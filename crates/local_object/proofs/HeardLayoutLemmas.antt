@@ -5,7 +5,7 @@ use Rattle.std.proofs.lemmas.Bool.{false≢true}
 use Rattle.layout.specs.Layout.{Layout}
 use Rattle.letter.specs.declared.letter.Letter.{Letter}
 use Rattle.local_object.specs.declared.kept_bank.KeptBank.{KeptBank}
-use Rattle.local_object.specs.Events.{learnt_from}
+use Rattle.local_object.specs.Outcomes.{learnt_from}
 use Rattle.local_object.specs.Local.{LocalObject, Place, added_place, bank_here, bank_in, bank_or_opened, layout_here, layout_in}
 use Rattle.local_object.specs.Local.{heard_place, learnt_if, with_bank_here, with_heard}
 use Rattle.local_object.proofs.LearntLemmas.{place_learnt_if}
@@ -39,6 +39,10 @@ delta_learnt_if : (local : LocalObject) (m : ℕ) (next : Option Layout) → (le
 delta_learnt_if local m None = refl
 delta_learnt_if local m (Some layout) = refl
 
+start_learnt_if : (local : LocalObject) (m : ℕ) (next : Option Layout) → (learnt_if local m next).start ≡ local.start
+start_learnt_if local m None = refl
+start_learnt_if local m (Some layout) = refl
+
 calls_learnt_if : (local : LocalObject) (m : ℕ) (next : Option Layout) → (learnt_if local m next).calls ≡ local.calls
 calls_learnt_if local m None = refl
 calls_learnt_if local m (Some layout) = refl
@@ -62,6 +66,9 @@ module _ (local : LocalObject) (letter : Letter) where
 
   pub delta_heard : (learnt_from local letter).delta ≡ local.delta
   delta_heard = delta_learnt_if (with_heard local n letter.layout) (suc n) letter.next
+
+  pub start_heard : (learnt_from local letter).start ≡ local.start
+  start_heard = start_learnt_if (with_heard local n letter.layout) (suc n) letter.next
 
   pub calls_heard : (learnt_from local letter).calls ≡ local.calls
   calls_heard = calls_learnt_if (with_heard local n letter.layout) (suc n) letter.next

@@ -4,7 +4,7 @@ use Rattle.std.proofs.Common.{subst, ◌∙◌, eq-eqb}
 use Rattle.layout.specs.Layout.{Layout}
 use Rattle.letter.specs.declared.letter.Letter.{Letter}
 use Rattle.local_object.specs.Local.{LocalObject, Place, heard_place, layout_in, layout_here, added_place, with_heard, learnt_if}
-use Rattle.local_object.specs.Events.{learnt_from}
+use Rattle.local_object.specs.Outcomes.{learnt_from}
 
 pub place_push : (places : List Place) (n : ℕ) (p q : Place) → heard_place places n ≡ Some p → heard_place (places ++ q ∷ []) n ≡ Some p
 place_push [] n p q at = absurd (cc)

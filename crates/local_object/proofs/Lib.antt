@@ -24,3 +24,6 @@ pub mod CappedSumLemmas
 pub mod GivenUpCallLemmas
 pub mod ResentLemmas
 pub mod NewObjectLemmas
+pub mod ReadingTestLemmas
+pub mod ReadingLemmas
+pub mod StartLemmas

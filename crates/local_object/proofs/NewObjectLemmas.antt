@@ -13,11 +13,11 @@ use Rattle.local_object.specs.Local.{LocalObject, Place, new_local}
 use Rattle.local_object.specs.New.{are_new_places, is_new, is_new_if, is_new_place}
 use Rattle.local_object.proofs.AgreementLemmas.{layouts_same}
 
-both : (a b : Bool) → (a && b) ≡ true → (a ≡ true) × (b ≡ true)
+pub both : (a b : Bool) → (a && b) ≡ true → (a ≡ true) × (b ≡ true)
 both true b e = (refl, e)
 both false b e = absurd (cc)
 
-are_both : (a b : Bool) → a ≡ true → b ≡ true → (a && b) ≡ true
+pub are_both : (a b : Bool) → a ≡ true → b ≡ true → (a && b) ≡ true
 are_both true b e f = f
 are_both false b e f = absurd (cc)
 
@@ -83,15 +83,19 @@ new_decided local node delta first = (to, from)
     to : is_new local node delta first ≡ true → local ≡ new_local node delta first
     to e =
         let limited = option_eq nat_eq local.delta delta in
+        let begins = eqb local.start 0 in
         let quiet = eqb (length local.calls) 0 in
         let placed = are_new_places first local.places in
-        let one = both (eqb local.node node) (limited && (quiet && placed)) e in
-        let two = both limited (quiet && placed) one.1 in
-        let three = both quiet placed two.1 in
+        let one = both (eqb local.node node) (limited && (begins && (quiet && placed))) e in
+        let two = both limited (begins && (quiet && placed)) one.1 in
+        let three = both begins (quiet && placed) two.1 in
+        let four = both quiet placed three.1 in
         ap (λ n. record local { node = n }) (eqb-true local.node node one.0)
         ∙ ap (λ d. record local { node = node; delta = d }) (limits_same local.delta delta two.0)
-        ∙ ap (λ (ps : List Place). record local { node = node; delta = delta; places = ps }) (new_places first local.places three.1)
-        ∙ ap (λ (cs : List NodeCall). record (new_local node delta first) { calls = cs }) (no_calls local.calls three.0)
+        ∙ ap (λ n. record local { node = node; delta = delta; start = n }) (eqb-true local.start 0 three.0)
+        ∙ ap (λ (ps : List Place). record local { node = node; delta = delta; start = 0; places = ps })
+        (new_places first local.places four.1)
+        ∙ ap (λ (cs : List NodeCall). record (new_local node delta first) { calls = cs }) (no_calls local.calls four.0)
 
     from : local ≡ new_local node delta first → is_new local node delta first ≡ true
     from same =

@@ -204,7 +204,7 @@ unsettled_by true true e = absurd (cc)
 unsettled_by true false e = (refl, refl)
 unsettled_by false s e = absurd (cc)
 
-none_of : {X : Type 0} (o : Option X) → is_some o ≡ false → o ≡ None
+pub none_of : {X : Type 0} (o : Option X) → is_some o ≡ false → o ≡ None
 none_of None e = refl
 none_of (Some x) e = absurd (cc)
 

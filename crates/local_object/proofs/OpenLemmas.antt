@@ -1,6 +1,6 @@
 -- The calls of an object, as they are found, changed and removed by its events.
 use Rattle.std.proofs.Common.{◌≡◌, ℕ, ◌⊎◌, Bool, true, false, cond, IsSome, List, [], ◌∷◌}
-use Rattle.std.proofs.Common.{set, slice_get, Option, Some, None, inl, inr, refl, sym, subst, ap, ◌∙◌, MatchOption}
+use Rattle.std.proofs.Common.{set, slice_get, Option, Some, None, inl, inr, refl, sym, subst, ap, ◌∙◌}
 use Rattle.std.specs.List.{remove}
 use Rattle.std.proofs.lemmas.Option.{none-some, same_Some}
 use Rattle.bank.specs.declared.kind.Kind.{Kind}
@@ -18,9 +18,11 @@ use Rattle.local_object.specs.Codes.{at_node, carried}
 use Rattle.local_object.specs.Coding.{is_sendable}
 use Rattle.local_object.specs.Distinct.{HaveOtherIds, HaveDistinctIds, IsCallAt}
 use Rattle.local_object.specs.Ended.{told_if, told_of}
-use Rattle.local_object.specs.Events.{LocalEvent, Outcome, advanced_at, advanced_here, done_here, on_open_call, silent}
+use Rattle.local_object.specs.Events.{LocalEvent, advanced_at, advanced_here, done_here}
+use Rattle.local_object.specs.Outcomes.{Outcome, on_open_call, silent}
 use Rattle.local_object.specs.Going.{IsAdvancedIf, IsAdvanced, IsFetchedValue, next_here, next_if, settled_here, taken_here}
-use Rattle.local_object.specs.Taking.{CanSettle, IsOutcomeWithAnswers, call_events, can_begin, lead_events, machine_of, step_events}
+use Rattle.local_object.specs.Taking.{CanSettle, IsOutcomeWithAnswers, begin_anew_events, begin_events, call_events, can_begin}
+use Rattle.local_object.specs.Taking.{is_read_begin, lead_events, machine_of, step_events}
 use Rattle.call.specs.declared.next.Next.{Next as Step}
 use Rattle.local_object.specs.Local.{LocalObject, Place, layout_in, heard_place}
 use Rattle.local_object.specs.May.{MayHappenHere}
@@ -42,9 +44,9 @@ abbrev position_or : ℕ → Option (Kind × ℕ) → ℕ
 position_or other None = other
 position_or other (Some asked) = asked.1
 
-module _ (node : ℕ) (delta : Option ℕ) (places : List Place) where
+module _ (node : ℕ) (delta : Option ℕ) (start : ℕ) (places : List Place) where
   abbrev pub object : List Machine → LocalObject
-  object calls = record { node = node; delta = delta; places = places; calls = carried node calls }
+  object calls = record { node = node; delta = delta; start = start; places = places; calls = carried node calls }
 
   module _ {calls : List Machine} {id index : ℕ} (distinct : HaveDistinctIds calls) (at : IsCallAt calls id index) where
     pub found : (f : NodeCall → Outcome) → on_open_call (object calls) (open_call (carried node calls) id) f ≡ f (at_node node at.call)
@@ -80,17 +82,17 @@ module _ (node : ℕ) (delta : Option ℕ) (places : List Place) where
       is_at : IsCallAt calls id index
       is_at = record { call = call; there = there; named = ap (λ (m : Machine). m.id) (sym read_is) ∙ at.named }
 
-      open_is : open_call (carried node calls) id ≡ Some (at_node node call)
+      pub open_is : open_call (carried node calls) id ≡ Some (at_node node call)
       unfolding is_at
       open_is = open_found node calls id index distinct is_at
 
-      named_is : call.id ≡ id
+      pub named_is : call.id ≡ id
       named_is = ap (λ (m : Machine). m.id) (sym read_is) ∙ at.named
 
       -- the events by which the call goes on
       pub lead_is : (again : Bool) (step : Step) → next_if again call ≡ step
-          → lead_events again (object calls) id ≡ step_events places call step
-      lead_is again step e = ap (call_events again places) open_is ∙ ap (step_events places call) e
+          → lead_events again (object calls) id ≡ step_events (object calls) call step
+      lead_is again step e = ap (call_events again (object calls)) open_is ∙ ap (step_events (object calls) call) e
 
       pub lead_waits : (again : Bool) → (next_if again call ≡ next.Wait) ⊎ (next_if again call ≡ next.Settle)
           → lead_events again (object calls) id ≡ []
@@ -185,14 +187,14 @@ module _ (node : ℕ) (delta : Option ℕ) (places : List Place) where
         begun_if true adv advanced = advanced adv
         begun_if false same advanced = by_none (object calls) (object new) letters [] (ap object same.0) same.1 refl
 
-        pub advanced_by : (again : Bool)
-            → (next_if again call ≡ next.Restart kind position) ⊎ (next_if again call ≡ next.Begin kind position)
+        pub restarted_by : (again : Bool) → next_if again call ≡ next.Restart kind position → is_read_begin (reached call) ≡ false
             → IsAdvancedIf (can_begin places call kind position) places calls call index kind position new letters
             → IsOutcomeWithAnswers (object calls) (lead_events again (object calls) id) (object new) letters []
-        advanced_by again (inl step) advances =
+        restarted_by again step other advances =
             let both = restart_of call kind position (again_restart again (next_here call) kind position step) in
             subst (λ events. IsOutcomeWithAnswers (object calls) events (object new) letters [])
-            (sym (lead_is again (next.Restart kind position) step))
+            (sym (lead_is again (next.Restart kind position) step
+            ∙ ap (λ b. cond b (begin_anew_events (object calls) call) (begin_events places call kind position)) other))
             (begun_if (can_begin places call kind position) advances
             (λ adv. begun kind position both.0.due new letters adv (
               at_node node call,
@@ -200,7 +202,11 @@ module _ (node : ℕ) (delta : Option ℕ) (places : List Place) where
               inr (lacking_of node call both.1),
               known_next kind position both.0.due adv.layout adv.known,
             )))
-        advanced_by again (inr step) advances =
+
+        pub advanced_by : (again : Bool) → next_if again call ≡ next.Begin kind position
+            → IsAdvancedIf (can_begin places call kind position) places calls call index kind position new letters
+            → IsOutcomeWithAnswers (object calls) (lead_events again (object calls) id) (object new) letters []
+        advanced_by again step advances =
             let is = begin_of call kind position (again_begin again (next_here call) kind position step) in
             subst (λ events. IsOutcomeWithAnswers (object calls) events (object new) letters [])
             (sym (lead_is again (next.Begin kind position) step))
@@ -213,7 +219,7 @@ module _ (node : ℕ) (delta : Option ℕ) (places : List Place) where
             )))
 
   pub lead_none : (again : Bool) (calls : List Machine) (id : ℕ) → HaveOtherIds id calls → lead_events again (object calls) id ≡ []
-  lead_none again calls id others = ap (call_events again places) (open_none node calls id others)
+  lead_none again calls id others = ap (call_events again (object calls)) (open_none node calls id others)
 
   pub none_to_settle : (calls : List Machine) (id : ℕ) → HaveOtherIds id calls → (value : List ℕ) → CanSettle (object calls) id value → ⊥
   none_to_settle calls id others value can =
@@ -239,11 +245,6 @@ pub settle_may : (local : LocalObject) (id : ℕ) (value : List ℕ) → CanSett
 settle_may local id value can = (
   can.call,
   can.carried,
-  may_settle_here local.node can.call.node local.delta local.places local.calls (machine_of can.call) value
+  may_settle_here local.node can.call.node local.delta local.start local.places local.calls (machine_of can.call) value
       (settle_of (machine_of can.call) can.next) can.fetched,
 )
-
-pub match_weaker : {X : Type 0} {P Q : Type 0} {R S : X → Type 0} (o : Option X) → (P → Q) → ((x : X) → R x → S x)
-    → MatchOption o P R → MatchOption o Q S
-match_weaker None f g h = f h
-match_weaker (Some x) f g h = g x h

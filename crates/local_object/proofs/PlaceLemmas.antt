@@ -96,6 +96,16 @@ pub layout_known : (o : Option Place) → IsSome o → IsSome (layout_in o)
 layout_known None known = known
 layout_known (Some place) known = refl
 
+pub place_known : (o : Option Place) → IsSome (layout_in o) → IsSome o
+place_known None known = known
+place_known (Some place) known = refl
+
+pub known_pushed : (places : List Place) (place : Place) (number : ℕ) → IsSome (layout_in (heard_place places number))
+    → IsSome (layout_in (heard_place (places ++ place ∷ []) number))
+known_pushed places place number known =
+    layout_known (heard_place (places ++ place ∷ []) number)
+    (known_push number places place (place_known (heard_place places number) known))
+
 pub known_set : (number : ℕ) (places : List Place) (i : ℕ) (old new : Place) → slice_get places i ≡ Some old → new.position ≡ old.position
     → IsSome (heard_place places number) → IsSome (heard_place (set places i new) number)
 known_set number [] i old new at same known = absurd (false≢true known)

@@ -14,7 +14,8 @@ use Rattle.local_object.specs.declared.kept_bank.KeptBank.{KeptBank}
 use Rattle.local_object.specs.KeptBanks.{kept_reply}
 use Rattle.local_object.specs.Doing.{IsOutcome, has_member, is_member, is_served, names_node, serve_events}
 use Rattle.mail.specs.Message.{is_request}
-use Rattle.local_object.specs.Events.{LocalEvent, learnt_from, next_in_body, reply_letters, served_here}
+use Rattle.local_object.specs.Events.{LocalEvent, reply_letters, served_here}
+use Rattle.local_object.specs.Outcomes.{learnt_from, next_in_body}
 use Rattle.local_object.specs.Local.{LocalObject, Place, bank_here, layout_here, layout_in, with_heard, heard_place, with_bank_here}
 use Rattle.local_object.specs.May.{IsAddressed}
 use Rattle.local_object.proofs.LearntLemmas.{layout_learnt, layout_or, node_learnt}

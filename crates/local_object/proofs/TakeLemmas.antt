@@ -11,9 +11,11 @@ use Rattle.letter.specs.declared.letter.Letter.{Letter}
 use Rattle.local_object.specs.declared.progress.Ended.{Ended}
 use Rattle.local_object.specs.Doing.{is_taken}
 use Rattle.mail.specs.Message.{is_request}
-use Rattle.local_object.specs.Events.{LocalEvent, all_done, learnt_from}
+use Rattle.local_object.specs.Events.{LocalEvent, all_done}
+use Rattle.local_object.specs.Outcomes.{learnt_from}
 use Rattle.local_object.specs.Going.{taken_here}
-use Rattle.local_object.specs.Taking.{AreSettling, IsOutcomeWithAnswers, IsReplyOutcome, SettlesFetched, lead_events, repeats}
+use Rattle.local_object.specs.Taking.{AreSettling, IsOutcomeWithAnswers, IsReplyOutcome, SettlesFetched, going_events, grow_events}
+use Rattle.local_object.specs.Taking.{lead_events, repeats}
 use Rattle.local_object.specs.Local.{LocalObject}
 use Rattle.local_object.proofs.DoneLemmas.{by_none, by_one, by_then}
 use Rattle.local_object.proofs.OpenLemmas.{silent_sent}
@@ -55,18 +57,28 @@ taken_none old letter new letters ended taken same sent tells =
     subst (λ b. IsReplyOutcome b old letter new letters ended) taken (by_none old new letters ended same sent tells)
 
 -- what was done after a reply was taken
-module _ {old mid settled new : LocalObject} {letter : Letter} {letters : List Letter} {ended : List Ended}
+module _ {old mid settled grown new : LocalObject} {letter : Letter} {letters : List Letter} {ended : List Ended}
     (again : Bool) (first : IsOutcomeWithAnswers old (LocalEvent.Take letter ∷ []) mid [] [])
     (second : SettlesFetched mid letter.message.call settled)
-    (third : IsOutcomeWithAnswers settled (lead_events again settled letter.message.call) new letters ended) where
+    (third : IsOutcomeWithAnswers settled (grow_events settled letter.message.call) grown [] [])
+    (fourth : IsOutcomeWithAnswers grown (lead_events again grown letter.message.call) new letters ended) where
   both : IsOutcomeWithAnswers old (LocalEvent.Take letter ∷ second.events) settled [] []
   both = by_then old mid settled (LocalEvent.Take letter ∷ []) second.events [] [] [] [] first second.done
 
+  -- the start grows, and then the call goes on
+  going : IsOutcomeWithAnswers settled (going_events again settled letter.message.call) new letters ended
+  going =
+      subst (λ (l : LocalObject). IsOutcomeWithAnswers settled
+      (grow_events settled letter.message.call ++ lead_events again l letter.message.call) new letters ended)
+      third.done.local
+      (by_then settled grown new (grow_events settled letter.message.call) (lead_events again grown letter.message.call) [] letters []
+      ended third fourth)
+
   pub all_by : IsOutcomeWithAnswers old
-      (LocalEvent.Take letter ∷ second.events ++ lead_events again settled letter.message.call) new letters ended
-  all_by = by_then old settled new (LocalEvent.Take letter ∷ second.events) (lead_events again settled letter.message.call) [] letters []
+      (LocalEvent.Take letter ∷ second.events ++ going_events again settled letter.message.call) new letters ended
+  all_by = by_then old settled new (LocalEvent.Take letter ∷ second.events) (going_events again settled letter.message.call) [] letters []
       ended
-      both third
+      both going
 
   pub goes_on : is_taken old letter ≡ true → again ≡ repeats old letter → IsReplyOutcome (is_taken old letter) old letter new letters ended
   goes_on taken repeated =
@@ -74,9 +86,9 @@ module _ {old mid settled new : LocalObject} {letter : Letter} {letters : List L
         settling = second.events;
         settles = subst (λ (l : LocalObject). AreSettling l letter.message.call second.events) first.done.local second.settles;
         leads = subst (λ (b : Bool). IsOutcomeWithAnswers old
-            (LocalEvent.Take letter ∷ second.events ++ lead_events b (all_done fragment old
+            (LocalEvent.Take letter ∷ second.events ++ going_events b (all_done fragment old
             (LocalEvent.Take letter ∷ second.events)).local letter.message.call) new letters ended) repeated
             (subst (λ (l : LocalObject). IsOutcomeWithAnswers old
-            (LocalEvent.Take letter ∷ second.events ++ lead_events again l letter.message.call) new letters ended)
+            (LocalEvent.Take letter ∷ second.events ++ going_events again l letter.message.call) new letters ended)
             both.done.local all_by);
       })

@@ -10,7 +10,8 @@ use Rattle.local_object.specs.declared.kept_bank.KeptBank.{KeptBank}
 use Rattle.local_object.specs.declared.kept_bank.KeptBank.TheVariants as kept
 use Rattle.local_object.specs.ChangedBanks.{changes_kept}
 use Rattle.local_object.specs.Doing.{is_served, serve_events}
-use Rattle.local_object.specs.Events.{all_done, learnt_from}
+use Rattle.local_object.specs.Events.{all_done}
+use Rattle.local_object.specs.Outcomes.{learnt_from}
 use Rattle.local_object.specs.Local.{LocalObject, Place, bank_here, layout_here}
 
 -- whether a message with this body is a request that may change a bank
@@ -33,6 +34,7 @@ after_serving local letter = (all_done fragment local (serve_events local letter
 pub record HasOnlyHeard (before : LocalObject) (letter : Letter) (after : LocalObject) : Type 0 where
   pub node : after.node ≡ before.node
   pub delta : after.delta ≡ before.delta
+  pub start : after.start ≡ before.start
   pub calls : after.calls ≡ before.calls
   pub kept : (position : ℕ) (layout : Layout) → layout_here before position ≡ Some layout →
       layout_here after position ≡ Some layout

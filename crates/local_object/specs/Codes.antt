@@ -41,10 +41,10 @@ place_code layout bank =
 -- how an object is encoded: as the tuple of its parts
 abbrev pub local_code : Coded Place → Coded NodeCall → Coded LocalObject
 local_code place call =
-    code_by (ℕ × (Option ℕ × (List Place × List NodeCall)))
-    (coded× coded_ℕ (coded× (coded_option coded_ℕ) (coded× (coded_list place) (coded_list call))))
-    (λ o. (o.node, (o.delta, (o.places, o.calls))))
-    (λ t. record { node = t.0; delta = t.1.0; places = t.1.1.0; calls = t.1.1.1 }) (λ _. refl)
+    code_by (ℕ × (Option ℕ × (ℕ × (List Place × List NodeCall))))
+    (coded× coded_ℕ (coded× (coded_option coded_ℕ) (coded× coded_ℕ (coded× (coded_list place) (coded_list call)))))
+    (λ o. (o.node, (o.delta, (o.start, (o.places, o.calls)))))
+    (λ t. record { node = t.0; delta = t.1.0; start = t.1.1.0; places = t.1.1.1.0; calls = t.1.1.1.1 }) (λ _. refl)
 
 -- a machine as a call of this node
 abbrev pub at_node : (node : ℕ) → Machine → NodeCall

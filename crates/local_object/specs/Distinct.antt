@@ -1,6 +1,6 @@
 -- The contracts that docs/trusted.md lists do not depend on this file; other contracts and proofs do.
 -- What is true of the parts of a node's object at any time.
-use Rattle.std.specs.Prelude.{◌≡◌, ◌≢◌, ℕ, List, [], ◌∷◌, Option, None, Some, IsSome, slice_get, slice_set}
+use Rattle.std.specs.Prelude.{◌≡◌, ◌≢◌, ◌<◌, ◌^◌, ℕ, List, [], ◌∷◌, Option, None, Some, IsSome, slice_get, slice_set}
 use Rattle.tag.specs.Tag.{opening_tag}
 use Rattle.bank.specs.Bank.{Bank}
 use Rattle.bank.specs.Collect.{IsCollected}
@@ -9,7 +9,7 @@ use Rattle.bank.specs.Knowledge.{finalized_at}
 use Rattle.call.specs.Call.{OpenCall as Machine}
 use Rattle.local_object.specs.declared.kept_bank.KeptBank.{KeptBank}
 use Rattle.local_object.specs.declared.kept_bank.KeptBank.TheVariants as kept
-use Rattle.local_object.specs.Local.{Place, heard_place, with_bank_here}
+use Rattle.local_object.specs.Local.{Place, heard_place, layout_in, with_bank_here}
 
 -- none of the calls has this id
 abbrev pub HaveOtherIds : (id : ℕ) → List Machine → Type 0
@@ -58,3 +58,8 @@ IsBankInOrderIfOpen (Some bank) = IsKeptInOrder bank
 -- the node has heard of position 0
 pub record KnowsFirst (places : List Place) : Type 0 where
   pub known : IsSome (heard_place places 0)
+
+-- the node has heard of the layout of the start, and the phases of calls that begin there have numbers of 32 bits
+pub record KnowsStart (places : List Place) (start : ℕ) : Type 0 where
+  pub known : IsSome (layout_in (heard_place places start))
+  pub small : start < 2 ^ 31

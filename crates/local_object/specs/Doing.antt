@@ -11,7 +11,8 @@ use Rattle.mail.specs.Message.{is_request}
 use Rattle.record.specs.Legal.{is_move}
 use Rattle.open_calls.specs.OpenCalls.{NodeCall, open_call}
 use Rattle.letter.specs.declared.letter.Letter.{Letter}
-use Rattle.local_object.specs.Events.{LocalEvent, all_done, learnt_from}
+use Rattle.local_object.specs.Events.{LocalEvent, all_done}
+use Rattle.local_object.specs.Outcomes.{learnt_from}
 use Rattle.local_object.specs.KeptBanks.{closing}
 use Rattle.local_object.specs.Local.{LocalObject, bank_in, heard_place, last_position, layout_here}
 use Rattle.local_object.specs.May.{MayAllHappen}

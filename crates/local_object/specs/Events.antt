@@ -1,28 +1,21 @@
 -- What a node does with one object, what it keeps of the object afterwards, and the letters that it sends.
-use Rattle.std.specs.Prelude.{ℕ, suc, List, [], ◌∷◌, ◌++◌, map, Option, None, Some}
+use Rattle.std.specs.Prelude.{ℕ, suc, List, [], ◌∷◌, ◌++◌, Option, None, Some}
 use Rattle.layout.specs.Layout.{Layout}
 use Rattle.piece.specs.declared.piece.Piece.{Piece}
-use Rattle.bank.specs.Bank.{empty_piece}
 use Rattle.bank.specs.declared.kind.Kind.{Kind}
-use Rattle.bank.specs.declared.kind.Kind.TheVariants.{Next, Spread}
-use Rattle.bank.specs.declared.reply.Answer.{Answer as BankAnswer}
-use Rattle.bank.specs.declared.reply.Answer.TheVariants as answer
+use Rattle.bank.specs.declared.kind.Kind.TheVariants.{Spread}
 use Rattle.bank.specs.declared.reply.Reply.{Reply}
 use Rattle.bank.specs.declared.request.Request.{Request}
-use Rattle.bank.specs.declared.request.Request.TheVariants as request
-use Rattle.bank.specs.declared.status.Status.{Status}
-use Rattle.bank.specs.declared.status.Status.TheVariants.{Unset, Pending, Final}
+use Rattle.bank.specs.declared.status.Status.TheVariants.{Pending}
 use Rattle.mail.specs.Message.{answered}
 use Rattle.mail.specs.declared.message.Body.{Body}
 use Rattle.mail.specs.declared.message.Body.TheVariants as body
-use Rattle.mail.specs.declared.message.Message.{Message}
 use Rattle.record.specs.declared.call.CallKind.{CallKind}
 use Rattle.record.specs.declared.call.CallKind.TheVariants.{Read, Write, Move}
-use Rattle.record.specs.declared.stage.Stage.{Stage}
 use Rattle.record.specs.Fragments.{Code}
 use Rattle.record.specs.Legal.{first_stage}
 use Rattle.record.specs.PhaseOrder.{begun_at}
-use Rattle.record.specs.Sending.{fragment_piece, requests, sent_value, value_or_empty}
+use Rattle.record.specs.Sending.{fragment_piece, sent_value, value_or_empty}
 use Rattle.record.specs.Steps.{new_phase}
 use Rattle.open_calls.specs.OpenCalls.{NodeCall, open_call, with_open, without_call, stage_reached, due_phase}
 use Rattle.open_calls.specs.OpenCalls.{taking_open}
@@ -30,7 +23,10 @@ use Rattle.letter.specs.declared.letter.Letter.{Letter}
 use Rattle.local_object.specs.ChangedBanks.{kept_bank}
 use Rattle.local_object.specs.KeptBanks.{after_closing, kept_reply}
 use Rattle.local_object.specs.Local.{LocalObject, layout_here, bank_here, bank_in, heard_place, with_bank_here}
-use Rattle.local_object.specs.Local.{last_position, with_heard, learnt_if}
+use Rattle.local_object.specs.Local.{heard_start, last_position, with_heard}
+use Rattle.local_object.specs.Outcomes.{Outcome, begun_here, learnt_from, letter_of, on_open_call, phase_letters}
+use Rattle.local_object.specs.Outcomes.{silent}
+use Rattle.local_object.specs.Starting.{anew_number, called_at, number_at, reads_here}
 
 -- what a node does with one object; a call is named by its id, and a bank by its position
 pub data LocalEvent : Type 0 where
@@ -44,87 +40,23 @@ pub data LocalEvent : Type 0 where
   Answer : (id : ℕ) → LocalEvent
   GiveUp : (id : ℕ) → LocalEvent
   Close : (position : ℕ) → LocalEvent
-
--- what a node keeps after an event, and the letters that it sends
-pub record Outcome : Type 0 where
-  pub local : LocalObject
-  pub sent : List Letter
-
--- nothing is sent
-abbrev pub silent : LocalObject → Outcome
-silent local = record { local = local; sent = [] }
-
--- Letters
-
--- the layout, if a pointer with this status says that there is a next position
-abbrev pub if_pointed : Status → Option Layout → Option Layout
-if_pointed Unset layout = None
-if_pointed Pending layout = layout
-if_pointed Final layout = layout
-
--- the layout of the next position, if a request says that there is one
-abbrev pub next_in_request : Request → Option Layout → Option Layout
-next_in_request (request.Spread status) layout = if_pointed status layout
-next_in_request _ layout = None
-
--- the layout of the next position, if an answer says that there is one
-abbrev pub next_in_answer : BankAnswer → Option Layout → Option Layout
-next_in_answer (answer.Pointer status) layout = if_pointed status layout
-next_in_answer _ layout = None
-
--- the layout of the next position, if a message with this body says that there is one
-abbrev pub next_in_body : Body → Option Layout → Option Layout
-next_in_body (body.Request asked) layout = next_in_request asked layout
-next_in_body (body.Reply kind made) layout = next_in_answer made.answer layout
-
--- a message as a letter: with the layout of its position, and that of the next one if the message says there is one
-abbrev pub letter_of : LocalObject → Layout → Message → Letter
-letter_of local layout message = record {
-  layout = layout;
-  next = next_in_body message.body (layout_here local (suc message.position));
-  message = message;
-}
-
--- what the node keeps after it hears of the layouts in a letter
-abbrev pub learnt_from : LocalObject → Letter → LocalObject
-learnt_from local letter =
-    learnt_if (with_heard local letter.message.position letter.layout) (suc letter.message.position) letter.next
+  Grow : (id : ℕ) → LocalEvent
+  Hear : (start : ℕ) → Layout → LocalEvent
+  ReadOn : (id : ℕ) → LocalEvent
+  BeginAnew : (id : ℕ) → LocalEvent
 
 -- Calls
 
--- the letters that a call sends as it begins a phase at a position with this layout
-abbrev pub phase_letters : LocalObject → (call number : ℕ) → Kind → (position : ℕ) → Layout → (ℕ → Piece) → List Letter
-phase_letters local call number kind position layout piece =
-    map (letter_of local layout) (requests call number kind position layout.members 0 piece)
-
--- after the node begins a call with a first phase of this kind at a position with this layout
-abbrev pub begun_here : LocalObject → (id : ℕ) → CallKind → Stage → Kind → (position : ℕ) → Option Layout → Outcome
-begun_here local id call_kind stage kind position None = silent local
-begun_here local id call_kind stage kind position (Some layout) = record {
-  local = record local {
-    calls = local.calls ++ record {
-      node = local.node;
-      id = id;
-      kind = call_kind;
-      settled = None;
-      stage = stage;
-      phase = new_phase id 1 kind position layout 0;
-    } ∷ [];
-  };
-  sent = phase_letters local id 1 kind position layout empty_piece;
-}
-
--- after the node begins a read or a write: its first phase reads the sequence of layouts at position 0
+-- after the node begins a read or a write: its first phase reads the sequence of layouts at the start
 abbrev pub called_here : LocalObject → (id : ℕ) → CallKind → Outcome
-called_here local id kind =
-    begun_here local id kind (begun_at (first_stage kind 0) 0) Next 0 (layout_here local 0)
+called_here local id kind = called_at local id kind local.start (layout_here local local.start)
 
 -- after the node begins a move from the last position to a new one with this layout
 abbrev pub moving_here : LocalObject → (id : ℕ) → Layout → Outcome
 moving_here local id layout =
     let last = last_position local in
     let next = with_heard local (suc last) layout in
-    begun_here next id Move (first_stage Move last) (Spread Pending) last (layout_here next last)
+    begun_here next id Move (first_stage Move last) (Spread Pending) 1 last (layout_here next last)
 
 -- the pieces that a call sends to the members of a position with this layout
 abbrev pub pieces_here : Code → Layout → NodeCall → (member : ℕ) → Piece
@@ -149,11 +81,6 @@ advanced_at fragment local call next (Some layout) =
 abbrev pub advanced_here : Code → LocalObject → NodeCall → Option (Kind × ℕ) → Outcome
 advanced_here fragment local call None = silent local
 advanced_here fragment local call (Some next) = advanced_at fragment local call next (layout_here local next.1)
-
--- after a change that needs the call, if the node carries it out
-abbrev pub on_open_call : LocalObject → Option NodeCall → (NodeCall → Outcome) → Outcome
-on_open_call local None change = silent local
-on_open_call local (Some call) change = change call
 
 -- Messages
 
@@ -205,6 +132,12 @@ done_here fragment local (LocalEvent.Settle id value) =
 done_here fragment local (LocalEvent.Answer id) = silent (record local { calls = without_call id local.calls })
 done_here fragment local (LocalEvent.GiveUp id) = silent (record local { calls = without_call id local.calls })
 done_here fragment local (LocalEvent.Close position) = silent (closed_here local position)
+done_here fragment local (LocalEvent.Grow id) = silent (record local { start = suc local.start })
+done_here fragment local (LocalEvent.Hear start layout) = silent (heard_start local start layout)
+done_here fragment local (LocalEvent.ReadOn id) =
+    on_open_call local (open_call local.calls id) (λ call. reads_here local call (number_at call local.start))
+done_here fragment local (LocalEvent.BeginAnew id) =
+    on_open_call local (open_call local.calls id) (λ call. reads_here local call (anew_number call local.start))
 
 -- after these events, one after another, with all letters in the order in which they were sent
 abbrev pub all_done : Code → LocalObject → List LocalEvent → Outcome

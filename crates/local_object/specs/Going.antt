@@ -18,7 +18,8 @@ use Rattle.local_object.specs.declared.progress.Ended.{Ended}
 use Rattle.local_object.specs.Coding.{call_value}
 use Rattle.local_object.specs.Doing.{IsOutcome}
 use Rattle.local_object.specs.Ended.{all_told}
-use Rattle.local_object.specs.Events.{LocalEvent, Outcome, on_open_call, silent}
+use Rattle.local_object.specs.Events.{LocalEvent}
+use Rattle.local_object.specs.Outcomes.{Outcome, on_open_call, silent}
 use Rattle.mail.specs.declared.message.Message.{Message}
 use Rattle.open_calls.specs.OpenCalls.{taking_open, open_call, with_open}
 use Rattle.local_object.specs.Letters.{letter_in}

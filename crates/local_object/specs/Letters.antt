@@ -5,7 +5,7 @@ use Rattle.layout.specs.Layout.{Layout}
 use Rattle.mail.specs.declared.message.Message.{Message}
 use Rattle.letter.specs.declared.letter.Letter.{Letter}
 use Rattle.local_object.specs.Local.{Place, layout_in, heard_place}
-use Rattle.local_object.specs.Events.{next_in_body}
+use Rattle.local_object.specs.Outcomes.{next_in_body}
 
 -- a message as a letter with the layouts of these places, as `letter_of` defines it
 abbrev pub letter_in : List Place → Layout → Message → Letter

@@ -1,6 +1,8 @@
 pub mod Local
 pub mod KeptBanks
 pub mod ChangedBanks
+pub mod Outcomes
+pub mod Starting
 pub mod Events
 pub mod May
 pub mod Codes
@@ -19,4 +21,5 @@ pub mod Resent
 pub mod New
 pub mod Restarts
 pub mod Sent
-pub mod Starting
+pub mod ReadingOn
+pub mod Anew

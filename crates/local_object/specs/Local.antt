@@ -14,10 +14,12 @@ pub record Place : Type 0 where
   pub bank : Option KeptBank
 
 -- what one node keeps of one object: the node's number, of how many finalized versions its banks keep pieces besides
--- the newest (None: of all), the positions that it has heard of, each once, and the calls that it carries out
+-- the newest (None: of all), the position at which its calls begin, the positions that it has heard of, each once, and
+-- the calls that it carries out
 pub record LocalObject : Type 0 where
   pub node : ℕ
   pub delta : Option ℕ
+  pub start : ℕ
   pub places : List Place
   pub calls : List NodeCall
 
@@ -26,6 +28,7 @@ abbrev pub new_local : (node : ℕ) → (delta : Option ℕ) → (first : Layout
 new_local node delta first = record {
   node = node;
   delta = delta;
+  start = 0;
   places = record { position = 0; layout = first; bank = None } ∷ [];
   calls = [];
 }
@@ -79,6 +82,12 @@ with_heard local position layout =
 abbrev pub learnt_if : LocalObject → (position : ℕ) → Option Layout → LocalObject
 learnt_if local position None = local
 learnt_if local position (Some layout) = with_heard local position layout
+
+-- what the node keeps after it hears of a start with its layout: it then knows this start, unless it knew one that is
+-- not earlier
+abbrev pub heard_start : LocalObject → (start : ℕ) → Layout → LocalObject
+heard_start local start layout =
+    if nat_lt local.start start then record (with_heard local start layout) { start = start } else local
 
 -- the greatest of these positions and the given one
 abbrev pub greatest_position : List Place → ℕ → ℕ

@@ -1,20 +1,25 @@
 -- When an event may happen at a node's object, as far as the node can tell from what it keeps.
-use Rattle.std.specs.Prelude.{◌≡◌, ◌≢◌, ◌⊎◌, ℕ, List, [], ◌∷◌, None, Some, IsSome, false, slice_get}
+use Rattle.std.specs.Prelude.{◌≡◌, ◌≢◌, ◌⊎◌, ◌<◌, ℕ, List, [], ◌∷◌, None, Some, IsSome, false, slice_get}
 use Rattle.std.specs.List.{AllByRecursion}
 use Rattle.layout.specs.Layout.{Layout, IsLawful}
 use Rattle.bank.specs.declared.kind.Kind.{Kind}
+use Rattle.bank.specs.declared.kind.Kind.TheVariants.{Spread}
 use Rattle.bank.specs.declared.reply.Reply.{Reply}
 use Rattle.bank.specs.declared.request.Request.{Request}
+use Rattle.bank.specs.declared.status.Status.TheVariants.{Final}
 use Rattle.mail.specs.declared.message.Body.TheVariants as body
 use Rattle.mail.specs.Phase.{lacks_pieces}
 use Rattle.record.specs.declared.call.CallKind.TheVariants.{Move}
+use Rattle.record.specs.declared.stage.Stage.TheVariants.{ReadBegin}
 use Rattle.record.specs.Fragments.{Code, IsValue, IsFetch, HasPieces}
 use Rattle.record.specs.Records.{Object, layout_at}
-use Rattle.open_calls.specs.OpenCalls.{NodeCall, open_call, due_phase, IsReady, IsLacking}
+use Rattle.open_calls.specs.OpenCalls.{NodeCall, open_call, due_phase, stage_reached, IsReady, IsLacking}
 use Rattle.letter.specs.declared.letter.Letter.{Letter}
 use Rattle.local_object.specs.KeptBanks.{closing}
 use Rattle.local_object.specs.Local.{LocalObject, bank_in, heard_place, layout_here}
-use Rattle.local_object.specs.Events.{LocalEvent, done_here, learnt_from}
+use Rattle.local_object.specs.Starting.{IsReadingHere}
+use Rattle.local_object.specs.Events.{LocalEvent, done_here}
+use Rattle.local_object.specs.Outcomes.{learnt_from}
 
 -- the node carries out the call with this id
 abbrev pub IsCarriedOut : LocalObject → (id : ℕ) → NodeCall → Type 0
@@ -37,10 +42,16 @@ pub record IsFetchedHere (fragment : Code) (local : LocalObject) (call : NodeCal
       HasPieces fragment object call.phase value
   pub is_value : IsValue value
 
+-- the current phase of the call has raised the pointer of a position to final, at a quorum
+pub record HasSpreadAt (call : NodeCall) (position : ℕ) : Type 0 where
+  pub kind : call.phase.kind ≡ Spread Final
+  pub complete : IsSome call.phase.end
+  pub at : call.phase.position ≡ position
+
 -- the event may happen, as far as the node can tell
 abbrev pub MayHappenHere : Code → LocalObject → LocalEvent → Type 0
-MayHappenHere fragment local (LocalEvent.BeginRead id) = IsSome (layout_here local 0)
-MayHappenHere fragment local (LocalEvent.BeginWrite id value) = IsSome (layout_here local 0) × IsValue value
+MayHappenHere fragment local (LocalEvent.BeginRead id) = IsSome (layout_here local local.start)
+MayHappenHere fragment local (LocalEvent.BeginWrite id value) = IsSome (layout_here local local.start) × IsValue value
 MayHappenHere fragment local (LocalEvent.BeginMove id layout) =
     IsLawful layout × AllByRecursion (λ call. call.kind ≢ Move) local.calls
 MayHappenHere fragment local (LocalEvent.Advance id) =
@@ -58,6 +69,15 @@ MayHappenHere fragment local (LocalEvent.GiveUp id) =
     AllByRecursion (λ call. call.id ≡ id → call.kind ≢ Move) local.calls
 MayHappenHere fragment local (LocalEvent.Close position) =
     IsSome (closing (bank_in (heard_place local.places position)))
+MayHappenHere fragment local (LocalEvent.Grow id) =
+    (call : NodeCall) × IsCarriedOut local id call × HasSpreadAt call local.start
+MayHappenHere fragment local (LocalEvent.Hear start layout) = Unit {0}
+MayHappenHere fragment local (LocalEvent.ReadOn id) =
+    (call : NodeCall) × IsCarriedOut local id call × IsReadingHere local call × (call.phase.position < local.start)
+    × IsSome (layout_here local local.start)
+MayHappenHere fragment local (LocalEvent.BeginAnew id) =
+    (call : NodeCall) × IsCarriedOut local id call × IsLacking call × (stage_reached call ≡ ReadBegin)
+    × IsSome (layout_here local local.start)
 
 -- these events may happen here one after another
 abbrev pub MayAllHappen : Code → LocalObject → List LocalEvent → Type 0

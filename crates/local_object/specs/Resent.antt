@@ -6,7 +6,8 @@ use Rattle.open_calls.specs.OpenCalls.{NodeCall, open_call}
 use Rattle.letter.specs.declared.letter.Letter.{Letter}
 use Rattle.local_object.specs.Coding.{is_sendable}
 use Rattle.local_object.specs.Local.{LocalObject, layout_here}
-use Rattle.local_object.specs.Events.{phase_letters, pieces_here}
+use Rattle.local_object.specs.Events.{pieces_here}
+use Rattle.local_object.specs.Outcomes.{phase_letters}
 use Rattle.local_object.specs.May.{IsCarriedOut}
 use Rattle.local_object.specs.Sent.{due_again}
 use Rattle.local_object.specs.Taking.{machine_of}

@@ -1,13 +1,17 @@
 -- Exactly which events happen after a call took a reply. A call whose complete fetch lacks pieces does not begin anew
 -- at once, since it might lack pieces again, and so on for ever. It waits until it sends its requests again, and begins
 -- anew when a member replies that had replied before.
-use Rattle.std.specs.Prelude.{◌≡◌, ◌⊎◌, ℕ, ◌+◌, ◌^◌, ◌&&◌, ◌==◌, Bool, true, false, is_some, if◌then◌else◌, nat_lt}
+use Rattle.std.specs.Prelude.{◌≡◌, ◌⊎◌, ℕ, suc, ◌+◌, ◌^◌, ◌&&◌, ◌==◌, Bool, true, false, is_some, nat_lt}
+use Rattle.std.specs.Prelude.{not, if◌then◌else◌}
 use Rattle.std.specs.Prelude.{List, [], ◌∷◌, ◌++◌, Option, None, Some}
 use Rattle.bank.specs.declared.kind.Kind.{Kind}
 use Rattle.encoder.specs.Fragment.{fragment}
 use Rattle.call.specs.declared.next.Next.{Next}
 use Rattle.call.specs.declared.next.Next.TheVariants as next
-use Rattle.call.specs.Call.{OpenCall as Machine}
+use Rattle.call.specs.Call.{OpenCall as Machine, reached}
+use Rattle.record.specs.Legal.{is_move}
+use Rattle.record.specs.declared.stage.Stage.{Stage}
+use Rattle.record.specs.declared.stage.Stage.TheVariants.{ReadBegin}
 use Rattle.mail.specs.declared.message.Message.{Message}
 use Rattle.mail.specs.Phase.{Phase, has_taken}
 use Rattle.open_calls.specs.OpenCalls.{NodeCall, open_call}
@@ -18,8 +22,10 @@ use Rattle.local_object.specs.Doing.{IsOutcome}
 use Rattle.local_object.specs.Ended.{all_told}
 use Rattle.local_object.specs.Events.{LocalEvent, all_done}
 use Rattle.local_object.specs.Going.{IsFetchedValue, next_here, next_if}
-use Rattle.local_object.specs.Local.{LocalObject, Place, layout_in, heard_place}
+use Rattle.local_object.specs.Leaving.{final_position, is_at}
+use Rattle.local_object.specs.Local.{LocalObject, Place, heard_place, layout_here, layout_in}
 use Rattle.local_object.specs.May.{IsCarriedOut}
+use Rattle.local_object.specs.Starting.{first_number}
 
 -- a call as the machine that carries it out
 abbrev pub machine_of : NodeCall → Machine
@@ -56,22 +62,62 @@ is_repeated (Some call) message = is_repeat_in call.phase message
 abbrev pub repeats : LocalObject → Letter → Bool
 repeats local letter = is_repeated (open_call local.calls letter.message.call) letter.message
 
+-- whether a call can begin anew at the node's start: it is no move, the node has heard of the layout there, and there
+-- is a number for the phase
+abbrev pub can_begin_anew : LocalObject → Machine → Bool
+can_begin_anew local call =
+    not (is_move call.kind) && (is_some (layout_here local local.start)
+    && nat_lt (call.phase.number + first_number local.start) (2 ^ 32))
+
+-- whether a first reading of the sequence of layouts is to begin at this stage
+abbrev pub is_read_begin : Stage → Bool
+is_read_begin ReadBegin = true
+is_read_begin _ = false
+
+-- the events by which a call reads the sequence of layouts anew from the node's start on, if it can
+abbrev pub begin_anew_events : LocalObject → Machine → List LocalEvent
+begin_anew_events local call = if can_begin_anew local call then LocalEvent.BeginAnew call.id ∷ [] else []
+
+-- a call whose fetch lacks pieces begins anew, if it can: one that is to read the sequence of layouts does so from the
+-- node's start on, and any other call begins a phase of this kind at this position
+abbrev pub restart_events : LocalObject → Machine → Kind → (position : ℕ) → List LocalEvent
+restart_events local call kind position =
+    if is_read_begin (reached call) then begin_anew_events local call
+    else begin_events local.places call kind position
+
 -- the events by which a call goes on that does this next
-abbrev pub step_events : List Place → Machine → Next → List LocalEvent
-step_events places call next.Wait = []
-step_events places call next.Settle = []
-step_events places call (next.Restart kind position) = begin_events places call kind position
-step_events places call (next.Begin kind position) = begin_events places call kind position
-step_events places call next.Answer = LocalEvent.Answer call.id ∷ []
+abbrev pub step_events : LocalObject → Machine → Next → List LocalEvent
+step_events local call next.Wait = []
+step_events local call next.Settle = []
+step_events local call (next.Restart kind position) = restart_events local call kind position
+step_events local call (next.Begin kind position) = begin_events local.places call kind position
+step_events local call next.Answer = LocalEvent.Answer call.id ∷ []
 
 -- the events by which a call goes on, if there is one; it begins anew only if `again` is true
-abbrev pub call_events : (again : Bool) → List Place → Option NodeCall → List LocalEvent
-call_events again places None = []
-call_events again places (Some call) = step_events places (machine_of call) (next_if again (machine_of call))
+abbrev pub call_events : (again : Bool) → LocalObject → Option NodeCall → List LocalEvent
+call_events again local None = []
+call_events again local (Some call) = step_events local (machine_of call) (next_if again (machine_of call))
 
 -- the events by which the call with this id goes on; it begins anew only if `again` is true
 abbrev pub lead_events : (again : Bool) → LocalObject → (id : ℕ) → List LocalEvent
-lead_events again local id = call_events again local.places (open_call local.calls id)
+lead_events again local id = call_events again local (open_call local.calls id)
+
+-- whether the object's start grows by a call: the call has raised the pointer of the start to final at a quorum, the
+-- node has heard of the next position, and numbers of phases are left for calls that begin there
+abbrev pub grows_by : LocalObject → Option NodeCall → Bool
+grows_by local None = false
+grows_by local (Some call) =
+    is_at (final_position (Some call)) local.start && (is_some call.phase.end
+    && (is_some (layout_here local (suc local.start)) && nat_lt (local.start + 1) (2 ^ 31)))
+
+-- the events by which the start grows by the call with this id
+abbrev pub grow_events : LocalObject → (id : ℕ) → List LocalEvent
+grow_events local id = if grows_by local (open_call local.calls id) then LocalEvent.Grow id ∷ [] else []
+
+-- the events by which the start grows by the call with this id, and the call then goes on
+abbrev pub going_events : (again : Bool) → LocalObject → (id : ℕ) → List LocalEvent
+going_events again local id =
+    grow_events local id ++ lead_events again (all_done fragment local (grow_events local id)).local id
 
 -- the call with this id is to settle what it fetched, and its pieces decode to this value
 pub record CanSettle (local : LocalObject) (id : ℕ) (value : List ℕ) : Type 0 where
@@ -98,15 +144,14 @@ pub record SettlesFetched (old : LocalObject) (id : ℕ) (new : LocalObject) : T
   pub settles : AreSettling old id events
   pub done : IsOutcomeWithAnswers old events new [] []
 
--- after a reply was taken, the call settles what it fetched, if it can, and then goes on; it begins anew only if it had
--- recorded a reply of that member before
+-- after a reply was taken, the call settles what it fetched, if it can; the start grows by the call, if it can; and
+-- then the call goes on; it begins anew only if it had recorded a reply of that member before
 pub record GoesOn (old : LocalObject) (letter : Letter) (new : LocalObject) (letters : List Letter)
     (ended : List Ended) : Type 0 where
   pub settling : List LocalEvent
   pub settles : AreSettling (all_done fragment old (LocalEvent.Take letter ∷ [])).local letter.message.call settling
-  pub leads : IsOutcomeWithAnswers old
-      (LocalEvent.Take letter ∷ settling
-      ++ lead_events (repeats old letter) (all_done fragment old (LocalEvent.Take letter ∷ settling)).local
+  pub leads : IsOutcomeWithAnswers old (LocalEvent.Take letter ∷ settling
+      ++ going_events (repeats old letter) (all_done fragment old (LocalEvent.Take letter ∷ settling)).local
       letter.message.call)
       new letters ended
 

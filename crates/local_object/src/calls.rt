@@ -1,22 +1,24 @@
 //! The calls that a node carries out on an object.
 
 ghost use Rattle.std.specs.Prelude.{◌≡◌, suc, ◌<◌, ◌^◌, ◌++◌, ◌∷◌, [], length, Some, remove, slice_get, slice_set};
-ghost use Rattle.std.specs.Prelude.{◌==◌, position, IfErr, OnOk, MatchOption};
+ghost use Rattle.std.specs.Prelude.{◌==◌, ◌&&◌, position, is_some, IfOk, IfErr, OnOk, MatchOption};
 ghost use Rattle.std.specs.List.{list_any};
 ghost use Rattle.tag.specs.declared.refusal.Refusal.TheVariants.{NoMemory};
+ghost use Rattle.bank.specs.declared.kind.Kind.TheVariants.{Next};
 ghost use Rattle.record.specs.Legal.{is_move};
 ghost use Rattle.call.specs.Call.{OpenCall as Machine};
 ghost use Rattle.call.specs.Limits.{IsWithinLimits};
 ghost use Rattle.call.specs.Steps.{entered, phase_next, taken_call};
 ghost use Rattle.local_object.specs.Distinct.{HaveOtherIds, HaveDistinctIds, IsCallAt};
-ghost use Rattle.local_object.specs.Leaving.{if_final};
+ghost use Rattle.local_object.specs.Anew.{reading_machine};
+ghost use Rattle.local_object.specs.Leaving.{if_final, is_at};
 
 use bank::{Kind, Status};
 use bytes::Bytes;
 use call::Call;
 use layout::Layout;
-use mail::Message;
-use record::Operation;
+use mail::{Ask, Message};
+use record::{CallKind, Operation, Stage};
 use std::alloc::Global;
 use std::marker::Model;
 use tag::{CallId, Refusal};
@@ -134,6 +136,24 @@ impl Calls {
         Ok(())
     }
 
+    /// The call at an index, which has settled nothing, begins to read the sequence of layouts with what is asked.
+    /// `NoMemory` is the only refusal.
+    pub(crate) fn read_at(&mut self, index: usize, ask: Ask, layout: &Layout) -> Result<(), Refusal>
+        requires within { index < length self.old }
+        requires unsettled { (call : Machine) → slice_get self.old index ≡ Some call → call.settled ≡ None }
+        requires named { (call : Machine) → slice_get self.old index ≡ Some call → ask.call ≡ call.id }
+        requires kind { ask.kind ≡ Next }
+        ensures read { OnOk result ((call : Machine) → slice_get self.old index ≡ Some call
+            → self.new ≡ slice_set self.old index (reading_machine call ask.number ask.position layout.now)) }
+
+        ensures refused { IfErr result (λ e. e ≡ NoMemory) }
+    {
+        let alloc = *self.calls.allocator();
+        let kind = kind_of(&self.calls[index])?;
+        self.calls[index] = Call::begin(alloc, ask, kind, Stage::ReadBegin, layout, 0)?;
+        Ok(())
+    }
+
     /// Removes the call at an index. Later ones move down by one index. It allocates no memory.
     pub(crate) fn remove(&mut self, index: usize) -> Call
         requires { index < length self.old }
@@ -158,6 +178,32 @@ pub(crate) fn is_move(call: &Call) -> bool
     match call.operation() {
         Operation::Move => true,
         Operation::Read | Operation::Write => false,
+    }
+}
+
+// The kind of the call, whose value shares its bytes.
+fn kind_of(call: &Call) -> Result<CallKind, Refusal>
+    ensures kind { IfOk result (λ kind. kind ≡ call.now.kind) }
+    ensures refused { IfErr result (λ e. e ≡ NoMemory) }
+{
+    match call.operation() {
+        Operation::Read => Ok(CallKind::Read),
+        Operation::Write => match call.value() {
+            Some(value) => Ok(CallKind::Write(value.clone()?)),
+            None => unreachable!(),
+        },
+        Operation::Move => Ok(CallKind::Move),
+    }
+}
+
+/// Returns whether the call has raised the pointer of this position to final, at a quorum.
+pub(crate) fn has_raised(call: &Call, position: u32) -> bool
+    ensures { result ≡ (is_at (if_final call.now.phase.kind call.now.phase.position) position
+        && is_some call.now.phase.end) }
+{
+    match final_position(call) {
+        Some(there) => there == position && call.phase().complete(),
+        None => false,
     }
 }
 

@@ -19,3 +19,4 @@ mod pieces;
 mod place;
 mod places;
 mod progress;
+mod reading;

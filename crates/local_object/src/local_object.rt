@@ -1,7 +1,8 @@
 ghost use Rattle.std.specs.Prelude.{◌≡◌, ◌+◌, ◌<◌, ◌^◌, [], IfOk, IfErr, OnOk, IsSome, nat_lt, option_to_list};
 ghost use Rattle.tag.specs.declared.refusal.Refusal.TheVariants.{NoMemory};
 ghost use Rattle.local_object.specs.Local.{new_local, heard_place, with_heard};
-ghost use Rattle.local_object.specs.Events.{learnt_from, served_here};
+ghost use Rattle.local_object.specs.Events.{served_here};
+ghost use Rattle.local_object.specs.Outcomes.{learnt_from};
 ghost use Rattle.local_object.specs.Doing.{IsOutcome, can_close, close_events, has_member, is_served, serve_events};
 
 use crate::calls::Calls;
@@ -18,6 +19,7 @@ mod agreement;
 mod begin;
 mod go_on;
 mod resend;
+mod starts;
 mod take;
 mod views;
 
@@ -33,6 +35,8 @@ pub struct LocalObject {
     node: u8,
     // How many finalized versions the banks keep beside the newest. None where they keep all.
     delta: Option<u32>,
+    // The position at which calls begin: at each position before it, the pointer is final at a quorum.
+    start: u32,
     places: Places,
     calls: Calls,
     alloc: Global,
@@ -43,6 +47,7 @@ impl Drop for LocalObject {
         let Self {
             node: _,
             delta: _,
+            start: _,
             places: _,
             calls: _,
             alloc: _,
@@ -55,12 +60,21 @@ impl Model for LocalObject {
     ghost use Rattle.local_object.specs.contracts.place.Place as heard;
     ghost use Rattle.local_object.specs.Local.{LocalObject as Local};
     ghost use Rattle.local_object.specs.Codes.{carried, local_code};
+    ghost use Rattle.local_object.specs.Distinct.{KnowsStart};
 
     ghost Value = { Local };
 
     ghost coded = { local_code heard.the_row.coded (Prim.hlevel codes) };
 
-    ghost view = { λ o. record { node = o.node; delta = o.delta; places = o.places; calls = carried o.node o.calls } };
+    ghost view = { λ o. record {
+      node = o.node;
+      delta = o.delta;
+      start = o.start;
+      places = o.places;
+      calls = carried o.node o.calls;
+    } };
+
+    ghost invariant = { λ o. KnowsStart o.places o.start };
 }
 
 impl LocalObject {
@@ -80,6 +94,7 @@ impl LocalObject {
         Ok(LocalObject {
             node,
             delta,
+            start: 0,
             places: Places::new(alloc, first)?,
             calls: Calls::new(alloc),
             alloc,

@@ -1,14 +1,14 @@
 //! The positions that a node has heard of.
 
 ghost use Rattle.std.specs.Prelude.{◌≡◌, ◌==◌, [], ◌∷◌, None, IfOk, IfErr, OnOk, IsSome, MatchOption, option_copied};
-ghost use Rattle.std.specs.Prelude.{if◌then◌else◌, nat_lt, position, ◌-◌, ◌^◌, min, sum_by};
+ghost use Rattle.std.specs.Prelude.{ℕ, if◌then◌else◌, nat_lt, position, ◌-◌, ◌^◌, min, sum_by};
 ghost use Rattle.tag.specs.declared.refusal.Refusal.TheVariants.{NoMemory};
 ghost use Rattle.local_object.specs.Local.{added_place, bank_in, bank_or_opened, greatest_position, layout_in};
 ghost use Rattle.local_object.specs.Local.{heard_place, with_bank_here};
 ghost use Rattle.local_object.specs.ChangedBanks.{kept_bank};
 ghost use Rattle.local_object.specs.KeptBanks.{after_closing, closing, kept_reply};
 ghost use Rattle.local_object.specs.Changing.{place_bytes};
-ghost use Rattle.local_object.specs.Distinct.{IsBankInOrderIfOpen, IsPlaceAt};
+ghost use Rattle.local_object.specs.Distinct.{IsBankInOrderIfOpen, IsPlaceAt, KnowsStart};
 ghost use Rattle.local_object.specs.New.{are_new_places};
 
 use crate::kept_bank::KeptBank;
@@ -113,15 +113,6 @@ impl Places {
         bytes_of(&self.places)
     }
 
-    /// Returns the first position, which is 0, and of which the node has always heard.
-    pub(crate) fn first(&self) -> u32
-        ensures first { result ≡ 0 }
-        ensures known { IsSome (layout_in (heard_place self.now 0)) }
-    {
-        let _places = &self.places;
-        0
-    }
-
     /// Returns the last position that the node has heard of.
     pub(crate) fn last(&self) -> u32
         ensures last { result ≡ greatest_position self.now 0 }
@@ -138,6 +129,7 @@ impl Places {
             (self.new ≡ added_place self.old (heard_place self.old position) position layout.now) }
 
         ensures refused { IfErr result (λ e. e ≡ NoMemory) }
+        ensures start { (start : ℕ) → KnowsStart self.old start → KnowsStart self.new start }
     {
         match place_of(&self.places, u64::from(position)) {
             Some(_) => Ok(()),
@@ -167,6 +159,7 @@ impl Places {
             ≡ kept_reply (bank_or_opened (bank_in (heard_place self.old position)) member delta) request.now) }
 
         ensures refused { IfErr result (λ e. e ≡ NoMemory) }
+        ensures start { (start : ℕ) → KnowsStart self.old start → KnowsStart self.new start }
     {
         let Some(index) = place_of(&self.places, u64::from(position)) else {
             unreachable!();
@@ -180,6 +173,8 @@ impl Places {
         requires open { IsSome (closing (bank_in (heard_place self.old position))) }
         ensures places { self.new
             ≡ with_bank_here self.old position (after_closing (bank_in (heard_place self.old position))) }
+
+        ensures start { (start : ℕ) → KnowsStart self.old start → KnowsStart self.new start }
     {
         let Some(index) = place_of(&self.places, u64::from(position)) else {
             unreachable!();

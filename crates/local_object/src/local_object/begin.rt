@@ -9,12 +9,14 @@ ghost use Rattle.record.specs.PhaseOrder.{begun_at};
 ghost use Rattle.call.specs.Pieces.{HavePieces};
 ghost use Rattle.open_calls.specs.OpenCalls.{open_call};
 ghost use Rattle.local_object.specs.Local.{last_position, layout_here};
-ghost use Rattle.local_object.specs.Events.{LocalEvent, begun_here};
+ghost use Rattle.local_object.specs.Events.{LocalEvent, called_here};
+ghost use Rattle.local_object.specs.Outcomes.{begun_here};
 ghost use Rattle.local_object.specs.Doing.{IsOutcome, is_moving, move_refusal, read_refusal, unless_open};
 ghost use Rattle.local_object.specs.Doing.{write_refusal};
 
 use crate::LocalObject;
 use crate::letters::letters_of;
+use crate::reading::first_number;
 use bank::{Kind, Status};
 use bytes::Bytes;
 use call::{Call, requests};
@@ -26,7 +28,7 @@ use tag::{CallId, LONGEST_VALUE, Refusal};
 
 impl LocalObject {
     /// Begins a read, with an id that no other call of the object has in the whole cluster. Returns the read's requests
-    /// to the members of position 0.
+    /// to the members of the object's start.
     ///
     /// `NotNow` if a call with this id is open here, and `NoMemory`.
     pub fn begin_read(&mut self, id: CallId) -> Result<Vec<Letter>, Refusal>
@@ -37,12 +39,11 @@ impl LocalObject {
         ensures unchanged { IfErr result (λ e. (e ≡ NoMemory) ⊎ (self.new ≡ self.old)) }
     {
         self.refuse_open(id)?;
-        let first = self.places.first();
-        self.begin(id, CallKind::Read, Stage::ReadBegin, Kind::Next, first)
+        self.begin_at_start(id, CallKind::Read)
     }
 
     /// The node begins a write of this value, with an id that no other call of the object has in the whole cluster. The
-    /// letters are its requests to the members of position 0.
+    /// letters are its requests to the members of the object's start.
     ///
     /// `NotNow` if a call with this id is open here, `TooLong` if the value has more than `LONGEST_VALUE` bytes, and
     /// `NoMemory`.
@@ -57,14 +58,7 @@ impl LocalObject {
         if !is_short(value.as_slice()) {
             return Err(Refusal::TooLong);
         }
-        let first = self.places.first();
-        self.begin(
-            id,
-            CallKind::Write(value),
-            Stage::ReadBegin,
-            Kind::Next,
-            first,
-        )
+        self.begin_at_start(id, CallKind::Write(value))
     }
 
     /// Begins a move from the last position of which the node has heard to a new one with this layout. Returns the
@@ -111,13 +105,30 @@ impl LocalObject {
         prove!(layout.layout().k() >= 1);
         self.places.learn(last + 1, layout)?;
         let stage = Stage::MoveSpread { position: last };
-        self.begin(
-            id,
-            CallKind::Move,
-            stage,
-            Kind::Spread(Status::Pending),
-            last,
-        )
+        let ask = Ask {
+            call: id,
+            number: 1,
+            position: last,
+            kind: Kind::Spread(Status::Pending),
+        };
+        self.begin(ask, CallKind::Move, stage)
+    }
+
+    // Begins a read or a write at the object's start.
+    fn begin_at_start(&mut self, id: CallId, kind: CallKind) -> Result<Vec<Letter>, Refusal>
+        requires new { open_call self.old.calls id ≡ None }
+        ensures known { IsSome (layout_here self.old self.old.start) }
+        ensures local { OnOk result (self.new ≡ (called_here self.old id kind).local) }
+        ensures letters { IfOk result (λ letters. letters.items ≡ (called_here self.old id kind).sent) }
+        ensures refused { IfErr result (λ e. e ≡ NoMemory) }
+    {
+        let ask = Ask {
+            call: id,
+            number: first_number(self.start),
+            position: self.start,
+            kind: Kind::Next,
+        };
+        self.begin(ask, kind, Stage::ReadBegin)
     }
 
     // Refused with `NotNow` where a call with this id is open here.
@@ -131,35 +142,22 @@ impl LocalObject {
         }
     }
 
-    // Begins a call with a first phase of this kind, which sends no pieces, at this position.
-    fn begin(
-        &mut self,
-        id: CallId,
-        kind: CallKind,
-        stage: Stage,
-        asked: Kind,
-        position: u32,
-    ) -> Result<Vec<Letter>, Refusal>
-        requires known { IsSome (layout_here self.old position) }
-        requires new { open_call self.old.calls id ≡ None }
-        requires plain { (members : ℕ) → HavePieces asked members None }
-        ensures local { OnOk result (self.new ≡ (begun_here self.old id kind (begun_at stage position) asked position
-            (layout_here self.old position)).local) }
+    // Begins a call with a first phase that asks this and sends no pieces.
+    fn begin(&mut self, ask: Ask, kind: CallKind, stage: Stage) -> Result<Vec<Letter>, Refusal>
+        requires known { IsSome (layout_here self.old ask.position) }
+        requires new { open_call self.old.calls ask.call ≡ None }
+        requires plain { (members : ℕ) → HavePieces ask.kind members None }
+        ensures local { OnOk result (self.new ≡ (begun_here self.old ask.call kind (begun_at stage ask.position)
+            ask.kind ask.number ask.position (layout_here self.old ask.position)).local) }
 
         ensures letters { IfOk result (λ letters. letters.items
-            ≡ (begun_here self.old id kind (begun_at stage position) asked position
-            (layout_here self.old position)).sent) }
+            ≡ (begun_here self.old ask.call kind (begun_at stage ask.position) ask.kind ask.number ask.position
+            (layout_here self.old ask.position)).sent) }
 
         ensures refused { IfErr result (λ e. e ≡ NoMemory) }
     {
-        let Some(layout) = self.places.shared_layout_of(u64::from(position)) else {
+        let Some(layout) = self.places.shared_layout_of(u64::from(ask.position)) else {
             unreachable!();
-        };
-        let ask = Ask {
-            call: id,
-            number: 1,
-            position,
-            kind: asked,
         };
         let messages = requests(self.alloc, ask, layout.layout().n(), None)?;
         let letters = letters_of(self.alloc, &self.places, layout, messages)?;

@@ -6,6 +6,7 @@ ghost use Rattle.local_object.specs.Going.{settled_here};
 ghost use Rattle.local_object.specs.Taking.{CanSettle, IsOutcomeWithAnswers, SettlesFetched, lead_events};
 
 use crate::going::{advance, ended, fetched, next_here, next_if};
+use crate::reading::begin_anew;
 use crate::{LocalObject, Progress};
 use bytes::Bytes;
 use call::Next;
@@ -68,7 +69,18 @@ impl LocalObject {
         };
         match next_if(self.calls.at(index), again) {
             Next::Wait | Next::Settle => Ok(Progress::none(self.alloc)),
-            Next::Restart(kind, position) | Next::Begin(kind, position) => {
+            Next::Restart(kind, position) => {
+                let letters = begin_anew(
+                    self.alloc,
+                    &self.places,
+                    &mut self.calls,
+                    index,
+                    self.start,
+                    (kind, position),
+                )?;
+                Ok(Progress::sent(letters))
+            }
+            Next::Begin(kind, position) => {
                 let letters = advance(
                     self.alloc,
                     &self.places,

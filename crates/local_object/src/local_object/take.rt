@@ -16,11 +16,13 @@ use tag::Refusal;
 
 impl LocalObject {
     /// A call of the node takes a reply and goes on as far as it can: it settles the value that it fetched, and begins
-    /// its next phase or is answered. Nothing changes if the letter is no reply to a call that is open here, or if
-    /// there is no number in 32 bits for the next position.
+    /// its next phase or is answered. If it has raised the pointer of the object's start to final at a quorum, the
+    /// start grows by one. Nothing changes if the letter is no reply to a call that is open here, or if there is no
+    /// number in 32 bits for the next position.
     ///
     /// If its complete fetch lacks pieces, the call does not begin anew at once. It waits until its requests are sent
     /// again (`resend`), and begins anew when it takes a reply to this fetch from a member whose reply it had recorded.
+    /// A read then reads the sequence of layouts from the start on.
     ///
     /// If the call cannot go on, it waits, and `give_up` ends it: the node has not heard of the layout that it needs,
     /// or there is no number for its next position, phase or tag, or the pieces that it fetched do not decode. This
@@ -43,6 +45,7 @@ impl LocalObject {
         let again = self.repeats(&letter);
         self.take_reply(letter)?;
         self.settle(id)?;
+        self.grow(id);
         self.lead(id, again)
     }
 

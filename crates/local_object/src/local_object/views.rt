@@ -50,6 +50,14 @@ impl LocalObject {
         }
     }
 
+    /// Returns the object's start: the position at which calls begin here. At each position before it, the pointer is
+    /// final at a quorum.
+    pub fn start(&self) -> u32
+        ensures { result ≡ self.now.start }
+    {
+        self.start
+    }
+
     /// Returns the positions that the node has heard of, in the order in which it heard of them. Position 0 is among
     /// them.
     pub fn places(&self) -> &[Place]
@@ -59,21 +67,22 @@ impl LocalObject {
     }
 
     /// Returns whether the object equals what `LocalObject::new` makes for this node, with this `delta` and this layout
-    /// of position 0: no call is open here, the node has heard of no other position, and keeps no bank. It allocates
-    /// no memory.
+    /// of position 0: calls begin at position 0, none is open here, the node has heard of no other position, and keeps
+    /// no bank. It allocates no memory.
     pub fn is_new(&self, node: u8, delta: Option<u32>, first: &Layout) -> bool
         ensures { (result ≡ true) ↔ (self.now ≡ new_local node delta first.now) }
     {
         self.is_made_of(node, delta, first)
     }
 
-    // Whether the object has this node, this `delta`, no open call, and no place but position 0 with this layout and
-    // without a bank.
+    // Whether the object has this node, this `delta`, the start 0, no open call, and no place but position 0 with this
+    // layout and without a bank.
     fn is_made_of(&self, node: u8, delta: Option<u32>, first: &Layout) -> bool
         ensures { result ≡ is_new self.now node delta first.now }
     {
         self.node == node
             && self.delta == delta
+            && self.start == 0
             && self.open_calls() == 0
             && self.places.are_new(first)
     }

@@ -3,8 +3,7 @@ use Rattle.std.proofs.lemmas.Result.{IfOk-weaker}
 use Rattle.mail.specs.Phase.{Phase}
 use Rattle.local_object.specs.Local.{layout_in, heard_place}
 use Rattle.local_object.specs.Pieces.{first_pieces}
-use Rattle.local_object.proofs.FetchedLemmas.{decoded_as, fetched_by, none_fetched}
-use Rattle.local_object.proofs.OpenLemmas.{match_weaker}
+use Rattle.local_object.proofs.FetchedLemmas.{decoded_as, fetched_by, match_weaker, none_fetched}
 use Rattle.local_object.proofs.going.fetched.Goals as goal
 
 pub returns-in_default-clause-value : goal.returns-in_default-clause-value

@@ -20,7 +20,7 @@ returns-then-is_move-clause-done c =
     let same = same_call at.call c.at.result.now (sym at.there ∙ c.at.ensures) in
     let moves : is_move at.call.kind ≡ true =
     ap (λ (m : Machine). is_move m.kind) same ∙ sym c.is_move.ensures ∙ c.if-is_move.true in
-    give_up_none (object o.node o.delta o.places o.calls) c.args.self.now c.self.view_is c.args.id c.args.self.now
+    give_up_none (object o.node o.delta o.start o.places o.calls) c.args.self.now c.self.view_is c.args.id c.args.self.now
     (sym (ap is_client_call (open_found o.node o.calls c.args.id c.in-Some.index c.in-Some.ensures.distinct at) ∙ ap not moves)) refl
 
 pub returns-then-is_move-clause-given_up : goal.returns-then-is_move-clause-given_up
@@ -30,19 +30,19 @@ returns-then-is_move-clause-given_up c =
     let same = same_call at.call c.at.result.now (sym at.there ∙ c.at.ensures) in
     let moves : is_move at.call.kind ≡ true =
     ap (λ (m : Machine). is_move m.kind) same ∙ sym c.is_move.ensures ∙ c.if-is_move.true in
-    gives_is (object o.node o.delta o.places o.calls) c.args.self.now c.self.view_is c.args.id false
+    gives_is (object o.node o.delta o.start o.places o.calls) c.args.self.now c.self.view_is c.args.id false
     (sym (ap is_client_call (open_found o.node o.calls c.args.id c.in-Some.index c.in-Some.ensures.distinct at) ∙ ap not moves))
 
 pub returns-clause-done : goal.returns-clause-done
 returns-clause-done c =
     let o = c.self.inside in
-    let before = object o.node o.delta o.places o.calls in
+    let before = object o.node o.delta o.start o.places o.calls in
     let at = c.in-Some.ensures.index in
     let distinct = c.in-Some.ensures.distinct in
     let same = same_call at.call c.at.result.now (sym at.there ∙ c.at.ensures) in
     let stays : is_move at.call.kind ≡ false =
     ap (λ (m : Machine). is_move m.kind) same ∙ sym c.is_move.ensures ∙ c.if-is_move.false in
-    give_up_done before c.args.self.now c.self.view_is c.args.id (object o.node o.delta o.places c.remove.new.self)
+    give_up_done before c.args.self.now c.self.view_is c.args.id (object o.node o.delta o.start o.places c.remove.new.self)
     (sym (ap is_client_call (open_found o.node o.calls c.args.id c.in-Some.index distinct at) ∙ ap not stays))
     (subst (λ n. AllByRecursion (λ (other : NodeCall). other.id ≡ n → other.kind ≢ Move) (carried o.node o.calls)) at.named
     (give_up_may o.node o.calls c.in-Some.index at.call distinct.distinct at.there stays))
@@ -58,19 +58,19 @@ returns-clause-given_up c =
     let same = same_call at.call c.at.result.now (sym at.there ∙ c.at.ensures) in
     let stays : is_move at.call.kind ≡ false =
     ap (λ (m : Machine). is_move m.kind) same ∙ sym c.is_move.ensures ∙ c.if-is_move.false in
-    gives_is (object o.node o.delta o.places o.calls) c.args.self.now c.self.view_is c.args.id true
+    gives_is (object o.node o.delta o.start o.places o.calls) c.args.self.now c.self.view_is c.args.id true
     (sym (ap is_client_call (open_found o.node o.calls c.args.id c.in-Some.index c.in-Some.ensures.distinct at) ∙ ap not stays))
 
 pub returns-in_default-clause-done : goal.returns-in_default-clause-done
 returns-in_default-clause-done c =
     let o = c.self.inside in
-    give_up_none (object o.node o.delta o.places o.calls) c.args.self.now c.self.view_is c.args.id c.args.self.now
+    give_up_none (object o.node o.delta o.start o.places o.calls) c.args.self.now c.self.view_is c.args.id c.args.self.now
     (sym (ap is_client_call (open_none o.node o.calls c.args.id c.in_default.ensures.index))) refl
 
 pub returns-in_default-clause-given_up : goal.returns-in_default-clause-given_up
 returns-in_default-clause-given_up c =
     let o = c.self.inside in
-    gives_is (object o.node o.delta o.places o.calls) c.args.self.now c.self.view_is c.args.id false
+    gives_is (object o.node o.delta o.start o.places o.calls) c.args.self.now c.self.view_is c.args.id false
     (sym (ap is_client_call (open_none o.node o.calls c.args.id c.in_default.ensures.index)))
 
 pub at-requires : goal.at-requires

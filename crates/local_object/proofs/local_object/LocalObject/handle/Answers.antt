@@ -10,7 +10,8 @@ pub returns-clause-sent : goal.returns-clause-sent
 returns-clause-sent c =
     let o = c.self.inside in
     let letter = c.args.letter in
-    let local : LocalObject = record { node = o.node; delta = o.delta; places = o.places; calls = carried o.node o.calls } in
+    let local : LocalObject =
+    record { node = o.node; delta = o.delta; start = o.start; places = o.places; calls = carried o.node o.calls } in
     let old = bank_in (heard_place o.places letter.message.position) in
     handled_sent local letter c.in-Request.request c.in-Request.is c.serve.new.self
     (kept_bank old letter.message.member o.delta c.in-Request.request)

@@ -10,8 +10,8 @@ pub returns-then-is_served-clause-changed : goal.returns-then-is_served-clause-c
 returns-then-is_served-clause-changed c =
     let o = c.self.inside in
     let letter = c.args.letter.now in
-    changed_is (record { node = o.node; delta = o.delta; places = o.places; calls = carried o.node o.calls }) c.args.self.now
-    c.self.view_is letter c.changes.result (sym c.is_served.ensures ∙ c.if-is_served.true)
+    changed_is (record { node = o.node; delta = o.delta; start = o.start; places = o.places; calls = carried o.node o.calls })
+    c.args.self.now c.self.view_is letter c.changes.result (sym c.is_served.ensures ∙ c.if-is_served.true)
     (c.changes.ensures letter.message.member o.delta
     ∙ ap (λ b. changes_in_body (bank_or_opened b letter.message.member o.delta) letter.message.body) c.bank_of.ensures.bank)
 

@@ -9,13 +9,14 @@ pub returns-clause-done : goal.returns-clause-done
 returns-clause-done c =
     IfOk-weaker c.lead.result _ _
     (λ progress led. done_by (all_by {letter = c.args.letter} c.repeats-again.result c.in_ok-take_reply.ensures.done
-    c.in_ok-settle.ensures.done led))
+    c.in_ok-settle.ensures.done c.grow.ensures led))
     c.lead.ensures.done
 
 pub returns-clause-taken : goal.returns-clause-taken
 returns-clause-taken c =
     IfOk-weaker c.lead.result _ _
-    (λ progress led. goes_on {letter = c.args.letter} c.repeats-again.result c.in_ok-take_reply.ensures.done c.in_ok-settle.ensures.done led
+    (λ progress led. goes_on {letter = c.args.letter} c.repeats-again.result c.in_ok-take_reply.ensures.done
+    c.in_ok-settle.ensures.done c.grow.ensures led
     (sym c.is_taken.ensures ∙ c.if-not-is_taken.false) c.repeats-again.ensures)
     c.lead.ensures.done
 

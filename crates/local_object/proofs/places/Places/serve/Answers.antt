@@ -1,10 +1,10 @@
-use Rattle.std.proofs.Common.{◌≡◌, Option, IfOk, ap, subst, ◌∙◌}
+use Rattle.std.proofs.Common.{◌≡◌, List, Option, IfOk, IsSome, ap, set, sym, subst, ◌∙◌}
 use Rattle.std.proofs.lemmas.Result.{on_ok_weaker}
 use Rattle.local_object.specs.declared.kept_bank.KeptBank.{KeptBank}
 use Rattle.local_object.specs.ChangedBanks.{kept_bank}
 use Rattle.local_object.specs.KeptBanks.{kept_reply}
-use Rattle.local_object.specs.Local.{bank_in, bank_or_opened, heard_place, with_bank_here}
-use Rattle.local_object.proofs.PlaceLemmas.{bank_is, bank_put, known_set, there_at}
+use Rattle.local_object.specs.Local.{Place, bank_in, bank_or_opened, heard_place, layout_in, with_bank_here}
+use Rattle.local_object.proofs.PlaceLemmas.{bank_is, bank_put, known_set, layout_known, place_known, there_at}
 use Rattle.local_object.proofs.places.Places.serve.Goals as goal
 
 pub invariant_of-self : goal.invariant_of-self
@@ -28,3 +28,13 @@ returns-clause-reply c =
     (bank_is c.deref.ensures.value c.self.view_is c.in-Some.ensures c.index_mut.ensures.value
     ∙ ap (λ n. bank_in (heard_place c.args.self.now n)) c.from.ensures)
     c.serve.ensures.reply
+
+pub returns-clause-start : goal.returns-clause-start
+returns-clause-start c = λ start knows. record {
+  known = layout_known (heard_place (set c.self.inside.places.items c.in-Some.index c.serve.new.self) start)
+      (known_set start c.self.inside.places.items c.in-Some.index c.index_mut.result.now c.serve.new.self
+      (there_at c.deref.ensures.value c.self.view_is c.in-Some.ensures c.index_mut.ensures.value) c.serve.ensures.same
+      (place_known (heard_place c.self.inside.places.items start)
+      (subst (λ (ps : List Place). IsSome (layout_in (heard_place ps start))) (sym c.self.view_is) knows.known)));
+  small = knows.small;
+}
