@@ -16,6 +16,7 @@ pub event_fed_more : (got more : List NamedLetter) → AreAmong got more → (na
     IsEventLetterKnown got name event → IsEventLetterKnown more name event
 event_fed_more got more among name (LocalEvent.Serve letter) fed = among (record { name = name; letter = letter }) fed
 event_fed_more got more among name (LocalEvent.Take letter) fed = among (record { name = name; letter = letter }) fed
+event_fed_more got more among name (LocalEvent.Hear start layout) fed = absurd (fed)
 event_fed_more got more among name _ fed = tt
 
 pub deed_fed_more : (got more : List NamedLetter) → AreAmong got more → (deed : Deed) → IsDeedLetterKnown got deed

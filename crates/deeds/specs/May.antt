@@ -21,10 +21,12 @@ MayAllBeDone fragment objects [] = Unit {0}
 MayAllBeDone fragment objects (deed ∷ deeds) =
     MayBeDone fragment objects deed × MayAllBeDone fragment (after_deed fragment objects deed).objects deeds
 
--- the letter that an event at the object of a name serves or takes, if there is one, is one of these
+-- the letter that an event at the object of a name serves or takes, if there is one, is one of these; no letter tells a
+-- node of a start
 abbrev pub IsEventLetterKnown : List NamedLetter → (name : List ℕ) → LocalEvent → Type 0
 IsEventLetterKnown got name (LocalEvent.Serve letter) = IsOneOf got (record { name = name; letter = letter })
 IsEventLetterKnown got name (LocalEvent.Take letter) = IsOneOf got (record { name = name; letter = letter })
+IsEventLetterKnown got name (LocalEvent.Hear start layout) = ⊥
 IsEventLetterKnown got name event = Unit {0}
 
 -- the letter that a deed serves or takes, if there is one, is one of these

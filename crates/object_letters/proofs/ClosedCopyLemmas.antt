@@ -1,5 +1,5 @@
 -- A copy of an object, after letters led to its places, closes the banks that the object has closed.
-use Rattle.std.proofs.Common.{◌≡◌, ℕ, true, cond, List, [], ◌∷◌, Option, Some, None, IsSome, is_some, slice_get, refl, sym, subst, ap, ◌∙◌}
+use Rattle.std.proofs.Common.{◌≡◌, ℕ, cond, List, [], ◌∷◌, Option, Some, None, IsSome, is_some, slice_get, refl, sym, subst, ap, ◌∙◌}
 use Rattle.std.specs.List.{AllByRecursion}
 use Rattle.std.proofs.lemmas.Option.{same_Some}
 use Rattle.layout.specs.Layout.{Layout}
@@ -10,7 +10,7 @@ use Rattle.closed_bank.specs.Restore.{requests_to_closed}
 use Rattle.closed_bank.proofs.ClosedBankLemmas.{comes_back_short}
 use Rattle.local_object.specs.declared.kept_bank.KeptBank.{KeptBank}
 use Rattle.local_object.specs.declared.kept_bank.KeptBank.TheVariants as kept
-use Rattle.local_object.specs.Events.{LocalEvent, all_done, closed_here}
+use Rattle.local_object.specs.Events.{LocalEvent, all_done}
 use Rattle.local_object.specs.KeptBanks.{after_closing, closed_or, closing}
 use Rattle.local_object.specs.Local.{LocalObject, Place, bank_here, bank_in, bank_or_opened, heard_place, layout_here, layout_in}
 use Rattle.local_object.specs.Restarts.{IsKeptHere}
@@ -133,6 +133,7 @@ module _ (moves : Type 0) (local : LocalObject) where
       let after = after_closing_all (after_letters copy (letters_to local)) local.places in record {
         node = all.towards.node;
         delta = all.towards.delta;
+        start = all.towards.start;
         layouts = all.towards.layouts;
         first = all.towards.first;
         banks = λ q j layout heard named. banks after all.own q j layout heard named (heard_place local.places q) refl;

@@ -5,7 +5,7 @@ use Rattle.std.specs.List.{AllByRecursion}
 use Rattle.layout.specs.Layout.{Layout, IsLawful}
 use Rattle.letter.specs.declared.letter.Letter.{Letter}
 use Rattle.local_object.specs.Local.{LocalObject, Place, added_place, with_heard, learnt_if, heard_place}
-use Rattle.local_object.specs.Events.{learnt_from}
+use Rattle.local_object.specs.Outcomes.{learnt_from}
 use Rattle.object_letters.specs.Rebuildable.{HaveApartPositions, AreElsewhere, HasLawfulLayouts, IsLawfulIfThere}
 use Rattle.object_letters.specs.Rebuildable.{IsOwnPlace, IsRebuildable}
 

@@ -47,6 +47,7 @@ module _ (local : LocalObject) where
   heard copy p layout known blank = record {
     node = blank.node;
     delta = blank.delta;
+    start = blank.start;
     layouts = λ q other e. within q other (layout_learnt copy p layout q other e);
     first = still_some copy p layout 0 blank.first;
     banks = λ q member. bank_learnt copy p layout q member ∙ blank.banks q member;
@@ -125,6 +126,7 @@ heard_blank moves local first here still is =
     (new_blank ⊥ local first here still (λ moves q layout e. absurd (moves))) in record {
       node = all.blank.node;
       delta = all.blank.delta;
+      start = all.blank.start;
       layouts = all.blank.layouts;
       first = all.blank.first;
       banks = all.blank.banks;

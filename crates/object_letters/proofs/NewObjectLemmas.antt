@@ -1,6 +1,6 @@
 -- A new object is as a restart has to keep another one, but for its banks, where no move is open.
 use Rattle.std.proofs.Common.{◌≡◌, ℕ, ◌||◌, Bool, true, false, cond, eqb, eqb-true, List, [], ◌∷◌}
-use Rattle.std.proofs.Common.{Some, None, refl, sym, ap, ◌∙◌}
+use Rattle.std.proofs.Common.{Some, None, refl, sym, ap, ◌∙◌, arith}
 use Rattle.std.specs.List.{filter, list_any}
 use Rattle.layout.specs.Layout.{Layout}
 use Rattle.bank.specs.Bank.{opened_bank}
@@ -29,6 +29,7 @@ pub new_blank : (moves : Type 0) (local : LocalObject) (first : Layout) → layo
 new_blank moves local first here still alone = record {
   node = refl;
   delta = refl;
+  start = omega arith;
   layouts = λ q layout e. only q layout (eqb 0 q) refl e;
   first = refl;
   banks = λ q member. no_bank q member (eqb 0 q);

@@ -2,7 +2,7 @@
 use Rattle.std.proofs.Common.{◌≡◌, ℕ, Bool, true, false, cond, eqb, eqb-true, eq-eqb, List, [], ◌∷◌, ◌++◌, length, map, get_or}
 use Rattle.std.proofs.Common.{Option, Some, None, MatchOption, slice_get, refl, sym, subst, ap, ◌∙◌}
 use Rattle.std.specs.List.{AllByRecursion, position}
-use Rattle.std.proofs.lemmas.Option.{same_Some, get_or_from_slice_get, slice_get_within}
+use Rattle.std.proofs.lemmas.Option.{get_or_from_slice_get, slice_get_within}
 use Rattle.layout.specs.Layout.{Layout, IsLawful}
 use Rattle.bank.specs.Bank.{opened_bank}
 use Rattle.closed_bank.specs.Restore.{requests_to_closed}
@@ -203,6 +203,7 @@ module _ (moves : Type 0) (local : LocalObject) where
       let towards : IsTowards moves local copy = record {
         node = blank.node;
         delta = blank.delta;
+        start = blank.start;
         layouts = blank.layouts;
         first = blank.first;
         calls = blank.calls;

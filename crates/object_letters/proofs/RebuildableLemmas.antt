@@ -1,5 +1,5 @@
 -- Whatever a node does with an object, its banks came to be by requests to the node.
-use Rattle.std.proofs.Common.{◌≡◌, ℕ, suc, Bool, true, false, cond, eqb, List, [], ◌∷◌}
+use Rattle.std.proofs.Common.{◌≡◌, ℕ, suc, Bool, true, false, cond, eqb, nat_lt, List, [], ◌∷◌}
 use Rattle.std.proofs.Common.{Option, Some, None, IsSome, slice_get, refl, sym, subst, ap, ◌∙◌}
 use Rattle.std.specs.List.{AllByRecursion}
 use Rattle.std.proofs.lemmas.Option.{same_Some}
@@ -21,11 +21,11 @@ use Rattle.open_calls.specs.OpenCalls.{NodeCall, due_phase, open_call, with_open
 use Rattle.letter.specs.declared.letter.Letter.{Letter}
 use Rattle.local_object.specs.ChangedBanks.{bank_after, changes_bank, kept_after, kept_bank}
 use Rattle.local_object.specs.KeptBanks.{after_closing, closed_or, closing}
-use Rattle.local_object.specs.Local.{LocalObject, Place, bank_in, bank_or_opened, last_position}
+use Rattle.local_object.specs.Local.{LocalObject, Place, bank_in, bank_or_opened, heard_start, last_position}
 use Rattle.local_object.specs.Local.{layout_here, layout_in, with_heard, new_local, heard_place, with_bank_here}
-use Rattle.local_object.specs.Events.{LocalEvent, Outcome, advanced_at, advanced_here, begun_here, closed_here, done_here, learnt_from}
-use Rattle.local_object.specs.Events.{on_open_call}
-use Rattle.local_object.specs.Events.{served_here, silent}
+use Rattle.local_object.specs.Events.{LocalEvent, advanced_at, advanced_here, closed_here, done_here, served_here}
+use Rattle.local_object.specs.Outcomes.{Outcome, begun_here, learnt_from, on_open_call, silent}
+use Rattle.local_object.specs.Starting.{anew_number, number_at, reads_at, reads_here}
 use Rattle.local_object.specs.May.{MayHappenHere}
 use Rattle.local_object.proofs.OneMemberLemmas.{one_member}
 use Rattle.object_letters.specs.Rebuildable.{HaveApartPositions, AreElsewhere, IsFit}
@@ -170,10 +170,15 @@ close_rebuildable local p is can = go (heard_place local.places p) refl can
 
 -- Calls
 
-begun_rebuildable : (local : LocalObject) (id : ℕ) (kind : CallKind) (stage : Stage) (asked : Kind) (p : ℕ) (o : Option Layout)
-    → IsRebuildable local → IsRebuildable (begun_here local id kind stage asked p o).local
-begun_rebuildable local id kind stage asked p None is = is
-begun_rebuildable local id kind stage asked p (Some layout) is = record { apart = is.apart; places = is.places }
+begun_rebuildable : (local : LocalObject) (id : ℕ) (kind : CallKind) (stage : Stage) (asked : Kind) (number p : ℕ)
+    (o : Option Layout) → IsRebuildable local → IsRebuildable (begun_here local id kind stage asked number p o).local
+begun_rebuildable local id kind stage asked number p None is = is
+begun_rebuildable local id kind stage asked number p (Some layout) is = record { apart = is.apart; places = is.places }
+
+reads_rebuildable : (local : LocalObject) (call : NodeCall) (number start : ℕ) (o : Option Layout) → IsRebuildable local
+    → IsRebuildable (reads_at local call number start o).local
+reads_rebuildable local call number start None is = is
+reads_rebuildable local call number start (Some layout) is = record { apart = is.apart; places = is.places }
 
 advanced_rebuildable : (local : LocalObject) (call : NodeCall) (o : Option (Kind × ℕ)) → IsRebuildable local
     → IsRebuildable (advanced_here fragment local call o).local
@@ -189,14 +194,24 @@ called_rebuildable : (local : LocalObject) (o : Option NodeCall) (change : NodeC
 called_rebuildable local None change is changed = is
 called_rebuildable local (Some call) change is changed = changed call
 
+start_rebuildable : (local : LocalObject) (start : ℕ) (layout : Layout) → IsLawful layout → IsRebuildable local
+    → IsRebuildable (heard_start local start layout)
+start_rebuildable local start layout lawful is = go (nat_lt local.start start)
+  where
+    go : (b : Bool) → IsRebuildable (cond b (record (with_heard local start layout) { start = start }) local)
+    go true = let heard = heard_rebuildable local start layout lawful is in record { apart = heard.apart; places = heard.places }
+    go false = is
+
 -- Any event
 pub stays_rebuildable : (local : LocalObject) (event : LocalEvent) → IsRebuildable local → MayHappenHere fragment local event
     → IsFit event → IsRebuildable (done_here fragment local event).local
-stays_rebuildable local (LocalEvent.BeginRead id) is may fit = begun_rebuildable local id _ _ _ 0 (layout_here local 0) is
-stays_rebuildable local (LocalEvent.BeginWrite id value) is may fit = begun_rebuildable local id _ _ _ 0 (layout_here local 0) is
+stays_rebuildable local (LocalEvent.BeginRead id) is may fit =
+    begun_rebuildable local id _ _ _ _ local.start (layout_here local local.start) is
+stays_rebuildable local (LocalEvent.BeginWrite id value) is may fit =
+    begun_rebuildable local id _ _ _ _ local.start (layout_here local local.start) is
 stays_rebuildable local (LocalEvent.BeginMove id layout) is may fit =
     let next = with_heard local (suc (last_position local)) layout in
-    begun_rebuildable next id _ _ _ (last_position local) (layout_here next (last_position local))
+    begun_rebuildable next id _ _ _ _ (last_position local) (layout_here next (last_position local))
     (heard_rebuildable local (suc (last_position local)) layout may.0 is)
 stays_rebuildable local (LocalEvent.Advance id) is may fit =
     called_rebuildable local (open_call local.calls id) (λ call. advanced_here fragment local call (due_phase call)) is
@@ -218,3 +233,11 @@ stays_rebuildable local (LocalEvent.Settle id value) is may fit =
 stays_rebuildable local (LocalEvent.Answer id) is may fit = record { apart = is.apart; places = is.places }
 stays_rebuildable local (LocalEvent.GiveUp id) is may fit = record { apart = is.apart; places = is.places }
 stays_rebuildable local (LocalEvent.Close position) is may fit = close_rebuildable local position is may
+stays_rebuildable local (LocalEvent.Grow id) is may fit = record { apart = is.apart; places = is.places }
+stays_rebuildable local (LocalEvent.Hear start layout) is may fit = start_rebuildable local start layout fit is
+stays_rebuildable local (LocalEvent.ReadOn id) is may fit =
+    called_rebuildable local (open_call local.calls id) (λ call. reads_here local call (number_at call local.start)) is
+    (λ call. reads_rebuildable local call (number_at call local.start) local.start (layout_here local local.start) is)
+stays_rebuildable local (LocalEvent.BeginAnew id) is may fit =
+    called_rebuildable local (open_call local.calls id) (λ call. reads_here local call (anew_number call local.start)) is
+    (λ call. reads_rebuildable local call (anew_number call local.start) local.start (layout_here local local.start) is)

@@ -1,5 +1,5 @@
 -- What a copy of an object keeps after it serves letters to one place.
-use Rattle.std.proofs.Common.{◌≡◌, ℕ, suc, ◌+◌, ◌<◌, ◌^◌, ◌⊎◌, inl, inr, true, cond, ◌&&◌, eq-eqb, List, [], ◌∷◌, map}
+use Rattle.std.proofs.Common.{◌≡◌, ℕ, suc, ◌+◌, ◌<◌, ◌≤◌, ◌^◌, ◌⊎◌, inl, inr, true, cond, ◌&&◌, eq-eqb, List, [], ◌∷◌, map}
 use Rattle.std.proofs.Common.{Option, Some, None, IsSome, is_some, slice_get, refl, sym, subst, ap, ◌∙◌}
 use Rattle.std.specs.List.{filter}
 use Rattle.std.proofs.lemmas.Bool.{lt-ltb}
@@ -17,7 +17,8 @@ use Rattle.local_object.specs.declared.kept_bank.KeptBank.{KeptBank}
 use Rattle.local_object.specs.declared.kept_bank.KeptBank.TheVariants as kept
 use Rattle.local_object.specs.ChangedBanks.{bank_after, kept_after, kept_bank}
 use Rattle.local_object.specs.Doing.{is_member, is_served, names_node}
-use Rattle.local_object.specs.Events.{LocalEvent, all_done, learnt_from, next_in_request, served_here}
+use Rattle.local_object.specs.Events.{LocalEvent, all_done, served_here}
+use Rattle.local_object.specs.Outcomes.{learnt_from, next_in_request}
 use Rattle.local_object.specs.Local.{LocalObject, Place, bank_here, bank_in, heard_place, layout_here, with_heard, learnt_if}
 use Rattle.local_object.specs.Local.{with_bank_here}
 use Rattle.local_object.proofs.UnchangedBankLemmas.{kept_served}
@@ -29,6 +30,7 @@ use Rattle.object_letters.specs.Letters.{after_letter, after_letters, letter_to}
 pub record IsTowards (moves : Type 0) (local copy : LocalObject) : Type 0 where
   pub node : copy.node ≡ local.node
   pub delta : copy.delta ≡ local.delta
+  pub start : copy.start ≤ local.start
   pub layouts : (q : ℕ) (layout : Layout) → layout_here copy q ≡ Some layout → layout_here local q ≡ Some layout
   pub first : IsSome (layout_here copy 0)
   pub calls : copy.calls ≡ filter (λ call. is_move call.kind) local.calls
@@ -79,6 +81,7 @@ module _ (moves : Type 0) (local : LocalObject) where
   heard copy p layout known towards = record {
     node = towards.node;
     delta = towards.delta;
+    start = towards.start;
     layouts = λ q other e. within q other (layout_learnt copy p layout q other e);
     first = known_still copy p layout 0 towards.first;
     calls = towards.calls;
@@ -100,6 +103,7 @@ module _ (moves : Type 0) (local : LocalObject) where
   put copy p bank towards = record {
     node = towards.node;
     delta = towards.delta;
+    start = towards.start;
     layouts = λ q layout e. towards.layouts q layout (sym (layout_with copy p bank q) ∙ e);
     first = subst IsSome (sym (layout_with copy p bank 0)) towards.first;
     calls = towards.calls;

@@ -9,7 +9,8 @@ use Rattle.object_letters.specs.Requests.{requests_for}
 use Rattle.letter.specs.declared.letter.Letter.{Letter}
 use Rattle.local_object.specs.declared.kept_bank.KeptBank.{KeptBank}
 use Rattle.local_object.specs.Local.{LocalObject, Place, heard_place, layout_in}
-use Rattle.local_object.specs.Events.{all_done, next_in_request}
+use Rattle.local_object.specs.Events.{all_done}
+use Rattle.local_object.specs.Outcomes.{next_in_request}
 use Rattle.local_object.specs.Doing.{serve_events}
 
 -- a request to the bank of a place, as a letter to this member of it; its reply goes nowhere, so no call asks; of the

@@ -57,8 +57,9 @@ IsLawfulIfThere (Some layout) = IsLawful layout
 abbrev pub HasLawfulLayouts : Letter → Type 0
 HasLawfulLayouts letter = IsLawful letter.layout × IsLawfulIfThere letter.next
 
--- the layouts in the letter of an event are lawful, if it has one
+-- the layouts in the letter of an event, or of the start that the node hears of, are lawful
 abbrev pub IsFit : LocalEvent → Type 0
 IsFit (LocalEvent.Serve letter) = HasLawfulLayouts letter
 IsFit (LocalEvent.Take letter) = HasLawfulLayouts letter
+IsFit (LocalEvent.Hear start layout) = IsLawful layout
 IsFit event = Unit {0}

@@ -3,7 +3,7 @@ ghost use Rattle.std.specs.Prelude.{◌≡◌, ◌==◌, ◌++◌, suc, map, pos
 ghost use Rattle.tag.specs.declared.refusal.Refusal.TheVariants.{NoMemory};
 ghost use Rattle.object_letters.specs.Requests.{requests_for};
 ghost use Rattle.local_object.specs.Distinct.{IsPlaceAt};
-ghost use Rattle.local_object.specs.Events.{next_in_request};
+ghost use Rattle.local_object.specs.Outcomes.{next_in_request};
 ghost use Rattle.local_object.specs.Local.{heard_place, layout_in};
 ghost use Rattle.object_letters.specs.Letters.{letter_to, letters_as, place_letters};
 

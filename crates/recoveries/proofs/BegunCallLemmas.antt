@@ -11,14 +11,16 @@ use Rattle.encoder.specs.Fragment.{fragment}
 use Rattle.record.specs.declared.call.CallKind.{CallKind}
 use Rattle.record.specs.declared.call.CallKind.TheVariants.{Read, Write, Move}
 use Rattle.record.specs.declared.stage.Stage.{Stage}
+use Rattle.record.specs.declared.stage.Stage.TheVariants.{ReadNext}
 use Rattle.record.specs.Legal.{first_stage, is_move}
-use Rattle.record.specs.PhaseOrder.{begun_at}
 use Rattle.record.specs.Steps.{new_phase}
 use Rattle.open_calls.specs.OpenCalls.{NodeCall, open_call}
 use Rattle.local_object.specs.Doing.{give_up_events, gives_up, is_client_call, move_refusal, read_refusal, unless_open, write_refusal}
-use Rattle.local_object.specs.Events.{LocalEvent, all_done, begun_here}
+use Rattle.local_object.specs.Events.{LocalEvent, all_done}
+use Rattle.local_object.specs.Outcomes.{begun_here}
 use Rattle.local_object.specs.Local.{LocalObject, last_position, layout_here, with_heard}
 use Rattle.local_object.specs.Restarts.{IsKeptHere}
+use Rattle.local_object.specs.Starting.{first_number}
 use Rattle.local_object.proofs.LastPositionLemmas.{below_last, last_known}
 use Rattle.recoveries.proofs.KeptPlaceLemmas.{both_moving, layouts_kept}
 use Rattle.recoveries.proofs.KeptCallLemmas.{IsObjectCopy, moves_call, plus_client, plus_move, without_client}
@@ -36,10 +38,10 @@ new_id local id later e = go (open_call local.calls id) refl e
 -- A read or a write begins at the node alone
 
 pub client_begins_here : (moves : Type 0) (local copy : LocalObject) → IsObjectCopy moves local copy → (id : ℕ) →
-    open_call local.calls id ≡ None → (kind : CallKind) → is_move kind ≡ false → (stage : Stage) (asked : Kind) (position : ℕ)
-    (o : Option Layout) → IsObjectCopy moves (begun_here local id kind stage asked position o).local copy
-client_begins_here moves local copy is id none kind client stage asked position None = is
-client_begins_here moves local copy is id none kind client stage asked position (Some layout) =
+    open_call local.calls id ≡ None → (kind : CallKind) → is_move kind ≡ false → (stage : Stage) (asked : Kind) (number position : ℕ)
+    (o : Option Layout) → IsObjectCopy moves (begun_here local id kind stage asked number position o).local copy
+client_begins_here moves local copy is id none kind client stage asked number position None = is
+client_begins_here moves local copy is id none kind client stage asked number position (Some layout) =
     plus_client moves local copy is _ none client
 
 module _ (moves : Type 0) (local copy : LocalObject) (is : IsObjectCopy moves local copy) (id : ℕ) where
@@ -47,13 +49,13 @@ module _ (moves : Type 0) (local copy : LocalObject) (is : IsObjectCopy moves lo
       IsObjectCopy moves (all_done fragment local (LocalEvent.BeginRead id ∷ [])).local copy
   read_begins free =
       client_begins_here moves local copy is id (new_id local id None free) Read refl
-      (begun_at (first_stage Read 0) 0) Next 0 (layout_here local 0)
+      (ReadNext local.start local.start) Next (first_number local.start) local.start (layout_here local local.start)
 
   pub write_begins : (value : List ℕ) → write_refusal local id value ≡ None →
       IsObjectCopy moves (all_done fragment local (LocalEvent.BeginWrite id value ∷ [])).local copy
   write_begins value free =
       client_begins_here moves local copy is id (new_id local id _ free) (Write value) refl
-      (begun_at (first_stage (Write value) 0) 0) Next 0 (layout_here local 0)
+      (ReadNext local.start local.start) Next (first_number local.start) local.start (layout_here local local.start)
 
   -- a read or a write is given up
   pub given_up : IsObjectCopy moves (all_done fragment local (give_up_events local id)).local copy
@@ -90,7 +92,7 @@ last_kept moves local copy kept here =
 
 move_begins_at : (moves : Type 0) → moves → (local copy : LocalObject) → IsObjectCopy moves local copy → (id : ℕ) →
     open_call local.calls id ≡ None → (stage : Stage) (asked : Kind) (position : ℕ) (o : Option Layout) → IsObjectCopy moves
-    (begun_here local id Move stage asked position o).local (begun_here copy id Move stage asked position o).local
+    (begun_here local id Move stage asked 1 position o).local (begun_here copy id Move stage asked 1 position o).local
 move_begins_at moves here local copy is id none stage asked position None = is
 move_begins_at moves here local copy is id none stage asked position (Some layout) =
     subst (λ n. IsObjectCopy moves (record local { calls = local.calls ++ begun local.node ∷ [] })
@@ -111,7 +113,7 @@ move_begins_at moves here local copy is id none stage asked position (Some layou
 abbrev moved_from : LocalObject → (id : ℕ) → Layout → (last : ℕ) → LocalObject
 moved_from local id layout last =
     let next = with_heard local (suc last) layout in
-    (begun_here next id Move (first_stage Move last) (Spread Pending) last (layout_here next last)).local
+    (begun_here next id Move (first_stage Move last) (Spread Pending) 1 last (layout_here next last)).local
 
 module _ (moves : Type 0) (here : moves) (local copy : LocalObject) (is : IsObjectCopy moves local copy) (id : ℕ) (layout : Layout)
     (free : move_refusal local id ≡ None) where
@@ -126,7 +128,7 @@ module _ (moves : Type 0) (here : moves) (local copy : LocalObject) (is : IsObje
   begins_from last =
       let next = with_heard local (suc last) layout in
       subst (λ o. IsObjectCopy moves (moved_from local id layout last)
-      (begun_here (with_heard copy (suc last) layout) id Move (first_stage Move last) (Spread Pending) last o).local)
+      (begun_here (with_heard copy (suc last) layout) id Move (first_stage Move last) (Spread Pending) 1 last o).local)
       (sym (layouts_kept moves next (with_heard copy (suc last) layout) (learnt_both last).kept here last))
       (move_begins_at moves here next (with_heard copy (suc last) layout) (learnt_both last) id
       (new_id local id _ free) (first_stage Move last) (Spread Pending) last (layout_here next last))

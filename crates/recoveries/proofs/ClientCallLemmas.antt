@@ -4,6 +4,7 @@ use Rattle.std.proofs.Common.{Option, Some, None, refl, sym, subst, ap, ◌∙�
 use Rattle.bank.specs.declared.kind.Kind.{Kind}
 use Rattle.encoder.specs.Fragment.{fragment}
 use Rattle.layout.specs.Layout.{Layout}
+use Rattle.call.specs.Call.{reached}
 use Rattle.call.specs.declared.next.Next.{Next}
 use Rattle.call.specs.declared.next.Next.TheVariants as next
 use Rattle.std.specs.List.{list_any}
@@ -13,16 +14,20 @@ use Rattle.local_object.specs.declared.progress.Ended.{Ended}
 use Rattle.local_object.specs.Agreement.{knows_all_of}
 use Rattle.local_object.specs.Doing.{is_move_call, has_move_open, is_taken}
 use Rattle.mail.specs.Message.{is_request}
-use Rattle.local_object.specs.Events.{LocalEvent, advanced_at, advanced_here, all_done, done_here, learnt_from}
+use Rattle.local_object.specs.Events.{LocalEvent, advanced_at, advanced_here, all_done, done_here}
+use Rattle.local_object.specs.Outcomes.{learnt_from, on_open_call}
 use Rattle.local_object.specs.Going.{next_if}
 use Rattle.local_object.specs.Local.{LocalObject, layout_here}
-use Rattle.local_object.specs.Taking.{AreSettling, GoesOn, IsReplyOutcome, begin_events, call_events, can_begin, lead_events, machine_of}
-use Rattle.local_object.specs.Taking.{repeats, step_events}
+use Rattle.local_object.specs.Starting.{anew_number, reads_at, reads_here}
+use Rattle.local_object.specs.Taking.{AreSettling, GoesOn, IsReplyOutcome, begin_anew_events, begin_events, call_events, can_begin}
+use Rattle.local_object.specs.Taking.{can_begin_anew, going_events, is_read_begin, lead_events, machine_of, repeats, restart_events}
+use Rattle.local_object.specs.Taking.{step_events}
 use Rattle.local_object.proofs.HeardLayoutLemmas.{calls_heard}
 use Rattle.recoveries.proofs.KeptPlaceLemmas.{letter_alone}
 use Rattle.recoveries.proofs.KeptCallLemmas.{IsObjectCopy, found_id, moves_call, with_client, without_client}
 use Rattle.recoveries.proofs.TwinLemmas.{advanced_is, found_new, settled_is, taken_is}
-use Rattle.recoveries.proofs.TakenReplyLemmas.{gone_on, taken_to}
+use Rattle.recoveries.proofs.GrownStartLemmas.{grow_alone, grown, grown_found}
+use Rattle.recoveries.proofs.TakenReplyLemmas.{going_is, gone_on, taken_to}
 
 module _ (moves : Type 0) (local copy : LocalObject) (is : IsObjectCopy moves local copy) (id : ℕ) (call : NodeCall)
     (found : open_call local.calls id ≡ Some call) (client : moves_call call ≡ false) where
@@ -43,6 +48,16 @@ module _ (moves : Type 0) (local copy : LocalObject) (is : IsObjectCopy moves lo
   client_advances =
       subst (λ l. IsObjectCopy moves l copy) (sym (advanced_is fragment local id call found)) (advanced_alone (due_phase call))
 
+  read_alone : (number : ℕ) (o : Option Layout) → IsObjectCopy moves (reads_at local call number local.start o).local copy
+  read_alone number None = is
+  read_alone number (Some layout) = with_client moves local copy is id call _ found client refl client
+
+  client_anew : IsObjectCopy moves (done_here fragment local (LocalEvent.BeginAnew id)).local copy
+  client_anew =
+      subst (λ o. IsObjectCopy moves
+      (on_open_call local o (λ call. reads_here local call (anew_number call local.start))).local copy) (sym found)
+      (read_alone (anew_number call local.start) (layout_here local local.start))
+
   client_ends : IsObjectCopy moves (done_here fragment local (LocalEvent.Answer id)).local copy
   client_ends = without_client moves local copy is id call found client
 
@@ -51,40 +66,64 @@ module _ (moves : Type 0) (local copy : LocalObject) (is : IsObjectCopy moves lo
   own : open_call local.calls call.id ≡ Some call
   own = ap (open_call local.calls) (found_id local.calls id call found) ∙ found
 
-  client_begins : (kind : Kind) (position : ℕ) →
-      IsObjectCopy moves (all_done fragment local (begin_events local.places (machine_of call) kind position)).local copy
-  client_begins kind position = go (can_begin local.places (machine_of call) kind position)
+  client_begins : (asked : Kind) (position : ℕ) →
+      IsObjectCopy moves (all_done fragment local (begin_events local.places (machine_of call) asked position)).local copy
+  client_begins asked position = go (can_begin local.places (machine_of call) asked position)
     where
       go : (b : Bool) → IsObjectCopy moves (all_done fragment local (cond b (LocalEvent.Advance call.id ∷ []) [])).local copy
       go true = client_advances moves local copy is call.id call own client
       go false = is
 
-  client_steps : (n : Next) → IsObjectCopy moves (all_done fragment local (step_events local.places (machine_of call) n)).local copy
+  client_begins_anew : IsObjectCopy moves (all_done fragment local (begin_anew_events local (machine_of call))).local copy
+  client_begins_anew = go (can_begin_anew local (machine_of call))
+    where
+      go : (b : Bool) → IsObjectCopy moves (all_done fragment local (cond b (LocalEvent.BeginAnew call.id ∷ []) [])).local copy
+      go true = client_anew moves local copy is call.id call own client
+      go false = is
+
+  client_restarts : (asked : Kind) (position : ℕ) →
+      IsObjectCopy moves (all_done fragment local (restart_events local (machine_of call) asked position)).local copy
+  client_restarts asked position = go (is_read_begin (reached (machine_of call)))
+    where
+      go : (r : Bool) → IsObjectCopy moves (all_done fragment local (cond r (begin_anew_events local (machine_of call))
+          (begin_events local.places (machine_of call) asked position))).local copy
+      go true = client_begins_anew
+      go false = client_begins asked position
+
+  client_steps : (n : Next) → IsObjectCopy moves (all_done fragment local (step_events local (machine_of call) n)).local copy
   client_steps next.Wait = is
   client_steps next.Settle = is
-  client_steps (next.Restart kind position) = client_begins kind position
-  client_steps (next.Begin kind position) = client_begins kind position
+  client_steps (next.Restart asked position) = client_restarts asked position
+  client_steps (next.Begin asked position) = client_begins asked position
   client_steps next.Answer = client_ends moves local copy is call.id call own client
 
   client_leads : (anew : Bool) → IsObjectCopy moves (all_done fragment local (lead_events anew local id)).local copy
   client_leads anew =
-      subst (λ o. IsObjectCopy moves (all_done fragment local (call_events anew local.places o)).local copy) (sym found)
+      subst (λ o. IsObjectCopy moves (all_done fragment local (call_events anew local o)).local copy) (sym found)
       (client_steps (next_if anew (machine_of call)))
+
+-- the start grows by the call, if it can, and the call goes on
+client_going : (anew : Bool) (moves : Type 0) (local copy : LocalObject) → IsObjectCopy moves local copy → (id : ℕ) (call : NodeCall) →
+    open_call local.calls id ≡ Some call → moves_call call ≡ false →
+    IsObjectCopy moves (all_done fragment local (going_events anew local id)).local copy
+client_going anew moves local copy is id call found client =
+    subst (λ l. IsObjectCopy moves l copy) (sym (going_is anew local id))
+    (client_leads moves (grown local id) copy (grow_alone moves local copy is id) id call (grown_found local id call found) client anew)
 
 client_goes_on : (anew : Bool) (moves : Type 0) (local copy : LocalObject) → IsObjectCopy moves local copy → (id : ℕ) (call : NodeCall) →
     open_call local.calls id ≡ Some call → moves_call call ≡ false → (es : List LocalEvent) → AreSettling local id es →
     IsObjectCopy moves (gone_on anew local id es) copy
 client_goes_on anew moves local copy is id call found client es (inl none) =
     subst (λ es. IsObjectCopy moves (gone_on anew local id es) copy) (sym none.0)
-    (client_leads moves local copy is id call found client anew)
+    (client_going anew moves local copy is id call found client)
 client_goes_on anew moves local copy is id call found client es (inr some) =
     let new : NodeCall = record call { settled = Some some.0 } in
     subst (λ es. IsObjectCopy moves (gone_on anew local id es) copy) (sym some.2)
-    (client_leads moves (done_here fragment local (LocalEvent.Settle id some.0)).local copy
+    (client_going anew moves (done_here fragment local (LocalEvent.Settle id some.0)).local copy
     (client_settles moves local copy is id call found client some.0) id new
     (ap (λ (l : LocalObject). open_call l.calls id) (settled_is fragment local id some.0 call found)
     ∙ found_new local.calls id call new found refl)
-    client anew)
+    client)
 
 module _ (moves : Type 0) (local copy : LocalObject) (is : IsObjectCopy moves local copy) (letter : Letter)
     (knows : moves → knows_all_of local letter ≡ true) where

@@ -19,6 +19,7 @@ module _ (moves : Type 0) (local copy : LocalObject) (is : IsObjectCopy moves lo
         kept = record {
           node = kept.node;
           delta = kept.delta;
+          start = kept.start;
           layouts = λ q layout e. layout_with local p own q ∙ kept.layouts q layout (sym (layout_with copy p other q) ∙ e);
           first = subst IsSome (sym (layout_with copy p other 0)) kept.first;
           banks = λ q member layout at holds.

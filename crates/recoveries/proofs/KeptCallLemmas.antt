@@ -100,6 +100,7 @@ calls_kept : (moves : Type 0) (local copy : LocalObject) → IsKeptHere moves lo
 calls_kept moves local copy kept calls those same = record {
   node = kept.node;
   delta = kept.delta;
+  start = kept.start;
   layouts = kept.layouts;
   first = kept.first;
   banks = kept.banks;
@@ -112,6 +113,7 @@ calls_left : (moves : Type 0) (local copy : LocalObject) → IsKeptHere moves lo
 calls_left moves local copy kept calls same = record {
   node = kept.node;
   delta = kept.delta;
+  start = kept.start;
   layouts = kept.layouts;
   first = kept.first;
   banks = kept.banks;

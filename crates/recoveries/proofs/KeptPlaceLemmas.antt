@@ -6,7 +6,7 @@ use Rattle.layout.specs.Layout.{Layout}
 use Rattle.letter.specs.declared.letter.Letter.{Letter}
 use Rattle.local_object.specs.declared.kept_bank.KeptBank.{KeptBank}
 use Rattle.local_object.specs.Local.{LocalObject, bank_here, bank_or_opened, layout_here, with_heard, learnt_if, with_bank_here}
-use Rattle.local_object.specs.Events.{learnt_from}
+use Rattle.local_object.specs.Outcomes.{learnt_from}
 use Rattle.local_object.specs.Agreement.{agrees, knows_all_of}
 use Rattle.local_object.specs.Restarts.{IsKeptHere}
 use Rattle.local_object.proofs.HeardPlaceLemmas.{bank_learnt, bank_with_here, bank_with_there, layout_learnt, layout_stays, layout_with}
@@ -66,6 +66,7 @@ module _ (moves : Type 0) (local copy : LocalObject) (kept : IsKeptHere moves lo
   both_by within back = record {
     node = kept.node;
     delta = kept.delta;
+    start = kept.start;
     layouts = within;
     first = still_first copy p layout kept.first;
     banks = λ q member other at holds.
@@ -109,6 +110,7 @@ module _ (moves : Type 0) (local copy : LocalObject) (kept : IsKeptHere moves lo
   heard_alone known = record {
     node = kept.node;
     delta = kept.delta;
+    start = kept.start;
     layouts = λ q other e. layout_stays local p layout q other (kept.layouts q other e);
     first = kept.first;
     banks = λ q member other at holds. banks_learnt q member other at holds ∙ sym (bank_learnt local p layout q member);
@@ -177,6 +179,7 @@ module _ (moves : Type 0) (local copy : LocalObject) (kept : IsKeptHere moves lo
   both_banks known one = record {
     node = kept.node;
     delta = kept.delta;
+    start = kept.start;
     layouts = λ q layout e. layout_with local p bank q ∙ kept.layouts q layout (sym (layout_with copy p other q) ∙ e);
     first = subst IsSome (sym (layout_with copy p other 0)) kept.first;
     banks = λ q member layout at holds. go q (eqb p q) refl member layout (sym (layout_with local p bank q) ∙ at) holds;

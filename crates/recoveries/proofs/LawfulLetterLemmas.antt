@@ -22,8 +22,10 @@ use Rattle.record.specs.declared.call.CallKind.{CallKind}
 use Rattle.record.specs.declared.stage.Stage.{Stage}
 use Rattle.record.specs.Sending.{request_to, requests}
 use Rattle.letter.specs.declared.letter.Letter.{Letter}
-use Rattle.local_object.specs.Events.{LocalEvent, advanced_at, advanced_here, begun_here, done_here, if_pointed, learnt_from, letter_of}
-use Rattle.local_object.specs.Events.{next_in_answer, next_in_request, on_open_call, pieces_here, reply_letters, served_here, silent}
+use Rattle.local_object.specs.Events.{LocalEvent, advanced_at, advanced_here, done_here, pieces_here, reply_letters, served_here}
+use Rattle.local_object.specs.Outcomes.{begun_here, if_pointed, learnt_from, letter_of, next_in_answer, next_in_request}
+use Rattle.local_object.specs.Outcomes.{on_open_call, silent}
+use Rattle.local_object.specs.Starting.{anew_number, number_at, reads_at, reads_here}
 use Rattle.local_object.specs.KeptBanks.{kept_reply}
 use Rattle.local_object.specs.Local.{LocalObject, Place, bank_here, heard_place, last_position, layout_here, layout_in, with_heard}
 use Rattle.local_object.specs.May.{MayHappenHere}
@@ -70,12 +72,12 @@ requests_lawful local layout call number kind position (server ∷ servers) memb
     let next = request_lawful (request_to kind (piece member)) (layout_here local (suc position)) (known_lawful local is (suc position)) in
     ((lawful, next), requests_lawful local layout call number kind position servers (suc member) piece is lawful)
 
-begun_lawful : (local : LocalObject) (id : ℕ) (call_kind : CallKind) (stage : Stage) (kind : Kind) (position : ℕ)
+begun_lawful : (local : LocalObject) (id : ℕ) (call_kind : CallKind) (stage : Stage) (kind : Kind) (number position : ℕ)
     (o : Option Layout) → IsRebuildable local → IsLawfulIfThere o →
-    AllByRecursion HasLawfulLayouts (begun_here local id call_kind stage kind position o).sent
-begun_lawful local id call_kind stage kind position None is lawful = tt
-begun_lawful local id call_kind stage kind position (Some layout) is lawful =
-    requests_lawful local layout id 1 kind position layout.members 0 empty_piece is lawful
+    AllByRecursion HasLawfulLayouts (begun_here local id call_kind stage kind number position o).sent
+begun_lawful local id call_kind stage kind number position None is lawful = tt
+begun_lawful local id call_kind stage kind number position (Some layout) is lawful =
+    requests_lawful local layout id number kind position layout.members 0 empty_piece is lawful
 
 advanced_lawful : (local : LocalObject) (call : NodeCall) (next : Kind × ℕ) (o : Option Layout) → IsRebuildable local →
     IsLawfulIfThere o → AllByRecursion HasLawfulLayouts (advanced_at fragment local call next o).sent
@@ -93,6 +95,18 @@ open_lawful : (local : LocalObject) (call : Option NodeCall) → IsRebuildable l
     AllByRecursion HasLawfulLayouts (on_open_call local call (λ c. advanced_here fragment local c (due_phase c))).sent
 open_lawful local None is = tt
 open_lawful local (Some call) is = due_lawful local call (due_phase call) is
+
+reads_lawful : (local : LocalObject) (call : NodeCall) (number start : ℕ) (o : Option Layout) → IsRebuildable local →
+    IsLawfulIfThere o → AllByRecursion HasLawfulLayouts (reads_at local call number start o).sent
+reads_lawful local call number start None is lawful = tt
+reads_lawful local call number start (Some layout) is lawful =
+    requests_lawful local layout call.id number Next start layout.members 0 empty_piece is lawful
+
+reading_lawful : (local : LocalObject) (call : Option NodeCall) (number : NodeCall → ℕ) → IsRebuildable local →
+    AllByRecursion HasLawfulLayouts (on_open_call local call (λ c. reads_here local c (number c))).sent
+reading_lawful local None number is = tt
+reading_lawful local (Some call) number is =
+    reads_lawful local call (number call) local.start (layout_here local local.start) is (known_lawful local is local.start)
 
 silent_lawful : (local : LocalObject) (call : Option NodeCall) (change : NodeCall → LocalObject) →
     AllByRecursion HasLawfulLayouts (on_open_call local call (λ c. silent (change c))).sent
@@ -114,14 +128,14 @@ served_lawful local letter (body.Reply kind made) is lawful = tt
 pub event_lawful : (local : LocalObject) (event : LocalEvent) → IsRebuildable local → MayHappenHere fragment local event →
     IsFit event → AllByRecursion HasLawfulLayouts (done_here fragment local event).sent
 event_lawful local (LocalEvent.BeginRead id) is may fit =
-    begun_lawful local id _ _ Next 0 (layout_here local 0) is (known_lawful local is 0)
+    begun_lawful local id _ _ Next _ local.start (layout_here local local.start) is (known_lawful local is local.start)
 event_lawful local (LocalEvent.BeginWrite id value) is may fit =
-    begun_lawful local id _ _ Next 0 (layout_here local 0) is (known_lawful local is 0)
+    begun_lawful local id _ _ Next _ local.start (layout_here local local.start) is (known_lawful local is local.start)
 event_lawful local (LocalEvent.BeginMove id layout) is may fit =
     let last = last_position local in
     let next = with_heard local (suc last) layout in
     let heard_is = heard_rebuildable local (suc last) layout may.0 is in
-    begun_lawful next id _ _ (Spread status.Pending) last (layout_here next last) heard_is (known_lawful next heard_is last)
+    begun_lawful next id _ _ (Spread status.Pending) 1 last (layout_here next last) heard_is (known_lawful next heard_is last)
 event_lawful local (LocalEvent.Advance id) is may fit = open_lawful local (open_call local.calls id) is
 event_lawful local (LocalEvent.Serve letter) is may fit =
     served_lawful (learnt_from local letter) letter letter.message.body (letter_rebuildable local letter fit is) fit.0
@@ -131,6 +145,12 @@ event_lawful local (LocalEvent.Settle id value) is may fit = silent_lawful local
 event_lawful local (LocalEvent.Answer id) is may fit = tt
 event_lawful local (LocalEvent.GiveUp id) is may fit = tt
 event_lawful local (LocalEvent.Close position) is may fit = tt
+event_lawful local (LocalEvent.Grow id) is may fit = tt
+event_lawful local (LocalEvent.Hear start layout) is may fit = tt
+event_lawful local (LocalEvent.ReadOn id) is may fit =
+    reading_lawful local (open_call local.calls id) (λ call. number_at call local.start) is
+event_lawful local (LocalEvent.BeginAnew id) is may fit =
+    reading_lawful local (open_call local.calls id) (λ call. anew_number call local.start) is
 
 -- Letters that are sent again
 

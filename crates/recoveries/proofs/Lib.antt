@@ -2,6 +2,9 @@ pub mod HeardLayoutLemmas
 pub mod KeptPlaceLemmas
 pub mod KeptCallLemmas
 pub mod TwinLemmas
+pub mod GrownStartLemmas
+pub mod SameStepLemmas
+pub mod SettlingLemmas
 pub mod ClientCallLemmas
 pub mod TakenReplyLemmas
 pub mod ServedLetterLemmas
@@ -18,6 +21,7 @@ pub mod OwnObjectLemmas
 pub mod OwnRecoveredLemmas
 pub mod LawfulLetterLemmas
 pub mod OwnHandledLemmas
+pub mod StayingCallLemmas
 pub mod OwnCallLemmas
 pub mod LoggedIdLemmas
 pub mod LoggedMoveLemmas

@@ -80,6 +80,7 @@ starts_logged old new started =
     at_number copy is name = let kept = is.objects name in record {
       node = kept.node;
       delta = kept.delta;
+      start = kept.start;
       layouts = kept.layouts;
       first = kept.first;
       banks = kept.banks;

@@ -1,5 +1,5 @@
 -- Copies of a node, by copies of its objects.
-use Rattle.std.proofs.Common.{◌≡◌, ℕ, Bool, true, false, cond, List, [], refl, sym, subst, ap, ◌∙◌}
+use Rattle.std.proofs.Common.{◌≡◌, ℕ, Bool, true, false, cond, List, [], refl, sym, subst, ap, ◌∙◌, arith}
 use Rattle.std.specs.List.{filter}
 use Rattle.local_object.specs.Local.{LocalObject}
 use Rattle.open_calls.specs.OpenCalls.{NodeCallsDiffer}
@@ -20,6 +20,7 @@ moves_as m n there back local copy is = record {
   kept = record {
     node = is.kept.node;
     delta = is.kept.delta;
+    start = is.kept.start;
     layouts = is.kept.layouts;
     first = is.kept.first;
     banks = is.kept.banks;
@@ -106,6 +107,7 @@ self_object moves local copy is =
       kept = record {
         node = refl;
         delta = refl;
+        start = omega arith;
         layouts = λ q layout e. e;
         first = is.kept.first;
         banks = λ q member layout at holds. refl;
@@ -133,6 +135,7 @@ new_copy file number = record {
   objects = λ name. record {
     node = refl;
     delta = refl;
+    start = omega arith;
     layouts = λ q layout e. e;
     first = refl;
     banks = λ q member layout at holds. refl;

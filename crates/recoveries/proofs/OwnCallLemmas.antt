@@ -1,7 +1,7 @@
 -- The open calls of a node have ids that it gave.
-use Rattle.std.proofs.Common.{◌≡◌, ◌<◌, ◌≤◌, ◌⊎◌, inl, inr, ℕ, suc, Bool, true, false, cond, eqb, eqb-true, not, List, [], ◌∷◌}
+use Rattle.std.proofs.Common.{◌≡◌, ◌<◌, ◌≤◌, ◌⊎◌, inl, inr, ℕ, suc, Bool, true, false, cond, eqb, not, List, [], ◌∷◌}
 use Rattle.std.proofs.Common.{Option, None, Some, refl, sym, subst, ◌∙◌, arith}
-use Rattle.std.specs.List.{AllByRecursion, filter}
+use Rattle.std.specs.List.{filter}
 use Rattle.bank.specs.declared.kind.Kind.{Kind}
 use Rattle.deeds.specs.CallId.{CallIds, HasRanges, after_given}
 use Rattle.deeds.specs.Deeds.{Deed, after_deed, after_deeds}
@@ -11,19 +11,17 @@ use Rattle.deeds.proofs.IdLemmas.{given_later, later_then, next_later}
 use Rattle.open_calls.proofs.ListLemmas.{all_append, all_weaker}
 use Rattle.encoder.specs.Fragment.{fragment}
 use Rattle.layout.specs.Layout.{Layout}
-use Rattle.letter.specs.declared.letter.Letter.{Letter}
-use Rattle.local_object.specs.Events.{LocalEvent, Outcome, advanced_at, advanced_here, begun_here, done_here, learnt_from, on_open_call}
-use Rattle.local_object.specs.Events.{served_here, silent}
-use Rattle.local_object.specs.Local.{LocalObject, last_position, layout_here, learnt_if, with_heard}
-use Rattle.mail.specs.declared.message.Body.{Body}
-use Rattle.mail.specs.declared.message.Body.TheVariants as body
+use Rattle.local_object.specs.Events.{LocalEvent, advanced_here, done_here}
+use Rattle.local_object.specs.Outcomes.{begun_here, learnt_from, silent}
+use Rattle.local_object.specs.Starting.{anew_number, number_at, reads_here}
+use Rattle.local_object.specs.Local.{LocalObject, heard_start, last_position, layout_here, with_heard}
 use Rattle.open_calls.specs.OpenCalls.{taking_open, NodeCall, due_phase, open_call, with_open, without_call}
-use Rattle.open_calls.proofs.OpenCallLemmas.{all_filter}
 use Rattle.deeds.proofs.UsedIdLemmas.{next_unused}
 use Rattle.record.specs.Legal.{is_move}
 use Rattle.record.specs.declared.call.CallKind.{CallKind}
 use Rattle.record.specs.declared.stage.Stage.{Stage}
-use Rattle.open_calls.proofs.DistinctCallLemmas.{distinct_filter, distinct_push, distinct_with}
+use Rattle.open_calls.proofs.DistinctCallLemmas.{distinct_push}
+use Rattle.recoveries.proofs.StayingCallLemmas.{due_own, filter_own, letter_same, on_open_same, reads_own, served_own, start_own, with_own}
 use Rattle.recoveries.specs.OwnCalls.{AreOwnCalls, HandlingKeepsOwnCalls, NewNodesHaveOwnCalls, RestartingKeepsOwnCalls, WasGiven}
 
 -- Ids
@@ -65,66 +63,15 @@ given_next before after id next within = record {
   later = subst (λ i. IsLater i after) (sym next.left) (record { node = refl; within = within; order = inr (refl, omega arith) });
 }
 
--- Calls
-
--- no more calls are open than before, each with its id
-abbrev StaysOwn : LocalObject → LocalObject → Type 0
-StaysOwn old new = (ids : CallIds) → AreOwnCalls ids old.calls → AreOwnCalls ids new.calls
-
-given_with : (ids : CallIds) (new : NodeCall) (calls : List NodeCall) → AllByRecursion (λ (call : NodeCall). WasGiven ids call.id) calls →
-    AllByRecursion (λ (call : NodeCall). WasGiven ids call.id) (with_open new calls)
-given_with ids new [] given = tt
-given_with ids new (first ∷ calls) given = (go (eqb first.id new.id) refl, given_with ids new calls given.1)
-  where
-    go : (b : Bool) → eqb first.id new.id ≡ b → WasGiven ids (cond b new first).id
-    go true e = subst (WasGiven ids) (eqb-true first.id new.id e) given.0
-    go false e = given.0
-
-with_own : (new : NodeCall) (calls : List NodeCall) (ids : CallIds) → AreOwnCalls ids calls → AreOwnCalls ids (with_open new calls)
-with_own new calls ids own = record {
-  given = given_with ids new calls own.given;
-  distinct = distinct_with new calls own.distinct;
-}
-
-filter_own : (test : NodeCall → Bool) (calls : List NodeCall) (ids : CallIds) → AreOwnCalls ids calls → AreOwnCalls ids (filter test calls)
-filter_own test calls ids own = record {
-  given = all_filter (λ (call : NodeCall). WasGiven ids call.id) test calls own.given;
-  distinct = distinct_filter test calls own.distinct;
-}
-
-learnt_same : (local : LocalObject) (p : ℕ) (o : Option Layout) → StaysOwn local (learnt_if local p o)
-learnt_same local p None ids own = own
-learnt_same local p (Some layout) ids own = own
-
-letter_same : (local : LocalObject) (letter : Letter) → StaysOwn local (learnt_from local letter)
-letter_same local letter ids own =
-    learnt_same (with_heard local letter.message.position letter.layout) (suc letter.message.position) letter.next ids own
-
-on_open_same : (local : LocalObject) (o : Option NodeCall) (change : NodeCall → Outcome) →
-    ((call : NodeCall) → StaysOwn local (change call).local) → StaysOwn local (on_open_call local o change).local
-on_open_same local None change each ids own = own
-on_open_same local (Some call) change each ids own = each call ids own
-
-advanced_own : (local : LocalObject) (call : NodeCall) (next : Kind × ℕ) (o : Option Layout) →
-    StaysOwn local (advanced_at fragment local call next o).local
-advanced_own local call next None ids own = own
-advanced_own local call next (Some layout) ids own = with_own _ local.calls ids own
-
-due_own : (local : LocalObject) (call : NodeCall) (o : Option (Kind × ℕ)) → StaysOwn local (advanced_here fragment local call o).local
-due_own local call None ids own = own
-due_own local call (Some next) ids own = advanced_own local call next (layout_here local next.1) ids own
-
-served_own : (local : LocalObject) (letter : Letter) (b : Body) → StaysOwn local (served_here local letter b).local
-served_own local letter (body.Request asked) ids own = own
-served_own local letter (body.Reply kind made) ids own = own
+-- Events
 
 -- a call begins, with an id that no call has
-begun_own : (local : LocalObject) (id : ℕ) (call_kind : CallKind) (stage : Stage) (kind : Kind) (p : ℕ) (o : Option Layout)
+begun_own : (local : LocalObject) (id : ℕ) (call_kind : CallKind) (stage : Stage) (kind : Kind) (number p : ℕ) (o : Option Layout)
     (before after : CallIds) → IsNextId before id after → HasRanges before → AreOwnCalls before local.calls →
-    AreOwnCalls after (begun_here local id call_kind stage kind p o).local.calls
-begun_own local id call_kind stage kind p None before after next within own =
+    AreOwnCalls after (begun_here local id call_kind stage kind number p o).local.calls
+begun_own local id call_kind stage kind number p None before after next within own =
     later_calls before after local.calls (next_later before after id next) own
-begun_own local id call_kind stage kind p (Some layout) before after next within own =
+begun_own local id call_kind stage kind number p (Some layout) before after next within own =
     let later = next_later before after id next in
     let still = later_calls before after local.calls later own in record {
       given = all_append (λ (call : NodeCall). WasGiven after call.id) local.calls _ still.given
@@ -137,13 +84,13 @@ begun_own local id call_kind stage kind p (Some layout) before after next within
 event_own : (local : LocalObject) (event : LocalEvent) (before after : CallIds) → IsGiven before (begun_id event) after →
     HasRanges before → AreOwnCalls before local.calls → AreOwnCalls after (done_here fragment local event).local.calls
 event_own local (LocalEvent.BeginRead id) before after given within own =
-    begun_own local id _ _ _ 0 (layout_here local 0) before after given within own
+    begun_own local id _ _ _ _ local.start (layout_here local local.start) before after given within own
 event_own local (LocalEvent.BeginWrite id value) before after given within own =
-    begun_own local id _ _ _ 0 (layout_here local 0) before after given within own
+    begun_own local id _ _ _ _ local.start (layout_here local local.start) before after given within own
 event_own local (LocalEvent.BeginMove id layout) before after given within own =
     let last = last_position local in
     let next = with_heard local (suc last) layout in
-    begun_own next id _ _ _ last (layout_here next last) before after given within own
+    begun_own next id _ _ _ _ last (layout_here next last) before after given within own
 event_own local (LocalEvent.Advance id) before after same within own =
     subst (λ ids. AreOwnCalls ids (done_here fragment local (LocalEvent.Advance id)).local.calls) same
     (on_open_same local (open_call local.calls id) (λ call. advanced_here fragment local call (due_phase call))
@@ -170,6 +117,17 @@ event_own local (LocalEvent.Close position) before after same within own =
 event_own local (LocalEvent.GiveUp id) before after same within own =
     subst (λ ids. AreOwnCalls ids (without_call id local.calls)) same
     (filter_own (λ call. not (eqb call.id id)) local.calls before own)
+event_own local (LocalEvent.Grow id) before after same within own = subst (λ ids. AreOwnCalls ids local.calls) same own
+event_own local (LocalEvent.Hear start layout) before after same within own =
+    subst (λ ids. AreOwnCalls ids (heard_start local start layout).calls) same (start_own local start layout before own)
+event_own local (LocalEvent.ReadOn id) before after same within own =
+    subst (λ ids. AreOwnCalls ids (done_here fragment local (LocalEvent.ReadOn id)).local.calls) same
+    (on_open_same local (open_call local.calls id) (λ call. reads_here local call (number_at call local.start))
+    (λ call. reads_own local call (number_at call local.start) local.start (layout_here local local.start)) before own)
+event_own local (LocalEvent.BeginAnew id) before after same within own =
+    subst (λ ids. AreOwnCalls ids (done_here fragment local (LocalEvent.BeginAnew id)).local.calls) same
+    (on_open_same local (open_call local.calls id) (λ call. reads_here local call (anew_number call local.start))
+    (λ call. reads_own local call (anew_number call local.start) local.start (layout_here local local.start)) before own)
 
 -- Deeds
 

@@ -40,6 +40,10 @@ event_fit got name (LocalEvent.Settle id value) lawful fed = tt
 event_fit got name (LocalEvent.Answer id) lawful fed = tt
 event_fit got name (LocalEvent.GiveUp id) lawful fed = tt
 event_fit got name (LocalEvent.Close position) lawful fed = tt
+event_fit got name (LocalEvent.Grow id) lawful fed = tt
+event_fit got name (LocalEvent.Hear start layout) lawful fed = absurd (fed)
+event_fit got name (LocalEvent.ReadOn id) lawful fed = tt
+event_fit got name (LocalEvent.BeginAnew id) lawful fed = tt
 
 named_lawful : (name : List ℕ) (letters : List Letter) → AllByRecursion HasLawfulLayouts letters →
     AllByRecursion IsLawfulLetter (with_names name letters)

@@ -1,5 +1,6 @@
 -- All objects of a node are its own.
 use Rattle.std.proofs.Common.{◌≡◌, ℕ, suc, Bool, true, false, cond, List, [], ◌∷◌, Option, Some, None, refl, sym, subst, ◌∙◌}
+use Rattle.std.proofs.Common.{nat_lt}
 use Rattle.std.specs.List.{AllByRecursion}
 use Rattle.layout.specs.Layout.{Layout}
 use Rattle.bank.specs.declared.kind.Kind.{Kind}
@@ -10,9 +11,10 @@ use Rattle.record.specs.declared.call.CallKind.{CallKind}
 use Rattle.record.specs.declared.stage.Stage.{Stage}
 use Rattle.open_calls.specs.OpenCalls.{NodeCall, due_phase, open_call, with_open, taking_open}
 use Rattle.letter.specs.declared.letter.Letter.{Letter}
-use Rattle.local_object.specs.Events.{LocalEvent, Outcome, advanced_at, advanced_here, all_done, begun_here, done_here}
-use Rattle.local_object.specs.Events.{learnt_from, on_open_call, served_here, silent}
-use Rattle.local_object.specs.Local.{LocalObject, last_position, layout_here, learnt_if, with_heard}
+use Rattle.local_object.specs.Events.{LocalEvent, advanced_at, advanced_here, all_done, done_here, served_here}
+use Rattle.local_object.specs.Outcomes.{Outcome, begun_here, learnt_from, on_open_call, silent}
+use Rattle.local_object.specs.Starting.{anew_number, number_at, reads_at, reads_here}
+use Rattle.local_object.specs.Local.{LocalObject, heard_start, last_position, layout_here, learnt_if, with_heard}
 use Rattle.local_object.specs.Doing.{IsOutcome}
 use Rattle.local_object.specs.May.{MayAllHappen, MayHappenHere}
 use Rattle.local_object.proofs.HeardPlaceLemmas.{layout_stays, layout_with}
@@ -57,10 +59,10 @@ module _ (q : ℕ) (layout : Layout) where
       then_same local first (learnt_from local letter) (heard_same local letter.message.position letter.layout)
       (heard_if_same first (suc letter.message.position) letter.next)
 
-  begun_same : (local : LocalObject) (id : ℕ) (kind : CallKind) (stage : Stage) (asked : Kind) (p : ℕ) (o : Option Layout)
-      → StaysSame q layout local (begun_here local id kind stage asked p o).local
-  begun_same local id kind stage asked p None = itself local
-  begun_same local id kind stage asked p (Some other) = record { node = refl; delta = refl; known = λ e. e }
+  begun_same : (local : LocalObject) (id : ℕ) (kind : CallKind) (stage : Stage) (asked : Kind) (number p : ℕ)
+      (o : Option Layout) → StaysSame q layout local (begun_here local id kind stage asked number p o).local
+  begun_same local id kind stage asked number p None = itself local
+  begun_same local id kind stage asked number p (Some other) = record { node = refl; delta = refl; known = λ e. e }
 
   advanced_same : (local : LocalObject) (call : NodeCall) (o : Option (Kind × ℕ))
       → StaysSame q layout local (advanced_here fragment local call o).local
@@ -76,6 +78,18 @@ module _ (q : ℕ) (layout : Layout) where
   called_same local None change changed = itself local
   called_same local (Some call) change changed = changed call
 
+  reads_same : (local : LocalObject) (call : NodeCall) (number start : ℕ) (o : Option Layout)
+      → StaysSame q layout local (reads_at local call number start o).local
+  reads_same local call number start None = itself local
+  reads_same local call number start (Some other) = record { node = refl; delta = refl; known = λ e. e }
+
+  start_same : (local : LocalObject) (start : ℕ) (other : Layout) → StaysSame q layout local (heard_start local start other)
+  start_same local start other = go (nat_lt local.start start)
+    where
+      go : (b : Bool) → StaysSame q layout local (cond b (record (with_heard local start other) { start = start }) local)
+      go true = record { node = refl; delta = refl; known = λ e. layout_stays local start other q layout e }
+      go false = itself local
+
   served_same : (local : LocalObject) (letter : Letter) (b : Body) → StaysSame q layout local (served_here local letter b).local
   served_same local letter (body.Request asked) = record {
     node = refl;
@@ -85,13 +99,15 @@ module _ (q : ℕ) (layout : Layout) where
   served_same local letter (body.Reply kind made) = itself local
 
   event_same : (local : LocalObject) (event : LocalEvent) → StaysSame q layout local (done_here fragment local event).local
-  event_same local (LocalEvent.BeginRead id) = begun_same local id _ _ _ 0 (layout_here local 0)
-  event_same local (LocalEvent.BeginWrite id value) = begun_same local id _ _ _ 0 (layout_here local 0)
+  event_same local (LocalEvent.BeginRead id) =
+      begun_same local id _ _ _ _ local.start (layout_here local local.start)
+  event_same local (LocalEvent.BeginWrite id value) =
+      begun_same local id _ _ _ _ local.start (layout_here local local.start)
   event_same local (LocalEvent.BeginMove id new) =
       let next = with_heard local (suc (last_position local)) new in
       then_same local next (done_here fragment local (LocalEvent.BeginMove id new)).local
       (heard_same local (suc (last_position local)) new)
-      (begun_same next id _ _ _ (last_position local) (layout_here next (last_position local)))
+      (begun_same next id _ _ _ _ (last_position local) (layout_here next (last_position local)))
   event_same local (LocalEvent.Advance id) =
       called_same local (open_call local.calls id) (λ call. advanced_here fragment local call (due_phase call))
       (λ call. advanced_same local call (due_phase call))
@@ -116,6 +132,14 @@ module _ (q : ℕ) (layout : Layout) where
     delta = refl;
     known = λ e. layout_with local position _ q ∙ e;
   }
+  event_same local (LocalEvent.Grow id) = record { node = refl; delta = refl; known = λ e. e }
+  event_same local (LocalEvent.Hear start other) = start_same local start other
+  event_same local (LocalEvent.ReadOn id) =
+      called_same local (open_call local.calls id) (λ call. reads_here local call (number_at call local.start))
+      (λ call. reads_same local call (number_at call local.start) local.start (layout_here local local.start))
+  event_same local (LocalEvent.BeginAnew id) =
+      called_same local (open_call local.calls id) (λ call. reads_here local call (anew_number call local.start))
+      (λ call. reads_same local call (anew_number call local.start) local.start (layout_here local local.start))
 
 -- Events keep an object the node's own
 

@@ -1,7 +1,8 @@
 -- What a node carries out again from a log leaves all objects its own.
 use Rattle.std.proofs.Common.{inl, inr, ℕ, Bool, true, false, cond, List, [], ◌∷◌, ◌++◌, Option, None, Some, sym, subst}
 use Rattle.std.specs.List.{AllByRecursion}
-use Rattle.call.specs.Call.{OpenCall as Machine}
+use Rattle.bank.specs.declared.kind.Kind.{Kind}
+use Rattle.call.specs.Call.{OpenCall as Machine, reached}
 use Rattle.call.specs.declared.next.Next.{Next}
 use Rattle.call.specs.declared.next.Next.TheVariants as next
 use Rattle.deeds.specs.Kept.{KeptNode}
@@ -16,8 +17,9 @@ use Rattle.layout.specs.Layout.{Layout}
 use Rattle.local_object.specs.Local.{LocalObject, Place, with_heard}
 use Rattle.local_object.proofs.HeardPlaceLemmas.{layout_stays}
 use Rattle.object_letters.proofs.HeardPositionLemmas.{heard_rebuildable}
-use Rattle.local_object.specs.Taking.{AreSettling, IsReplyOutcome, call_events, can_begin, lead_events, machine_of, repeats}
-use Rattle.local_object.specs.Taking.{step_events}
+use Rattle.local_object.specs.Taking.{AreSettling, IsReplyOutcome, begin_anew_events, begin_events, call_events, can_begin}
+use Rattle.local_object.specs.Taking.{can_begin_anew, going_events, grow_events, grows_by, is_read_begin, lead_events, machine_of}
+use Rattle.local_object.specs.Taking.{repeats, restart_events, step_events}
 use Rattle.open_calls.specs.OpenCalls.{NodeCall, open_call}
 use Rattle.object_letters.specs.Rebuildable.{HasLawfulLayouts, IsFit}
 use Rattle.recoveries.specs.Records.{IsKeptUnder, IsNamedHearing, LogRecord, RecoversOne}
@@ -44,19 +46,45 @@ begin_fit : (b : Bool) (id : ℕ) → AllByRecursion IsFit (cond b (LocalEvent.A
 begin_fit true id = (tt, tt)
 begin_fit false id = tt
 
-step_fit : (places : List Place) (call : Machine) (then : Next) → AllByRecursion IsFit (step_events places call then)
-step_fit places call next.Wait = tt
-step_fit places call next.Settle = tt
-step_fit places call (next.Restart kind position) = begin_fit (can_begin places call kind position) call.id
-step_fit places call (next.Begin kind position) = begin_fit (can_begin places call kind position) call.id
-step_fit places call next.Answer = (tt, tt)
+phase_fit : (places : List Place) (call : Machine) (asked : Kind) (q : ℕ) → AllByRecursion IsFit (begin_events places call asked q)
+phase_fit places call asked q = begin_fit (can_begin places call asked q) call.id
 
-call_fit : (again : Bool) (places : List Place) (call : Option NodeCall) → AllByRecursion IsFit (call_events again places call)
-call_fit again places None = tt
-call_fit again places (Some call) = step_fit places (machine_of call) (next_if again (machine_of call))
+anew_fit : (b : Bool) (id : ℕ) → AllByRecursion IsFit (cond b (LocalEvent.BeginAnew id ∷ []) [])
+anew_fit true id = (tt, tt)
+anew_fit false id = tt
 
-lead_fit : (again : Bool) (local : LocalObject) (id : ℕ) → AllByRecursion IsFit (lead_events again local id)
-lead_fit again local id = call_fit again local.places (open_call local.calls id)
+restart_fit : (local : LocalObject) (call : Machine) (asked : Kind) (q : ℕ) →
+    AllByRecursion IsFit (restart_events local call asked q)
+restart_fit local call asked q = go (is_read_begin (reached call))
+  where
+    go : (r : Bool) → AllByRecursion IsFit (cond r (begin_anew_events local call) (begin_events local.places call asked q))
+    go true = anew_fit (can_begin_anew local call) call.id
+    go false = phase_fit local.places call asked q
+
+step_fit : (local : LocalObject) (call : Machine) (then : Next) → AllByRecursion IsFit (step_events local call then)
+step_fit local call next.Wait = tt
+step_fit local call next.Settle = tt
+step_fit local call (next.Restart asked position) = restart_fit local call asked position
+step_fit local call (next.Begin asked position) = phase_fit local.places call asked position
+step_fit local call next.Answer = (tt, tt)
+
+call_fit : (again : Bool) (local : LocalObject) (call : Option NodeCall) → AllByRecursion IsFit (call_events again local call)
+call_fit again local None = tt
+call_fit again local (Some call) = step_fit local (machine_of call) (next_if again (machine_of call))
+
+grow_fit : (local : LocalObject) (id : ℕ) → AllByRecursion IsFit (grow_events local id)
+grow_fit local id = go (grows_by local (open_call local.calls id))
+  where
+    go : (b : Bool) → AllByRecursion IsFit (cond b (LocalEvent.Grow id ∷ []) [])
+    go true = (tt, tt)
+    go false = tt
+
+-- the events by which the start grows, and the call goes on
+going_fit : (again : Bool) (local : LocalObject) (id : ℕ) → AllByRecursion IsFit (going_events again local id)
+going_fit again local id =
+    let grown = (all_done fragment local (grow_events local id)).local in
+    all_append IsFit (grow_events local id) (lead_events again grown id) (grow_fit local id)
+    (call_fit again grown (open_call grown.calls id))
 
 settling_fit : (local : LocalObject) (id : ℕ) (events : List LocalEvent) → AreSettling local id events → AllByRecursion IsFit events
 settling_fit local id events (inl none) = subst (λ (es : List LocalEvent). AllByRecursion IsFit es) (sym none.0) tt
@@ -72,12 +100,12 @@ take_own old new name letter local sent ended lawful put own true taken =
     let id = letter.message.call in
     let first = LocalEvent.Take letter ∷ taken.settling in
     let again = repeats before letter in
-    let leads = lead_events again (all_done fragment before first).local id in
+    let leads = going_events again (all_done fragment before first).local id in
     done_own old new name local (LocalEvent.Take letter ∷ taken.settling ++ leads) sent (
       lawful,
       all_append IsFit taken.settling leads
           (settling_fit (all_done fragment before (LocalEvent.Take letter ∷ [])).local id taken.settling taken.settles)
-          (lead_fit again (all_done fragment before first).local id),
+          (going_fit again (all_done fragment before first).local id),
     )
     taken.leads.done put own
 

@@ -13,7 +13,8 @@ use Rattle.deeds.specs.Kept.{KeptNode, new_node}
 use Rattle.deeds.specs.Named.{is_same_name, with_named}
 use Rattle.recoveries.specs.Laws.{CopiesRestart, MoreIsRecorded, NewIsRecorded, RecoveredNodesRestart, TwoAreLogged}
 use Rattle.recoveries.specs.Records.{IsNamedOutcome, IsKeptUnder, IsSame, LogRecord, Recovers, RecoversOne}
-use Rattle.recoveries.proofs.TakenReplyLemmas.{gone_on, same_settling, taken_to}
+use Rattle.recoveries.proofs.SettlingLemmas.{same_settling}
+use Rattle.recoveries.proofs.TakenReplyLemmas.{gone_on, taken_to}
 use Rattle.recoveries.proofs.NodeCopyLemmas.{new_copy, same_both, same_self, same_then, self_copy}
 use Rattle.recoveries.proofs.LoggedLemmas.{started_epoch, started_given, started_number, starts_logged}
 

@@ -1,5 +1,5 @@
 -- A node serves a letter: its copy serves it too, or need not.
-use Rattle.std.proofs.Common.{◌≡◌, ℕ, suc, ◌+◌, ◌^◌, Bool, true, false, ◌&&◌, cond, eqb-true, nat_lt, [], ◌∷◌, Option, Some, None}
+use Rattle.std.proofs.Common.{◌≡◌, ◌≤◌, ℕ, suc, ◌+◌, ◌^◌, Bool, true, false, ◌&&◌, cond, eqb-true, nat_lt, [], ◌∷◌, Option, Some, None}
 use Rattle.std.proofs.Common.{is_some, slice_get, refl, sym, subst, ap, ◌∙◌}
 use Rattle.std.proofs.lemmas.Option.{same_Some}
 use Rattle.std.specs.List.{filter, list_any}
@@ -15,7 +15,8 @@ use Rattle.local_object.specs.ChangedBanks.{kept_after, kept_bank}
 use Rattle.local_object.specs.Changing.{IsUnchangedBy, after_serving}
 use Rattle.local_object.specs.Doing.{is_member, is_served, names_node, serve_events}
 use Rattle.mail.specs.Message.{is_request}
-use Rattle.local_object.specs.Events.{LocalEvent, all_done, learnt_from, served_here}
+use Rattle.local_object.specs.Events.{LocalEvent, all_done, served_here}
+use Rattle.local_object.specs.Outcomes.{learnt_from}
 use Rattle.local_object.specs.Local.{LocalObject, bank_here, bank_in, bank_or_opened, heard_place, layout_here, with_heard, learnt_if}
 use Rattle.local_object.specs.Restarts.{IsKeptHere}
 use Rattle.open_calls.specs.OpenCalls.{NodeCallsDiffer}
@@ -143,6 +144,7 @@ module _ (moves : Type 0) (local copy : LocalObject) (is : IsObjectCopy moves lo
     still_kept e = record {
       node = is.kept.node ∙ sym only.node;
       delta = is.kept.delta ∙ sym only.delta;
+      start = subst (λ s. copy.start ≤ s) (sym only.start) is.kept.start;
       layouts = λ q layout at. only.kept q layout (is.kept.layouts q layout at);
       first = is.kept.first;
       banks = λ q member layout at holds.

@@ -1,29 +1,29 @@
 -- An open move takes a reply and goes on: a node and its copy do it alike.
 use Rattle.std.proofs.Common.{◌≡◌, ℕ, ◌+◌, ◌^◌, inl, inr, Bool, true, false, ◌&&◌, cond, is_some, nat_lt, List, [], ◌∷◌, ◌++◌}
 use Rattle.std.proofs.Common.{Option, Some, None, refl, sym, subst, ap, ◌∙◌}
-use Rattle.std.proofs.lemmas.Option.{same_Some}
 use Rattle.bank.specs.declared.kind.Kind.{Kind}
 use Rattle.encoder.specs.Fragment.{fragment}
-use Rattle.decoder.specs.Decoded.{IsDecoded}
-use Rattle.layout.specs.Layout.{Layout}
+use Rattle.call.specs.Call.{reached}
 use Rattle.call.specs.declared.next.Next.{Next}
 use Rattle.call.specs.declared.next.Next.TheVariants as next
-use Rattle.call.specs.Call.{OpenCall as Machine}
 use Rattle.open_calls.specs.OpenCalls.{NodeCall, open_call, taking_open}
 use Rattle.letter.specs.declared.letter.Letter.{Letter}
 use Rattle.local_object.specs.declared.progress.Ended.{Ended}
-use Rattle.local_object.specs.Coding.{is_sendable}
 use Rattle.local_object.specs.Doing.{is_move_call, has_move_open, is_taken}
 use Rattle.mail.specs.Message.{is_request}
-use Rattle.local_object.specs.Events.{LocalEvent, all_done, done_here, learnt_from}
-use Rattle.local_object.specs.Going.{IsFetchedValue, next_if}
-use Rattle.local_object.specs.Local.{LocalObject, Place, layout_here, layout_in, heard_place}
-use Rattle.local_object.specs.Pieces.{first_pieces}
-use Rattle.local_object.specs.Taking.{AreSettling, CanSettle, GoesOn, IsReplyOutcome, begin_events, call_events, can_begin, is_repeated}
-use Rattle.local_object.specs.Taking.{lead_events, machine_of, repeats, step_events}
+use Rattle.local_object.specs.Events.{LocalEvent, all_done, done_here}
+use Rattle.local_object.specs.Outcomes.{learnt_from}
+use Rattle.local_object.specs.Going.{next_if}
+use Rattle.local_object.specs.Local.{LocalObject}
+use Rattle.local_object.specs.Taking.{AreSettling, GoesOn, IsReplyOutcome, begin_anew_events, begin_events, call_events, can_begin}
+use Rattle.local_object.specs.Taking.{going_events, grow_events, is_read_begin, is_repeated, lead_events, machine_of, repeats}
+use Rattle.local_object.specs.Taking.{restart_events, step_events}
 use Rattle.local_object.proofs.HeardLayoutLemmas.{calls_heard}
 use Rattle.recoveries.proofs.KeptPlaceLemmas.{layouts_kept}
 use Rattle.recoveries.proofs.KeptCallLemmas.{IsObjectCopy, found_copy, found_id, found_moves, moves_call}
+use Rattle.recoveries.proofs.GrownStartLemmas.{both_grow, grown, grown_found}
+use Rattle.recoveries.proofs.SettlingLemmas.{same_settling}
+use Rattle.recoveries.proofs.SameStepLemmas.{no_move_anew, same_lead}
 use Rattle.recoveries.proofs.TwinLemmas.{both_advance, both_answer, both_settle, both_take, found_new, settled_is, taken_is}
 
 pub all_done_both : (local : LocalObject) (first second : List LocalEvent) → (all_done fragment local (first ++ second)).local
@@ -31,74 +31,7 @@ pub all_done_both : (local : LocalObject) (first second : List LocalEvent) → (
 all_done_both local [] second = refl
 all_done_both local (event ∷ first) second = all_done_both (done_here fragment local event).local first second
 
--- The value that a call settles
-
--- the value that is fetched is one
-one_fetched : (places : List Place) (a b : Machine) (v w : List ℕ) → a ≡ b → IsFetchedValue places a v → IsFetchedValue places b w → v ≡ w
-one_fetched places a b v w same first second =
-    second.only v
-    (subst (λ (l : Layout). IsDecoded (record { k = l.k; pieces = first_pieces l.k b.phase.replies; value = v }))
-    (same_Some first.layout second.layout
-    (sym first.known ∙ ap (λ (m : Machine). layout_in (heard_place places m.phase.position)) same ∙ second.known))
-    (subst (λ (m : Machine). IsDecoded (record {
-      k = first.layout.k;
-      pieces = first_pieces first.layout.k m.phase.replies;
-      value = v;
-    })) same first.decoded))
-
-one_settled : (local : LocalObject) (id : ℕ) (v w : List ℕ) → CanSettle local id v → CanSettle local id w → v ≡ w
-one_settled local id v w first second =
-    one_fetched local.places (machine_of first.call) (machine_of second.call) v w
-    (ap machine_of (same_Some first.call second.call (sym first.carried ∙ second.carried))) first.fetched second.fetched
-
--- who has the same open call, and has heard of the same layouts, can settle the same
-settled_as : (a b : LocalObject) (id : ℕ) → open_call b.calls id ≡ open_call a.calls id →
-    ((q : ℕ) → layout_here b q ≡ layout_here a q) → (v : List ℕ) → CanSettle a id v → CanSettle b id v
-settled_as a b id same heard v can = record {
-  call = can.call;
-  carried = same ∙ can.carried;
-  next = can.next;
-  fetched = record {
-    layout = can.fetched.layout;
-    known = heard can.call.phase.position ∙ can.fetched.known;
-    decoded = can.fetched.decoded;
-    only = can.fetched.only;
-  };
-}
-
-pub same_settling : (a b : LocalObject) (id : ℕ) → open_call b.calls id ≡ open_call a.calls id →
-    ((q : ℕ) → layout_here b q ≡ layout_here a q) → (es fs : List LocalEvent) → AreSettling a id es → AreSettling b id fs → es ≡ fs
-same_settling a b id same heard es fs (inl first) (inl second) = first.0 ∙ sym second.0
-same_settling a b id same heard es fs (inl first) (inr second) =
-    absurd (first.1 second.0 (settled_as b a id (sym same) (λ q. sym (heard q)) second.0 second.1))
-same_settling a b id same heard es fs (inr first) (inl second) =
-    absurd (second.1 first.0 (settled_as a b id same heard first.0 first.1))
-same_settling a b id same heard es fs (inr first) (inr second) =
-    first.2 ∙ ap (λ v. LocalEvent.Settle id v ∷ [])
-    (one_settled b id first.0 second.0 (settled_as a b id same heard first.0 first.1) second.1)
-    ∙ sym second.2
-
 -- How a call goes on
-
-same_begin : (a b : List Place) (call : Machine) (kind : Kind) (q : ℕ) →
-    layout_in (heard_place b q) ≡ layout_in (heard_place a q) → begin_events b call kind q ≡ begin_events a call kind q
-same_begin a b call kind q heard =
-    ap (λ o. cond (is_some o && (nat_lt (call.phase.number + 1) (2 ^ 32) && is_sendable kind call))
-    (LocalEvent.Advance call.id ∷ []) []) heard
-
-same_step : (a b : LocalObject) → ((q : ℕ) → layout_here b q ≡ layout_here a q) → (call : Machine) (n : Next) →
-    step_events b.places call n ≡ step_events a.places call n
-same_step a b heard call next.Wait = refl
-same_step a b heard call next.Settle = refl
-same_step a b heard call (next.Restart kind position) = same_begin a.places b.places call kind position (heard position)
-same_step a b heard call (next.Begin kind position) = same_begin a.places b.places call kind position (heard position)
-same_step a b heard call next.Answer = refl
-
-same_lead : (anew : Bool) (a b : LocalObject) (id : ℕ) (call : NodeCall) → open_call a.calls id ≡ Some call →
-    open_call b.calls id ≡ Some call → ((q : ℕ) → layout_here b q ≡ layout_here a q) → lead_events anew b id ≡ lead_events anew a id
-same_lead anew a b id call found again heard =
-    ap (call_events anew b.places) again ∙ same_step a b heard (machine_of call) (next_if anew (machine_of call))
-    ∙ ap (call_events anew a.places) (sym found)
 
 module _ (moves : Type 0) (here : moves) (local copy : LocalObject) (is : IsObjectCopy moves local copy) (id : ℕ) (call : NodeCall)
     (found : open_call local.calls id ≡ Some call) (move : moves_call call ≡ true) where
@@ -108,10 +41,10 @@ module _ (moves : Type 0) (here : moves) (local copy : LocalObject) (is : IsObje
   own_id : (calls : List NodeCall) → open_call calls id ≡ Some call → open_call calls call.id ≡ Some call
   own_id calls at = ap (open_call calls) (found_id calls id call at) ∙ at
 
-  begin_both : (kind : Kind) (position : ℕ) → IsObjectCopy moves
-      (all_done fragment local (begin_events local.places (machine_of call) kind position)).local
-      (all_done fragment copy (begin_events local.places (machine_of call) kind position)).local
-  begin_both kind position = go (can_begin local.places (machine_of call) kind position)
+  begin_both : (asked : Kind) (position : ℕ) → IsObjectCopy moves
+      (all_done fragment local (begin_events local.places (machine_of call) asked position)).local
+      (all_done fragment copy (begin_events local.places (machine_of call) asked position)).local
+  begin_both asked position = go (can_begin local.places (machine_of call) asked position)
     where
       go : (b : Bool) → IsObjectCopy moves
           (all_done fragment local (cond b (LocalEvent.Advance call.id ∷ []) [])).local
@@ -120,47 +53,82 @@ module _ (moves : Type 0) (here : moves) (local copy : LocalObject) (is : IsObje
           both_advance fragment moves here local copy is call.id call (own_id local.calls found) move (own_id copy.calls again)
       go false = is
 
+  -- a move does not begin anew at the start
+  restart_both : (asked : Kind) (position : ℕ) → IsObjectCopy moves
+      (all_done fragment local (restart_events local (machine_of call) asked position)).local
+      (all_done fragment copy (restart_events local (machine_of call) asked position)).local
+  restart_both asked position = go (is_read_begin (reached (machine_of call)))
+    where
+      go : (r : Bool) → IsObjectCopy moves
+          (all_done fragment local (cond r (begin_anew_events local (machine_of call))
+          (begin_events local.places (machine_of call) asked position))).local
+          (all_done fragment copy (cond r (begin_anew_events local (machine_of call))
+          (begin_events local.places (machine_of call) asked position))).local
+      go true =
+          subst (λ es. IsObjectCopy moves (all_done fragment local es).local (all_done fragment copy es).local)
+          (sym (no_move_anew local (machine_of call) move)) is
+      go false = begin_both asked position
+
   step_both : (n : Next) → IsObjectCopy moves
-      (all_done fragment local (step_events local.places (machine_of call) n)).local
-      (all_done fragment copy (step_events local.places (machine_of call) n)).local
+      (all_done fragment local (step_events local (machine_of call) n)).local
+      (all_done fragment copy (step_events local (machine_of call) n)).local
   step_both next.Wait = is
   step_both next.Settle = is
-  step_both (next.Restart kind position) = begin_both kind position
-  step_both (next.Begin kind position) = begin_both kind position
+  step_both (next.Restart asked position) = restart_both asked position
+  step_both (next.Begin asked position) = begin_both asked position
   step_both next.Answer = both_answer fragment moves here local copy is call.id
 
   lead_both : (anew : Bool) → IsObjectCopy moves
       (all_done fragment local (lead_events anew local id)).local (all_done fragment copy (lead_events anew copy id)).local
   lead_both anew =
       subst (λ es. IsObjectCopy moves (all_done fragment local (lead_events anew local id)).local (all_done fragment copy es).local)
-      (sym (same_lead anew local copy id call found again (layouts_kept moves local copy is.kept here)))
-      (subst (λ o. IsObjectCopy moves (all_done fragment local (call_events anew local.places o)).local
-      (all_done fragment copy (call_events anew local.places o)).local) (sym found) (step_both (next_if anew (machine_of call))))
+      (sym (same_lead local copy (layouts_kept moves local copy is.kept here) anew id call move found again))
+      (subst (λ o. IsObjectCopy moves (all_done fragment local (call_events anew local o)).local
+      (all_done fragment copy (call_events anew local o)).local) (sym found) (step_both (next_if anew (machine_of call))))
+
+-- the start grows by the call, if it can, and the call goes on
+
+-- what the node keeps then, if the call begins anew only where `anew` is true
+abbrev pub gone : (anew : Bool) → LocalObject → (id : ℕ) → LocalObject
+gone anew local id = (all_done fragment (grown local id) (lead_events anew (grown local id) id)).local
+
+pub going_is : (anew : Bool) (local : LocalObject) (id : ℕ) →
+    (all_done fragment local (going_events anew local id)).local ≡ gone anew local id
+going_is anew local id = all_done_both local (grow_events local id) (lead_events anew (grown local id) id)
+
+going_both : (anew : Bool) (moves : Type 0) → moves → (local copy : LocalObject) → IsObjectCopy moves local copy →
+    (id : ℕ) (call : NodeCall) → open_call local.calls id ≡ Some call → moves_call call ≡ true → IsObjectCopy moves
+    (all_done fragment local (going_events anew local id)).local (all_done fragment copy (going_events anew copy id)).local
+going_both anew moves here local copy is id call found move =
+    subst (λ l. IsObjectCopy moves l (all_done fragment copy (going_events anew copy id)).local) (sym (going_is anew local id))
+    (subst (IsObjectCopy moves (gone anew local id)) (sym (going_is anew copy id))
+    (lead_both moves here (grown local id) (grown copy id)
+    (both_grow moves here local copy is id call found (found_copy moves local copy is id call found move))
+    id call (grown_found local id call found) move anew))
 
 -- the call settles what it fetched, if it can, and goes on
 
--- what the node keeps after the call goes on by these events and by those that are then due, if it begins anew only where
--- `anew` is true
+-- what the node keeps after these events and those that are then due, if the call begins anew only where `anew` is true
 abbrev pub gone_on : (anew : Bool) → LocalObject → (id : ℕ) → List LocalEvent → LocalObject
 gone_on anew local id es =
-    let settled = (all_done fragment local es).local in (all_done fragment settled (lead_events anew settled id)).local
+    let settled = (all_done fragment local es).local in (all_done fragment settled (going_events anew settled id)).local
 
 settle_both : (anew : Bool) (moves : Type 0) → moves → (local copy : LocalObject) → IsObjectCopy moves local copy →
     (id : ℕ) (call : NodeCall) → open_call local.calls id ≡ Some call → moves_call call ≡ true → (es : List LocalEvent) →
     AreSettling local id es → IsObjectCopy moves (gone_on anew local id es) (gone_on anew copy id es)
 settle_both anew moves here local copy is id call found move es (inl none) =
     subst (λ es. IsObjectCopy moves (gone_on anew local id es) (gone_on anew copy id es)) (sym none.0)
-    (lead_both moves here local copy is id call found move anew)
+    (going_both anew moves here local copy is id call found move)
 settle_both anew moves here local copy is id call found move es (inr some) =
     let new : NodeCall = record call { settled = Some some.0 } in
     subst (λ es. IsObjectCopy moves (gone_on anew local id es) (gone_on anew copy id es)) (sym some.2)
-    (lead_both moves here
+    (going_both anew moves here
     (done_here fragment local (LocalEvent.Settle id some.0)).local (done_here fragment copy (LocalEvent.Settle id some.0)).local
     (both_settle fragment moves here local copy is id call found move (found_copy moves local copy is id call found move) some.0)
     id new
     (ap (λ (l : LocalObject). open_call l.calls id) (settled_is fragment local id some.0 call found)
     ∙ found_new local.calls id call new found refl)
-    move anew)
+    move)
 
 -- what it keeps after a reply was taken, and the call went on
 pub taken_to : (old : LocalObject) (letter : Letter) (new : LocalObject) (sent : List Letter) (ended : List Ended) →
@@ -170,7 +138,7 @@ taken_to old letter new sent ended taken =
     let first = (done_here fragment old (LocalEvent.Take letter)).local in
     taken.leads.done.local
     ∙ all_done_both first taken.settling
-    (lead_events (repeats old letter) (all_done fragment first taken.settling).local letter.message.call)
+    (going_events (repeats old letter) (all_done fragment first taken.settling).local letter.message.call)
 
 module _ (moves : Type 0) (here : moves) (local copy : LocalObject) (is : IsObjectCopy moves local copy)
     (letter : Letter) (call : NodeCall) (found : open_call local.calls letter.message.call ≡ Some call)

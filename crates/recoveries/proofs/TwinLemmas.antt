@@ -8,7 +8,8 @@ use Rattle.open_calls.specs.OpenCalls.{NodeCall, due_phase, open_call, with_open
 use Rattle.open_calls.proofs.OpenCallLemmas.{found_with}
 use Rattle.letter.specs.declared.letter.Letter.{Letter}
 use Rattle.local_object.specs.Local.{LocalObject, layout_here}
-use Rattle.local_object.specs.Events.{LocalEvent, advanced_at, advanced_here, done_here, learnt_from, on_open_call, silent}
+use Rattle.local_object.specs.Events.{LocalEvent, advanced_at, advanced_here, done_here}
+use Rattle.local_object.specs.Outcomes.{learnt_from, on_open_call, silent}
 use Rattle.local_object.proofs.HeardLayoutLemmas.{calls_heard}
 use Rattle.recoveries.proofs.KeptPlaceLemmas.{layouts_kept, letter_moving}
 use Rattle.recoveries.proofs.KeptCallLemmas.{IsObjectCopy, found_id, moves_call, with_move, without_move}
