@@ -13,7 +13,8 @@ use Rattle.bank.specs.Bank.{opened_bank}
 use Rattle.bank.specs.declared.request.Request.TheVariants as request
 use Rattle.bank.specs.declared.status.Status.TheVariants.{Unset}
 use Rattle.local_object.specs.ChangedBanks.{bank_after, changes_bank}
-use Rattle.local_object.specs.Events.{learnt_from, reply_letters}
+use Rattle.local_object.specs.Events.{reply_letters}
+use Rattle.local_object.specs.Outcomes.{learnt_from}
 use Rattle.local_object.specs.KeptBanks.{kept_reply}
 use Rattle.local_object.specs.Local.{LocalObject, bank_or_opened}
 use Rattle.local_object.specs.declared.kept_bank.KeptBank.TheVariants as kept

@@ -1,5 +1,5 @@
 -- The whole runs.
-use Rattle.std.proofs.Common.{◌++◌, refl}
+use Rattle.std.proofs.Common.{◌++◌, le_refl, refl}
 use Rattle.refinement.specs.Systems.{MayRunIn}
 use Rattle.example_tests.specs.RecordExamples.{whole}
 use Rattle.example_tests.specs.RefinedExamples.{AReadOfANewObject, AWriteAndARestart, read_asked, read_ended, read_settled, restarted}
@@ -13,6 +13,7 @@ restarts = (
   record {
     node = refl;
     delta = refl;
+    start = le_refl 0;
     layouts = λ position layout e. e;
     first = refl;
     banks = λ position member layout known holds. refl;

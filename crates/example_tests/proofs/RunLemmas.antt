@@ -9,7 +9,7 @@ use Rattle.bank.specs.declared.reply.Answer.TheVariants as answer
 use Rattle.bank.specs.declared.status.Status.{Status}
 use Rattle.mail.specs.declared.message.Body.TheVariants as body
 use Rattle.letter.specs.declared.letter.Letter.{Letter}
-use Rattle.local_object.specs.Events.{if_pointed}
+use Rattle.local_object.specs.Outcomes.{if_pointed}
 use Rattle.local_object.specs.Local.{LocalObject, layout_here}
 use Rattle.refinement.specs.Systems.{MayRunIn, System, SystemEvent, system_after, system_run}
 use Rattle.example_tests.specs.RecordExamples.{whole}

@@ -1,5 +1,6 @@
 -- A copy of a copy is a copy.
-use Rattle.std.proofs.Common.{◌≡◌, Bool, true, false, cond, List, [], ◌∷◌, Some, slice_get, refl, sym, subst, ap, ◌∙◌}
+use Rattle.std.proofs.Common.{◌≡◌, ◌≤◌, ℕ, Bool, true, false, cond, List, [], ◌∷◌, Some, slice_get}
+use Rattle.std.proofs.Common.{refl, sym, subst, ap, ◌∙◌, arith}
 use Rattle.std.specs.List.{filter}
 use Rattle.deeds.specs.Kept.{FileOfNames, KeptNode}
 use Rattle.layout.specs.Layout.{Layout}
@@ -26,12 +27,16 @@ moves_twice (call ∷ calls) = go (is_move call.kind) refl (moves_twice calls)
 some_layout : (a b : Layout) → Some a ≡ Some b → a ≡ b
 some_layout a b e = cc
 
+not_later : (a b c : ℕ) → b ≤ a → c ≤ b → c ≤ a
+not_later a b c first second = omega arith
+
 -- what is kept of what is kept is kept
 kept_twice : (moves then : Type 0) (a b c : LocalObject) → (moves → then) → IsKeptHere moves a b → IsKeptHere then b c →
     IsKeptHere moves a c
 kept_twice moves then a b c also first second = record {
   node = second.node ∙ first.node;
   delta = second.delta ∙ first.delta;
+  start = not_later a.start b.start c.start first.start second.start;
   layouts = λ position layout is. first.layouts position layout (second.layouts position layout is);
   first = second.first;
   banks = λ position member layout is own.

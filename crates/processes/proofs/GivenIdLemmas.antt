@@ -62,6 +62,10 @@ event_begun name local (LocalEvent.Take letter) place id begins = absurd (none_t
 event_begun name local (LocalEvent.Settle given value) place id begins = absurd (none_told name [] place id begins)
 event_begun name local (LocalEvent.GiveUp given) place id begins = absurd (none_told name [] place id begins)
 event_begun name local (LocalEvent.Close position) place id begins = absurd (none_told name [] place id begins)
+event_begun name local (LocalEvent.Grow given) place id begins = absurd (none_told name [] place id begins)
+event_begun name local (LocalEvent.Hear start layout) place id begins = absurd (none_told name [] place id begins)
+event_begun name local (LocalEvent.ReadOn given) place id begins = absurd (none_told name [] place id begins)
+event_begun name local (LocalEvent.BeginAnew given) place id begins = absurd (none_told name [] place id begins)
 event_begun name local (LocalEvent.Answer given) place id begins =
     absurd (none_told name (told local (LocalEvent.Answer given)) place id begins)
 

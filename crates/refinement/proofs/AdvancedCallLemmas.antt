@@ -14,8 +14,9 @@ use Rattle.network.specs.Worlds.{World, known_layout, known_layouts}
 use Rattle.open_calls.specs.OpenCalls.{NodeCall, due_phase, open_call, stage_reached}
 use Rattle.network.specs.Events.{Event, advanced_world, on_open}
 use Rattle.local_object.specs.Local.{LocalObject, layout_here}
-use Rattle.local_object.specs.Events.{LocalEvent, advanced_at, advanced_here, on_open_call, pieces_here, silent}
-use Rattle.refinement.specs.Laws.{IsEventOfWorld}
+use Rattle.local_object.specs.Events.{LocalEvent, advanced_at, advanced_here, pieces_here}
+use Rattle.local_object.specs.Outcomes.{on_open_call, silent}
+use Rattle.refinement.specs.Laws.{IsPlainEventOfWorld}
 use Rattle.refinement.specs.Parts.{IsPartOf}
 use Rattle.refinement.specs.WellFormed.{IsWellFormed}
 use Rattle.refinement.proofs.BegunCallLemmas.{ticked}
@@ -83,7 +84,7 @@ tick_kept fragment world local formed part =
     subst (λ now. IsKept fragment world (record world { now = now }) (silent local) 1 world.history) one
     (unchanged fragment world local 1 formed part)
 
-pub advance_refined : (id : ℕ) → IsEventOfWorld (LocalEvent.Advance id)
+pub advance_refined : (id : ℕ) → IsPlainEventOfWorld (LocalEvent.Advance id)
 advance_refined id fragment world local formed part may premised =
     let call = may.0 in
     let is = carried fragment world local id call formed part may.1 in

@@ -1,5 +1,5 @@
 -- The answers of calls, by the history of all nodes.
-use Rattle.std.proofs.Common.{◌≡◌, ℕ, suc, true, Bool, false, cond, eqb, eq-eqb, List, [], ◌∷◌, ◌++◌, map, Option, Some}
+use Rattle.std.proofs.Common.{◌≡◌, ℕ, suc, true, Bool, false, cond, eqb, eq-eqb, List, [], ◌∷◌, map, Option, Some}
 use Rattle.std.proofs.Common.{option_map, is_some, refl, sym, subst, ap, ◌∙◌}
 use Rattle.std.proofs.lemmas.Option.{slice_get-map}
 use Rattle.std.specs.List.{AllByRecursion}
@@ -8,22 +8,20 @@ use Rattle.record.specs.declared.call.CallKind.TheVariants.{Read, Write, Move}
 use Rattle.record.specs.declared.call.Entry.{Entry}
 use Rattle.record.specs.Fragments.{Code}
 use Rattle.record.specs.Journals.{entry_value, operation_of}
-use Rattle.network.specs.Worlds.{World, opened_world}
+use Rattle.network.specs.Worlds.{World}
 use Rattle.open_calls.specs.OpenCalls.{NodeCall}
 use Rattle.network.specs.Events.{Event, answered_entry, world_after}
-use Rattle.network.specs.Premises.{MayHappenInTurn}
-use Rattle.network.specs.Laws.{IsReached, KeepsValues}
+use Rattle.network.specs.Laws.{KeepsValues}
 use Rattle.open_calls.proofs.OpenCallLemmas.{found}
 use Rattle.network.proofs.WorldLawLemmas.{values_kept}
-use Rattle.local_object.specs.Events.{LocalEvent}
 use Rattle.refinement.specs.Laws.{AnsweredReadsHaveValues, AnswersAreInHistory}
 use Rattle.refinement.specs.Refined.{with_answer}
 use Rattle.refinement.specs.SystemValues.{HasAnswer, told_value}
 use Rattle.refinement.specs.WellFormed.{HasEntry}
 use Rattle.refinement.proofs.ChangedCallLemmas.{carried}
-use Rattle.refinement.proofs.LocalEventLemmas.{each_refined}
+use Rattle.refinement.proofs.LeftCallLemmas.{answer_refined}
 use Rattle.refinement.proofs.SystemLawLemmas.{reached_with}
-use Rattle.refinement.proofs.EventRunLemmas.{may_append, run_append}
+use Rattle.refinement.proofs.EventRunLemmas.{reached_later}
 
 -- the value of an answer does not depend on the number of its event
 value_told : (kind : CallKind) (settled : Option (List ℕ)) (now : ℕ) →
@@ -76,19 +74,6 @@ answers_kept fragment system node id call reached open_here =
 
 -- A read that is answered
 
-reached_later : (fragment : Code) (world : World) (event : Event) → IsReached fragment world → MayHappenInTurn fragment (event ∷ []) world →
-    IsReached fragment (world_after fragment (event ∷ []) world)
-reached_later fragment world event reached may = record {
-  files = reached.files;
-  one = reached.one;
-  lawful = reached.lawful;
-  events = reached.events ++ event ∷ [];
-  may = may_append fragment reached.events (event ∷ []) (opened_world reached.files) reached.may
-      (subst (MayHappenInTurn fragment (event ∷ [])) (sym reached.result) may);
-  result = run_append fragment reached.events (event ∷ []) (opened_world reached.files)
-      ∙ ap (world_after fragment (event ∷ [])) reached.result;
-}
-
 -- what is told of a read is what it settled
 read_told : (call : NodeCall) → call.kind ≡ Read → told_value call ≡ call.settled
 read_told call e = ap (λ k. entry_value k (Some 0) call.settled) e
@@ -110,7 +95,7 @@ answered_values fragment system node id call code reached may open_here kind =
     let local = system.objects node in
     let part = with_world.is.parts node in
     let formed = with_world.formed in
-    let led = each_refined (LocalEvent.Answer id) fragment world local formed part may tt in
+    let led = answer_refined id fragment world local formed part may tt in
     let carries = carried fragment world local id call formed part open_here in
     let has = (found (HasEntry world.history) world.calls id call formed.entries carries.open_there).0 in
     let later = world_after fragment (Event.Answer id ∷ []) world in
@@ -118,4 +103,4 @@ answered_values fragment system node id call code reached may open_here kind =
     subst (λ history. HasAnswer history call (suc world.now))
     (sym (led.1 ∙ ap (λ o. with_answer o (suc world.now) world.history) open_here)) (answer_there world.history call (suc world.now) has) in
     read_settled fragment later call (suc world.now)
-    (values_kept fragment later code (reached_later fragment world (Event.Answer id) with_world.reached led.0.may)) answer kind
+    (values_kept fragment later code (reached_later fragment world (Event.Answer id ∷ []) with_world.reached led.0.may)) answer kind

@@ -17,10 +17,12 @@ use Rattle.starts.specs.Reading.{most_events}
 use Rattle.starts.specs.Starts.{IsStart}
 use Rattle.starts.proofs.LeadingLemmas.{found_changed, with_twice}
 use Rattle.local_object.specs.Local.{LocalObject, layout_here}
-use Rattle.local_object.specs.Events.{LocalEvent, Outcome, advanced_at, advanced_here, done_here, letter_of, on_open_call}
-use Rattle.local_object.specs.Events.{phase_letters, pieces_here}
+use Rattle.local_object.specs.Events.{LocalEvent, advanced_at, advanced_here, done_here, pieces_here}
+use Rattle.local_object.specs.Outcomes.{Outcome, letter_of, on_open_call, phase_letters}
 use Rattle.local_object.specs.May.{IsCarriedOut}
-use Rattle.local_object.specs.Starting.{StartEvent, anew_number, done_at_start, number_at, reading_call, reads_at}
+use Rattle.local_object.specs.Starting.{anew_number, number_at, reading_call, reads_at}
+use Rattle.local_object.proofs.LastPositionLemmas.{some_layout}
+use Rattle.refinement.specs.Laws.{IsEventOfWorld}
 use Rattle.refinement.specs.Parts.{IsPartOf}
 use Rattle.refinement.specs.Refined.{IsRefined}
 use Rattle.refinement.specs.Starting.{HasEvents}
@@ -125,12 +127,13 @@ module _ (fragment : Code) (world : World) (local : LocalObject) (id : ℕ) (for
       (reads_new between.local begun (suc call.phase.number) first known (first_quorum fragment world local first formed part known)
       refl refl) refl start starts layout there)
 
-pub anew_has_events : (fragment : Code) (world : World) (local : LocalObject) (id start : ℕ) (formed : IsWellFormed fragment world)
-    (part : IsPartOf world local) (call : NodeCall) → IsCarriedOut local id call → IsLacking call → stage_reached call ≡ ReadBegin →
-    (first : Layout) → layout_here local 0 ≡ Some first → (layout : Layout) → layout_here local start ≡ Some layout → IsStart world start →
-    HasEvents fragment world (done_at_start local (StartEvent.BeginAnew id start)) world.history (suc (start * most_events))
-anew_has_events fragment world local id start formed part call open_here lacking anew first known layout there starts =
+pub anew_has_events : (id : ℕ) → IsEventOfWorld (LocalEvent.BeginAnew id)
+anew_has_events id fragment world local formed part may starts =
+    let start = local.start in
+    let call = may.0 in
+    let first = some_layout (layout_here local 0) part.first in
+    let there = some_layout (layout_here local start) may.4 in
     subst (λ after. HasEvents fragment world after world.history (suc (start * most_events)))
-    (ap (reads_at local call (anew_number call start) start) (sym there)
-    ∙ ap (λ o. on_open_call local o (λ c. reads_at local c (anew_number c start) start (layout_here local start))) (sym open_here))
-    (begins_anew fragment world local id formed part call open_here lacking anew first known start layout there starts)
+    (ap (reads_at local call (anew_number call start) start) (sym there.1)
+    ∙ ap (λ o. on_open_call local o (λ c. reads_at local c (anew_number c start) start (layout_here local start))) (sym may.1))
+    (begins_anew fragment world local id formed part call may.1 may.2 may.3 first.0 first.1 start there.0 there.1 starts)

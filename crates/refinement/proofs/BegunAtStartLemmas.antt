@@ -1,5 +1,6 @@
 -- A node begins a read or a write at a start.
-use Rattle.std.proofs.Common.{◌≡◌, ℕ, zero, suc, ◌*◌, false, cond, eqb, eq-eqb, List, [], ◌∷◌, ◌++◌, Some, refl, sym, subst, ap, ◌∙◌, arith}
+use Rattle.std.proofs.Common.{◌≡◌, ℕ, zero, suc, ◌*◌, false, cond, eqb, eq-eqb, List, [], ◌∷◌, ◌++◌, None, Some}
+use Rattle.std.proofs.Common.{refl, sym, subst, ap, ◌∙◌, arith}
 use Rattle.std.specs.List.{AllByRecursion}
 use Rattle.layout.specs.Layout.{Layout}
 use Rattle.bank.specs.Bank.{empty_piece}
@@ -8,6 +9,7 @@ use Rattle.record.specs.declared.call.CallKind.{CallKind}
 use Rattle.record.specs.declared.call.Entry.{Entry}
 use Rattle.record.specs.declared.stage.Stage.TheVariants.{ReadNext}
 use Rattle.record.specs.Fragments.{Code}
+use Rattle.record.specs.Steps.{new_phase}
 use Rattle.soundness.proofs.ListLemmas.{all_weaker}
 use Rattle.open_calls.specs.OpenCalls.{NodeCall, with_open}
 use Rattle.open_calls.proofs.CallsOfNodeLemmas.{differs}
@@ -18,8 +20,8 @@ use Rattle.network.specs.Premises.{IsUnused}
 use Rattle.starts.specs.Reading.{most_events}
 use Rattle.starts.specs.Starts.{IsStart}
 use Rattle.local_object.specs.Local.{LocalObject, layout_here}
-use Rattle.local_object.specs.Events.{Outcome, begun_here, phase_letters}
-use Rattle.local_object.specs.Starting.{IsReadingHere, called_at, first_number, new_call, number_at, reads_at}
+use Rattle.local_object.specs.Outcomes.{Outcome, begun_here, phase_letters}
+use Rattle.local_object.specs.Starting.{IsReadingHere, called_at, first_number, number_at, reads_at}
 use Rattle.refinement.specs.Parts.{IsPartOf}
 use Rattle.refinement.specs.Refined.{IsRefined}
 use Rattle.refinement.specs.Starting.{HasEvents}
@@ -36,6 +38,17 @@ with_last (first ∷ calls) old new same all =
 
 -- A call begins
 
+-- the call of a node as it begins to read at a start in a phase with this number
+abbrev new_call : (node id : ℕ) → CallKind → (number start : ℕ) → Layout → NodeCall
+new_call node id kind number start layout = record {
+  node = node;
+  id = id;
+  kind = kind;
+  settled = None;
+  stage = ReadNext start start;
+  phase = new_phase id number Next start layout 0;
+}
+
 module _ (fragment : Code) (world : World) (local : LocalObject) (id : ℕ) (kind : CallKind) (formed : IsWellFormed fragment world)
     (part : IsPartOf world local) (unused : IsUnused world id) where
   -- no call that the node carries out has its id
@@ -51,7 +64,7 @@ module _ (fragment : Code) (world : World) (local : LocalObject) (id : ℕ) (kin
     begun = new_call local.node id kind 1 0 first
 
     abbrev between : Outcome
-    between = begun_here local id kind (ReadNext 0 0) Next 0 (Some first)
+    between = begun_here local id kind (ReadNext 0 0) Next 1 0 (Some first)
 
     reads : IsReadingHere between.local begun
     reads = reads_new between.local begun 1 first known (first_quorum fragment world local first formed part known) refl refl

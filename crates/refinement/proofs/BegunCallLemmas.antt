@@ -1,5 +1,5 @@
 -- A node begins a call: a read, a write, or the first phase of a move.
-use Rattle.std.proofs.Common.{◌≡◌, ℕ, suc, true, false, eqb, eq-eqb, List, [], ◌∷◌, ◌++◌, Option, Some, None, IsSome}
+use Rattle.std.proofs.Common.{◌≡◌, ℕ, suc, true, false, eqb, eq-eqb, List, [], ◌∷◌, ◌++◌, Some, None}
 use Rattle.std.proofs.Common.{refl, sym, subst, ap, ◌∙◌, slice_get, arith}
 use Rattle.std.proofs.lemmas.Option.{get_or_from_slice_get}
 use Rattle.layout.specs.Layout.{Layout}
@@ -14,20 +14,19 @@ use Rattle.record.specs.declared.call.CallKind.{CallKind}
 use Rattle.record.specs.declared.call.CallKind.TheVariants.{Read, Write}
 use Rattle.record.specs.declared.call.Entry.{Entry}
 use Rattle.record.specs.declared.stage.Stage.{Stage}
-use Rattle.record.specs.Legal.{first_stage}
-use Rattle.record.specs.PhaseOrder.{begun_at}
+use Rattle.record.specs.declared.stage.Stage.TheVariants.{ReadNext}
 use Rattle.record.specs.Records.{no_layout}
 use Rattle.record.specs.Sending.{request_to, requests}
 use Rattle.record.specs.Steps.{new_phase}
 use Rattle.soundness.proofs.ListLemmas.{all_push, all_weaker}
-use Rattle.record.specs.Fragments.{Code}
+use Rattle.record.specs.Fragments.{Code, IsValue}
 use Rattle.network.specs.Worlds.{World, known_layout, known_layouts}
 use Rattle.open_calls.specs.OpenCalls.{NodeCall}
 use Rattle.network.specs.Events.{Event, begun_world, called_world}
 use Rattle.network.specs.Premises.{IsUnused}
 use Rattle.local_object.specs.Local.{LocalObject, layout_here}
-use Rattle.local_object.specs.Events.{LocalEvent, begun_here, pieces_here}
-use Rattle.refinement.specs.Laws.{IsEventOfWorld}
+use Rattle.local_object.specs.Events.{pieces_here}
+use Rattle.local_object.specs.Outcomes.{begun_here}
 use Rattle.refinement.specs.Parts.{IsPartOf}
 use Rattle.refinement.specs.Refined.{IsRefined, begun_entry}
 use Rattle.refinement.specs.WellFormed.{HasAsked, HasEntry, IsWellFormed}
@@ -80,7 +79,7 @@ module _ (fragment : Code) (world : World) (local : LocalObject) (id : ℕ) (kin
 
   begun_with : (layout : Layout) → IsWellFormed fragment world → IsPartOf world local → IsUnused world id →
       slice_get (known_layouts world local.node) position ≡ Some layout →
-      IsKept fragment world (begun_to layout) (begun_here local id kind stage first position (Some layout)) 1 begun_history
+      IsKept fragment world (begun_to layout) (begun_here local id kind stage first 1 position (Some layout)) 1 begun_history
   begun_with layout formed part unused at =
       let new = begun_call layout in
       let calls = world.calls ++ new ∷ [] in
@@ -125,45 +124,38 @@ module _ (fragment : Code) (world : World) (local : LocalObject) (id : ℕ) (kin
   pub begun_kept : (layout : Layout) → IsWellFormed fragment world → IsPartOf world local → IsUnused world id →
       layout_here local position ≡ Some layout →
       IsKept fragment world (begun_world (ticked world) local.node id kind stage first position)
-      (begun_here local id kind stage first position (Some layout)) 1 begun_history
+      (begun_here local id kind stage first 1 position (Some layout)) 1 begun_history
   begun_kept layout formed part unused known =
       let at = part.layouts position layout known in
       let is : known_layout world local.node position ≡ layout =
       get_or_from_slice_get (known_layouts world local.node) position layout no_layout at in
-      subst (λ l. IsKept fragment world (begun_to l) (begun_here local id kind stage first position (Some layout)) 1 begun_history) (sym is)
-      (begun_with layout formed part unused at)
+      subst (λ l. IsKept fragment world (begun_to l) (begun_here local id kind stage first 1 position (Some layout)) 1 begun_history)
+      (sym is) (begun_with layout formed part unused at)
 
 -- The events
 
-abbrev first_reading : CallKind → Stage
-first_reading kind = begun_at (first_stage kind 0) 0
+-- a node begins a read at position 0
+pub read_begun : (fragment : Code) (world : World) (local : LocalObject) (id : ℕ) → IsWellFormed fragment world → IsPartOf world local →
+    IsUnused world id → (layout : Layout) → layout_here local 0 ≡ Some layout →
+    IsRefined fragment world (Event.BeginRead local.node id ∷ []) (begun_here local id Read (ReadNext 0 0) Next 1 0 (Some layout))
+    × ((called_world (ticked world) local.node id Read).history ≡ world.history ++ begun_entry id Read (suc world.now) ∷ [])
+read_begun fragment world local id formed part unused layout known =
+    let after = begun_here local id Read (ReadNext 0 0) Next 1 0 (Some layout) in
+    refined fragment world (Event.BeginRead local.node id ∷ []) (called_world (ticked world) local.node id Read) after after
+    (world.history ++ begun_entry id Read (suc world.now) ∷ []) refl refl
+    (tt, record { network = tt; log = tt; ids = unused }, tt)
+    (begun_kept fragment world local id Read (ReadNext 0 0) Next 0 (λ p q. refl) layout formed part unused known)
 
-pub read_refined : (id : ℕ) → IsEventOfWorld (LocalEvent.BeginRead id)
-read_refined id fragment world local formed part may premised = go (layout_here local 0) refl may
-  where
-    go : (o : Option Layout) → layout_here local 0 ≡ o → IsSome o →
-        IsRefined fragment world (Event.BeginRead local.node id ∷ []) (begun_here local id Read (first_reading Read) Next 0 o)
-        × ((called_world (ticked world) local.node id Read).history ≡ world.history ++ begun_entry id Read (suc world.now) ∷ [])
-    go None e some = absurd (cc)
-    go (Some layout) e some =
-        let after = begun_here local id Read (first_reading Read) Next 0 (Some layout) in
-        refined fragment world (Event.BeginRead local.node id ∷ []) (called_world (ticked world) local.node id Read) after after
-        (world.history ++ begun_entry id Read (suc world.now) ∷ []) refl refl
-        (tt, record { network = tt; log = tt; ids = premised }, tt)
-        (begun_kept fragment world local id Read (first_reading Read) Next 0 (λ p q. refl) layout formed part premised e)
-
-pub write_refined : (id : ℕ) (value : List ℕ) → IsEventOfWorld (LocalEvent.BeginWrite id value)
-write_refined id value fragment world local formed part may premised = go (layout_here local 0) refl may.0
-  where
-    go : (o : Option Layout) → layout_here local 0 ≡ o → IsSome o →
-        IsRefined fragment world (Event.BeginWrite local.node id value ∷ [])
-        (begun_here local id (Write value) (first_reading (Write value)) Next 0 o)
-        × ((called_world (ticked world) local.node id (Write value)).history
-        ≡ world.history ++ begun_entry id (Write value) (suc world.now) ∷ [])
-    go None e some = absurd (cc)
-    go (Some layout) e some =
-        let after = begun_here local id (Write value) (first_reading (Write value)) Next 0 (Some layout) in
-        refined fragment world (Event.BeginWrite local.node id value ∷ []) (called_world (ticked world) local.node id (Write value))
-        after after (world.history ++ begun_entry id (Write value) (suc world.now) ∷ []) refl refl
-        (may.1, record { network = tt; log = tt; ids = premised }, tt)
-        (begun_kept fragment world local id (Write value) (first_reading (Write value)) Next 0 (λ p q. refl) layout formed part premised e)
+-- and a write
+pub write_begun : (fragment : Code) (world : World) (local : LocalObject) (id : ℕ) (value : List ℕ) → IsValue value →
+    IsWellFormed fragment world → IsPartOf world local → IsUnused world id → (layout : Layout) → layout_here local 0 ≡ Some layout →
+    IsRefined fragment world (Event.BeginWrite local.node id value ∷ [])
+    (begun_here local id (Write value) (ReadNext 0 0) Next 1 0 (Some layout))
+    × ((called_world (ticked world) local.node id (Write value)).history
+    ≡ world.history ++ begun_entry id (Write value) (suc world.now) ∷ [])
+write_begun fragment world local id value is_value formed part unused layout known =
+    let after = begun_here local id (Write value) (ReadNext 0 0) Next 1 0 (Some layout) in
+    refined fragment world (Event.BeginWrite local.node id value ∷ []) (called_world (ticked world) local.node id (Write value)) after after
+    (world.history ++ begun_entry id (Write value) (suc world.now) ∷ []) refl refl
+    (is_value, record { network = tt; log = tt; ids = unused }, tt)
+    (begun_kept fragment world local id (Write value) (ReadNext 0 0) Next 0 (λ p q. refl) layout formed part unused known)

@@ -15,8 +15,9 @@ use Rattle.open_calls.specs.OpenCalls.{NodeCall}
 use Rattle.network.specs.Events.{Event, moving_world}
 use Rattle.network.specs.Premises.{IsUnused}
 use Rattle.local_object.specs.Local.{LocalObject, layout_here, with_heard}
-use Rattle.local_object.specs.Events.{LocalEvent, Outcome, begun_here, moving_here}
-use Rattle.refinement.specs.Laws.{IsEventOfWorld}
+use Rattle.local_object.specs.Events.{LocalEvent, moving_here}
+use Rattle.local_object.specs.Outcomes.{Outcome, begun_here}
+use Rattle.refinement.specs.Laws.{IsPlainEventOfWorld}
 use Rattle.refinement.specs.Parts.{IsPartOf}
 use Rattle.refinement.specs.Refined.{begun_entry}
 use Rattle.refinement.specs.WellFormed.{IsWellFormed}
@@ -56,7 +57,7 @@ moved_kept : (fragment : Code) (world : World) (local : LocalObject) (id : ℕ) 
     IsLawful layout → IsUnused world id → local.node ≡ (world.files local.node).mover →
     IsKept fragment world (moving_world (ticked world) local.node id layout)
     (begun_here (with_heard local (suc (length world.later)) layout) id Move (first_stage Move (length world.later)) (Spread Pending)
-    (length world.later) (layout_here (with_heard local (suc (length world.later)) layout) (length world.later))) 1
+    1 (length world.later) (layout_here (with_heard local (suc (length world.later)) layout) (length world.later))) 1
     (world.history ++ begun_entry id Move (suc world.now) ∷ [])
 moved_kept fragment world local id layout formed part lawful unused moves =
     let last = length world.later in
@@ -71,7 +72,7 @@ moved_kept fragment world local id layout formed part lawful unused moves =
     (grown_formed fragment world layout formed lawful)
     (own_grown fragment world layout formed local part) unused at in
     subst (λ o. IsKept fragment world (moving_world (ticked world) local.node id layout)
-    (begun_here next id Move stage (Spread Pending) last o) 1 (world.history ++ begun_entry id Move (suc world.now) ∷ [])) (sym at)
+    (begun_here next id Move stage (Spread Pending) 1 last o) 1 (world.history ++ begun_entry id Move (suc world.now) ∷ [])) (sym at)
     (record {
       formed = kept.formed;
       part = kept.part;
@@ -89,11 +90,11 @@ moved_kept fragment world local id layout formed part lawful unused moves =
       entries = kept.entries;
     })
 
-pub move_refined : (id : ℕ) (layout : Layout) → IsEventOfWorld (LocalEvent.BeginMove id layout)
+pub move_refined : (id : ℕ) (layout : Layout) → IsPlainEventOfWorld (LocalEvent.BeginMove id layout)
 move_refined id layout fragment world local formed part may premised =
     let moves = premised.1 in
     let last = last_is fragment world layout formed local part moves in
-    let at : ℕ → Outcome = λ n. begun_here (with_heard local (suc n) layout) id Move (first_stage Move n) (Spread Pending) n
+    let at : ℕ → Outcome = λ n. begun_here (with_heard local (suc n) layout) id Move (first_stage Move n) (Spread Pending) 1 n
     (layout_here (with_heard local (suc n) layout) n) in
     refined fragment world (Event.BeginMove local.node id layout ∷ []) (moving_world (ticked world) local.node id layout)
     (at (length world.later)) (moving_here local id layout) (world.history ++ begun_entry id Move (suc world.now) ∷ []) refl

@@ -2,15 +2,15 @@
 use Rattle.std.proofs.Common.{◌≡◌, ℕ, Bool, true, false, eqb, eqb-true, eq-eqb, [], Option, Some, IsSome, slice_get, refl, sym}
 use Rattle.std.proofs.Common.{subst, ap, ◌∙◌}
 use Rattle.layout.specs.Layout.{Layout}
-use Rattle.record.specs.Fragments.{Code}
 use Rattle.network.specs.Worlds.{World, known_layouts, member_bank}
 use Rattle.local_object.specs.declared.kept_bank.KeptBank.{KeptBank}
-use Rattle.local_object.specs.Events.{LocalEvent, closed_here, silent}
+use Rattle.local_object.specs.Events.{LocalEvent, closed_here}
+use Rattle.local_object.specs.Outcomes.{silent}
 use Rattle.local_object.specs.KeptBanks.{after_closing, closing}
 use Rattle.local_object.specs.Local.{LocalObject, bank_here, bank_in, heard_place}
 use Rattle.local_object.proofs.HeardPlaceLemmas.{bank_with_here, bank_with_there, layout_with}
 use Rattle.local_object.proofs.PlaceLemmas.{layout_known}
-use Rattle.refinement.specs.Laws.{IsEventOfWorld}
+use Rattle.refinement.specs.Laws.{IsPlainEventOfWorld}
 use Rattle.refinement.specs.Parts.{IsKeptOf, IsPartOf}
 use Rattle.refinement.proofs.KeptBankLemmas.{closing_known, kept_as, kept_closed}
 use Rattle.refinement.proofs.PartLemmas.{refined}
@@ -53,7 +53,7 @@ module _ (world : World) (local : LocalObject) (part : IsPartOf world local) (po
     mover = λ moves q layout at. layout_with local position after q ∙ part.mover moves q layout at;
   }
 
-pub close_refined : (position : ℕ) → IsEventOfWorld (LocalEvent.Close position)
+pub close_refined : (position : ℕ) → IsPlainEventOfWorld (LocalEvent.Close position)
 close_refined position fragment world local formed part may premised =
     let after = silent (closed_here local position) in
     refined fragment world [] world after after world.history refl refl tt

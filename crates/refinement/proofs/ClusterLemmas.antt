@@ -122,6 +122,7 @@ module _ (fragment : Code) (files : ℕ → FileOfNames) (name : List ℕ) (clus
       let kept : IsKeptHere (number ≡ (is.system.files number).mover) (old.objects name) (after.objects name) = record {
         node = log.node;
         delta = log.delta;
+        start = log.start;
         layouts = log.layouts;
         first = log.first;
         banks = log.banks;

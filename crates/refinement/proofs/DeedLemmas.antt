@@ -67,6 +67,10 @@ noticed_beside name other local (LocalEvent.Settle id value) apart = tt
 noticed_beside name other local (LocalEvent.Answer id) apart = told_beside name other (told local (LocalEvent.Answer id)) apart
 noticed_beside name other local (LocalEvent.GiveUp id) apart = tt
 noticed_beside name other local (LocalEvent.Close position) apart = tt
+noticed_beside name other local (LocalEvent.Grow id) apart = tt
+noticed_beside name other local (LocalEvent.Hear start layout) apart = tt
+noticed_beside name other local (LocalEvent.ReadOn id) apart = tt
+noticed_beside name other local (LocalEvent.BeginAnew id) apart = tt
 
 -- One deed
 

@@ -1,5 +1,5 @@
 -- What a node does with the object of a name is an event of all nodes for that object.
-use Rattle.std.proofs.Common.{◌≡◌, ◌≤◌, ◌+◌, ℕ, zero, suc, List, [], ◌∷◌, ◌++◌}
+use Rattle.std.proofs.Common.{◌≡◌, ◌≤◌, ◌+◌, ◌*◌, ℕ, zero, suc, List, [], ◌∷◌, ◌++◌}
 use Rattle.std.proofs.Common.{map, Option, None, Some, refl, sym, subst, ap, arith}
 use Rattle.std.proofs.lemmas.List.{append-nil}
 use Rattle.std.specs.List.{AllByRecursion}
@@ -14,7 +14,9 @@ use Rattle.local_object.specs.Local.{LocalObject}
 use Rattle.local_object.specs.Events.{LocalEvent, done_here}
 use Rattle.local_object.specs.Ended.{told_if, told_of}
 use Rattle.local_object.specs.May.{MayHappenHere}
+use Rattle.starts.specs.Reading.{most_events}
 use Rattle.refinement.specs.Refined.{begun_entry, with_answer}
+use Rattle.refinement.specs.Starting.{event_count}
 use Rattle.refinement.specs.WellFormed.{HasEntry}
 use Rattle.refinement.specs.SeenHistories.{IsBegunAs}
 use Rattle.refinement.specs.Systems.{IsPremisedIn, System, SystemEvent, system_after}
@@ -32,6 +34,13 @@ use Rattle.refinement.proofs.SystemRunLemmas.{open_entry, reached_next}
 use Rattle.refinement.proofs.ToldLemmas.{IsToldIn, later_told, now_told, open_apart, still_told, told_answer}
 use Rattle.deeds.proofs.UsedIdLemmas.{IsUsed, next_free, used_later, used_now, with_ids}
 use Rattle.refinement.proofs.LeadLemmas.{Follows, Leads, all_map, ended_in, other_object, own_object, posted_more, used_answered}
+
+-- time does not go back, and goes on with an event
+not_less : (now more : ℕ) → now ≤ now + more
+not_less now more = omega arith
+
+one_more : (now more : ℕ) → suc now ≤ now + suc more
+one_more now more = omega arith
 
 module _ (fragment : Code) (name : List ℕ) (system : System) (ids : ℕ → CallIds) (number : ℕ) (mine now : CallIds)
     (letters : List NamedLetter) (notices : List Notice)
@@ -95,11 +104,11 @@ module _ (fragment : Code) (name : List ℕ) (system : System) (ids : ℕ → Ca
   not_told notice never history zero ended at = absurd (never ended at)
   not_told notice never history (suc place) ended at = absurd (cc)
 
-  begins : (id : ℕ) (notice : Notice) (entry : Entry) → entry.call ≡ id → IsNextId mine id now → IsBegunAs name notice entry →
-      entry.called ≡ suc system.now → entry.answered ≡ None →
-      IsSeenAt name (notices ++ notice ∷ []) (system.history ++ entry ∷ []) (system.now + 1)
-  begins id notice entry same next begun called unanswered =
-      seen_begun name notices notice system.history entry system.now (system.now + 1) follows.history.seen begun (omega arith)
+  begins : (id : ℕ) (notice : Notice) (entry : Entry) (later : ℕ) → entry.call ≡ id → IsNextId mine id now →
+      IsBegunAs name notice entry → entry.called ≡ suc system.now → entry.answered ≡ None → suc system.now ≤ later →
+      IsSeenAt name (notices ++ notice ∷ []) (system.history ++ entry ∷ []) later
+  begins id notice entry later same next begun called unanswered within =
+      seen_begun name notices notice system.history entry system.now later follows.history.seen begun (omega arith)
       (omega arith) unanswered
       (subst (λ i. AllByRecursion (λ (e : Entry). e.call ≡ i → ⊥) system.history) (sym same) (free id next))
 
@@ -143,47 +152,63 @@ module _ (fragment : Code) (name : List ℕ) (system : System) (ids : ℕ → Ca
       (letters ++ with_names name (done_here fragment local event).sent) (notices ++ noticed name local event)
   acted (LocalEvent.BeginRead id) may fed allowed given =
       let time = suc system.now in
+      let later = (after (LocalEvent.BeginRead id)).now in
+      let within : time ≤ later = one_more system.now (local.start * most_events) in
       let entry = begun_entry id Read time in
       leads (LocalEvent.BeginRead id) (Notice.Reads name id ∷ []) may (free id given) (begun_used id entry refl given)
-      (history_push name notices (Notice.Reads name id) system.history system.now time (system.now + 1)
-      ((names_decided name name).1 refl) (omega arith) (omega arith) follows.history (begun_told id entry refl given)
+      (history_push name notices (Notice.Reads name id) system.history system.now time later
+      ((names_decided name name).1 refl) (omega arith) within follows.history (begun_told id entry refl given)
       (not_told (Notice.Reads name id) (λ ended e. absurd (cc)) (system.history ++ entry ∷ []))
-      (begins id (Notice.Reads name id) entry refl given (refl, refl, refl) refl refl))
+      (begins id (Notice.Reads name id) entry later refl given (refl, refl, refl) refl refl within))
   acted (LocalEvent.BeginWrite id value) may fed allowed given =
       let time = suc system.now in
+      let later = (after (LocalEvent.BeginWrite id value)).now in
+      let within : time ≤ later = one_more system.now (local.start * most_events) in
       let entry = begun_entry id (Write value) time in
       leads (LocalEvent.BeginWrite id value) (Notice.Writes name id value ∷ []) may (free id given) (begun_used id entry refl given)
-      (history_push name notices (Notice.Writes name id value) system.history system.now time (system.now + 1)
-      ((names_decided name name).1 refl) (omega arith) (omega arith) follows.history (begun_told id entry refl given)
+      (history_push name notices (Notice.Writes name id value) system.history system.now time later
+      ((names_decided name name).1 refl) (omega arith) within follows.history (begun_told id entry refl given)
       (not_told (Notice.Writes name id value) (λ ended e. absurd (cc)) (system.history ++ entry ∷ []))
-      (begins id (Notice.Writes name id value) entry refl given (refl, refl, refl, refl) refl refl))
+      (begins id (Notice.Writes name id value) entry later refl given (refl, refl, refl, refl) refl refl within))
   acted (LocalEvent.BeginMove id layout) may fed allowed given =
       let time = suc system.now in
+      let later = (after (LocalEvent.BeginMove id layout)).now in
+      let within : time ≤ later = one_more system.now 0 in
       let entry = begun_entry id Move time in
       leads (LocalEvent.BeginMove id layout) (Notice.Moves name id layout ∷ []) may (free id given, allowed)
       (begun_used id entry refl given)
-      (history_push name notices (Notice.Moves name id layout) system.history system.now time (system.now + 1)
-      ((names_decided name name).1 refl) (omega arith) (omega arith) follows.history (begun_told id entry refl given)
+      (history_push name notices (Notice.Moves name id layout) system.history system.now time later
+      ((names_decided name name).1 refl) (omega arith) within follows.history (begun_told id entry refl given)
       (not_told (Notice.Moves name id layout) (λ ended e. absurd (cc)) (system.history ++ entry ∷ []))
-      (begins id (Notice.Moves name id layout) entry refl given (refl, refl, refl) refl refl))
+      (begins id (Notice.Moves name id layout) entry later refl given (refl, refl, refl) refl refl within))
   acted (LocalEvent.Advance id) may fed allowed given =
       leads (LocalEvent.Advance id) [] may tt (still_used (given_later mine now None within given))
-      (quiet (after (LocalEvent.Advance id)).now (omega arith))
+      (quiet (after (LocalEvent.Advance id)).now (not_less system.now (event_count local (LocalEvent.Advance id))))
   acted (LocalEvent.Serve letter) may fed allowed given =
       leads (LocalEvent.Serve letter) [] may (follows.posted letter fed) (still_used (given_later mine now None within given))
-      (quiet (after (LocalEvent.Serve letter)).now (omega arith))
+      (quiet (after (LocalEvent.Serve letter)).now (not_less system.now (event_count local (LocalEvent.Serve letter))))
   acted (LocalEvent.Take letter) may fed allowed given =
       leads (LocalEvent.Take letter) [] may (follows.posted letter fed) (still_used (given_later mine now None within given))
-      (quiet (after (LocalEvent.Take letter)).now (omega arith))
+      (quiet (after (LocalEvent.Take letter)).now (not_less system.now (event_count local (LocalEvent.Take letter))))
   acted (LocalEvent.Settle id value) may fed allowed given =
       leads (LocalEvent.Settle id value) [] may tt (still_used (given_later mine now None within given))
-      (quiet (after (LocalEvent.Settle id value)).now (omega arith))
+      (quiet (after (LocalEvent.Settle id value)).now (not_less system.now (event_count local (LocalEvent.Settle id value))))
   acted (LocalEvent.GiveUp id) may fed allowed given =
       leads (LocalEvent.GiveUp id) [] may tt (still_used (given_later mine now None within given))
-      (quiet (after (LocalEvent.GiveUp id)).now (omega arith))
+      (quiet (after (LocalEvent.GiveUp id)).now (not_less system.now (event_count local (LocalEvent.GiveUp id))))
   acted (LocalEvent.Close position) may fed allowed given =
       leads (LocalEvent.Close position) [] may tt (still_used (given_later mine now None within given))
-      (quiet (after (LocalEvent.Close position)).now (omega arith))
+      (quiet (after (LocalEvent.Close position)).now (not_less system.now (event_count local (LocalEvent.Close position))))
+  acted (LocalEvent.Grow id) may fed allowed given =
+      leads (LocalEvent.Grow id) [] may tt (still_used (given_later mine now None within given))
+      (quiet (after (LocalEvent.Grow id)).now (not_less system.now (event_count local (LocalEvent.Grow id))))
+  acted (LocalEvent.ReadOn id) may fed allowed given =
+      leads (LocalEvent.ReadOn id) [] may tt (still_used (given_later mine now None within given))
+      (quiet (after (LocalEvent.ReadOn id)).now (not_less system.now (event_count local (LocalEvent.ReadOn id))))
+  acted (LocalEvent.BeginAnew id) may fed allowed given =
+      leads (LocalEvent.BeginAnew id) [] may tt (still_used (given_later mine now None within given))
+      (quiet (after (LocalEvent.BeginAnew id)).now (not_less system.now (event_count local (LocalEvent.BeginAnew id))))
+  acted (LocalEvent.Hear start layout) may fed allowed given = absurd fed
   acted (LocalEvent.Answer id) may fed allowed given =
       leads (LocalEvent.Answer id) (map (Notice.Tells name) (told_if (open_call local.calls id))) may tt
       (answered_used (open_call local.calls id) (still_used (given_later mine now None within given)))

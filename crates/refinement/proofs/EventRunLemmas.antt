@@ -1,9 +1,10 @@
 -- Events of the world, and then more events.
 use Rattle.std.proofs.Common.{◌≡◌, List, [], ◌∷◌, ◌++◌}
-use Rattle.std.proofs.Common.{refl, sym, subst}
+use Rattle.std.proofs.Common.{refl, sym, subst, ap, ◌∙◌}
 use Rattle.record.specs.Fragments.{Code}
-use Rattle.network.specs.Worlds.{World}
+use Rattle.network.specs.Worlds.{World, opened_world}
 use Rattle.network.specs.Events.{Event, happens, world_after}
+use Rattle.network.specs.Laws.{IsReached}
 use Rattle.network.specs.Premises.{MayHappenInTurn}
 use Rattle.refinement.specs.Systems.{IsWorldOf, System}
 use Rattle.refinement.specs.WellFormed.{IsWellFormed}
@@ -18,6 +19,20 @@ pub may_append : (fragment : Code) (first second : List Event) (world : World) �
 may_append fragment [] second world a b = b
 may_append fragment (event ∷ first) second world a b =
     (a.0, a.1, may_append fragment first second (happens fragment world event) a.2 b)
+
+-- a world that is reached leads to such worlds
+pub reached_later : (fragment : Code) (world : World) (events : List Event) → IsReached fragment world →
+    MayHappenInTurn fragment events world → IsReached fragment (world_after fragment events world)
+reached_later fragment world events reached may = record {
+  files = reached.files;
+  one = reached.one;
+  lawful = reached.lawful;
+  events = reached.events ++ events;
+  may = may_append fragment reached.events events (opened_world reached.files) reached.may
+      (subst (MayHappenInTurn fragment events) (sym reached.result) may);
+  result = run_append fragment reached.events events (opened_world reached.files)
+      ∙ ap (world_after fragment events) reached.result;
+}
 
 -- events of the world lead to that of these nodes
 pub record HasWorld (fragment : Code) (world : World) (system : System) : Type 0 where

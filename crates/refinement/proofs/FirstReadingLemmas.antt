@@ -16,7 +16,7 @@ use Rattle.starts.specs.Starts.{IsStart}
 use Rattle.starts.proofs.FinalPointerLemmas.{finals_stay_final}
 use Rattle.starts.proofs.FinalPositionLemmas.{lawful_quorum}
 use Rattle.local_object.specs.Local.{LocalObject, layout_here}
-use Rattle.local_object.specs.Events.{Outcome}
+use Rattle.local_object.specs.Outcomes.{Outcome}
 use Rattle.local_object.specs.May.{IsCarriedOut}
 use Rattle.local_object.specs.Starting.{IsReadingHere, number_at, reads_at}
 use Rattle.refinement.specs.Parts.{IsPartOf}

@@ -13,7 +13,7 @@ use Rattle.bank.specs.declared.request.Request.{Request}
 use Rattle.bank.proofs.RememberedReplyLemmas.{reply-remembered}
 use Rattle.bank.proofs.RememberedStepLemmas.{remembered-served}
 use Rattle.closed_bank.specs.ClosedBank.{ClosedBank, closed_of}
-use Rattle.closed_bank.specs.Serve.{closed_answer, closed_reply, reply_at}
+use Rattle.closed_bank.specs.Serve.{closed_answer, reply_at}
 use Rattle.closed_bank.proofs.ClosedBankLemmas.{closed-remembered, closes_for, declined_same, same_reply, stays_closed}
 use Rattle.local_object.specs.declared.kept_bank.KeptBank.{KeptBank}
 use Rattle.local_object.specs.declared.kept_bank.KeptBank.TheVariants as kept

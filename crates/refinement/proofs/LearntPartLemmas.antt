@@ -7,7 +7,7 @@ use Rattle.network.specs.Premises.{IsOneFile}
 use Rattle.network.proofs.OneFileLemmas.{layouts_known}
 use Rattle.letter.specs.declared.letter.Letter.{Letter}
 use Rattle.local_object.specs.Local.{LocalObject, layout_here, with_heard, learnt_if}
-use Rattle.local_object.specs.Events.{learnt_from}
+use Rattle.local_object.specs.Outcomes.{learnt_from}
 use Rattle.refinement.specs.Parts.{IsPartOf, WasSentAs}
 use Rattle.refinement.proofs.KeptBankLemmas.{kept_as}
 use Rattle.local_object.proofs.HeardPlaceLemmas.{bank_learnt, layout_learnt, layout_stays}

@@ -11,8 +11,9 @@ use Rattle.open_calls.specs.OpenCalls.{NodeCall, open_call, without_call}
 use Rattle.network.specs.Events.{Event, answered_entry, answered_world, on_open, world_after}
 use Rattle.open_calls.proofs.OpenCallLemmas.{found}
 use Rattle.local_object.specs.Local.{LocalObject}
-use Rattle.local_object.specs.Events.{LocalEvent, silent}
-use Rattle.refinement.specs.Laws.{IsEventOfWorld}
+use Rattle.local_object.specs.Events.{LocalEvent}
+use Rattle.local_object.specs.Outcomes.{silent}
+use Rattle.refinement.specs.Laws.{IsPlainEventOfWorld}
 use Rattle.refinement.specs.Parts.{IsPartOf}
 use Rattle.refinement.specs.Refined.{IsRefined, if_carried, with_answer}
 use Rattle.refinement.specs.WellFormed.{HasAsked, HasEntry, IsWellFormed}
@@ -78,7 +79,7 @@ module _ (fragment : Code) (world : World) (local : LocalObject) (id : ℕ) (cal
         entries = refl;
       }
 
-pub answer_refined : (id : ℕ) → IsEventOfWorld (LocalEvent.Answer id)
+pub answer_refined : (id : ℕ) → IsPlainEventOfWorld (LocalEvent.Answer id)
 answer_refined id fragment world local formed part may premised =
     let call = may.0 in
     let is = carried fragment world local id call formed part may.1 in
@@ -93,7 +94,7 @@ answer_refined id fragment world local formed part may premised =
     (λ other apart has. entry_answered world.history call (suc world.now) other (λ same. apart (same ∙ is.same_id)) has)) in
     (done.0, done.1 ∙ ap (λ o. with_answer o (suc world.now) world.history) (sym may.1))
 
-pub give_up_refined : (id : ℕ) → IsEventOfWorld (LocalEvent.GiveUp id)
+pub give_up_refined : (id : ℕ) → IsPlainEventOfWorld (LocalEvent.GiveUp id)
 give_up_refined id fragment world local formed part may premised = go (open_call local.calls id) refl
   where
     go : (o : Option NodeCall) → open_call local.calls id ≡ o →

@@ -18,7 +18,7 @@ use Rattle.record.specs.Sending.{requests}
 use Rattle.network.specs.Worlds.{World, known_layouts}
 use Rattle.network.specs.Premises.{WasSent}
 use Rattle.local_object.specs.Local.{LocalObject, layout_here}
-use Rattle.local_object.specs.Events.{if_pointed, letter_of, next_in_answer, next_in_body, next_in_request}
+use Rattle.local_object.specs.Outcomes.{if_pointed, letter_of, next_in_answer, next_in_body, next_in_request}
 use Rattle.refinement.specs.Parts.{WasSentAs}
 
 pub in_front : {A : Type 0} (xs ys : List A) (i : ℕ) (x : A) → slice_get xs i ≡ Some x → slice_get (xs ++ ys) i ≡ Some x

@@ -14,6 +14,7 @@ pub mod EventLemmas
 pub mod EventRowLemmas
 pub mod EventRunLemmas
 pub mod FirstReadingLemmas
+pub mod GrownStartLemmas
 pub mod GrownWorldLemmas
 pub mod HistoryLemmas
 pub mod KeptBankLemmas
@@ -25,6 +26,7 @@ pub mod LetterLemmas
 pub mod LocalEventLemmas
 pub mod PartLemmas
 pub mod PlaceLemmas
+pub mod PlainEventLemmas
 pub mod ReadOnLemmas
 pub mod RefinedEventLemmas
 pub mod ResentLetterLemmas
@@ -38,6 +40,7 @@ pub mod SystemEventLemmas
 pub mod SystemLawLemmas
 pub mod SystemLemmas
 pub mod SystemRunLemmas
+pub mod SystemStartLemmas
 pub mod SystemValueLemmas
 pub mod TakenLetterLemmas
 pub mod TimedLemmas

@@ -1,23 +1,33 @@
--- Each event at a node is an event of the world.
+-- Each event at a node is events of the world.
+use Rattle.std.proofs.Common.{◌≡◌, false, length, refl}
 use Rattle.local_object.specs.Events.{LocalEvent}
-use Rattle.refinement.specs.Laws.{LocalEventsAreWorldEvents}
-use Rattle.refinement.proofs.AdvancedCallLemmas.{advance_refined}
-use Rattle.refinement.proofs.BegunCallLemmas.{read_refined, write_refined}
-use Rattle.refinement.proofs.BegunMoveLemmas.{move_refined}
-use Rattle.refinement.proofs.ClosedPlaceLemmas.{close_refined}
-use Rattle.refinement.proofs.LeftCallLemmas.{answer_refined, give_up_refined}
-use Rattle.refinement.proofs.ServedLetterLemmas.{serve_refined}
-use Rattle.refinement.proofs.SettledValueLemmas.{settle_refined}
-use Rattle.refinement.proofs.TakenLetterLemmas.{take_refined}
+use Rattle.local_object.specs.Local.{LocalObject}
+use Rattle.refinement.specs.Laws.{IsEventOfWorld, LocalEventsAreWorldEvents}
+use Rattle.refinement.specs.Refined.{world_events}
+use Rattle.refinement.specs.Starting.{event_count, is_at_start}
+use Rattle.refinement.proofs.BegunAnewLemmas.{anew_has_events}
+use Rattle.refinement.proofs.PlainEventLemmas.{each_plain}
+use Rattle.refinement.proofs.ReadOnLemmas.{read_on_has_events}
+use Rattle.refinement.proofs.StartedCallLemmas.{read_has_events, write_has_events}
+
+exactly : (event : LocalEvent) → is_at_start event ≡ false →
+    ((local : LocalObject) → length (world_events local event) ≡ event_count local event) → IsEventOfWorld event
+exactly event plain counted fragment world local formed part may premised =
+    let done = each_plain event plain fragment world local formed part may premised in
+    record { events = world_events local event; number = counted local; refined = done.0; entries = done.1 }
 
 pub each_refined : LocalEventsAreWorldEvents
-each_refined (LocalEvent.BeginRead id) = read_refined id
-each_refined (LocalEvent.BeginWrite id value) = write_refined id value
-each_refined (LocalEvent.BeginMove id layout) = move_refined id layout
-each_refined (LocalEvent.Advance id) = advance_refined id
-each_refined (LocalEvent.Serve letter) = serve_refined letter
-each_refined (LocalEvent.Take letter) = take_refined letter
-each_refined (LocalEvent.Settle id value) = settle_refined id value
-each_refined (LocalEvent.Answer id) = answer_refined id
-each_refined (LocalEvent.GiveUp id) = give_up_refined id
-each_refined (LocalEvent.Close position) = close_refined position
+each_refined (LocalEvent.BeginRead id) = read_has_events id
+each_refined (LocalEvent.BeginWrite id value) = write_has_events id value
+each_refined (LocalEvent.BeginMove id layout) = exactly (LocalEvent.BeginMove id layout) refl (λ local. refl)
+each_refined (LocalEvent.Advance id) = exactly (LocalEvent.Advance id) refl (λ local. refl)
+each_refined (LocalEvent.Serve letter) = exactly (LocalEvent.Serve letter) refl (λ local. refl)
+each_refined (LocalEvent.Take letter) = exactly (LocalEvent.Take letter) refl (λ local. refl)
+each_refined (LocalEvent.Settle id value) = exactly (LocalEvent.Settle id value) refl (λ local. refl)
+each_refined (LocalEvent.Answer id) = exactly (LocalEvent.Answer id) refl (λ local. refl)
+each_refined (LocalEvent.GiveUp id) = exactly (LocalEvent.GiveUp id) refl (λ local. refl)
+each_refined (LocalEvent.Close position) = exactly (LocalEvent.Close position) refl (λ local. refl)
+each_refined (LocalEvent.Grow id) = exactly (LocalEvent.Grow id) refl (λ local. refl)
+each_refined (LocalEvent.Hear start layout) = exactly (LocalEvent.Hear start layout) refl (λ local. refl)
+each_refined (LocalEvent.ReadOn id) = read_on_has_events id
+each_refined (LocalEvent.BeginAnew id) = anew_has_events id

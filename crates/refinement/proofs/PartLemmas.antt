@@ -12,7 +12,7 @@ use Rattle.network.specs.Events.{Event, world_after}
 use Rattle.network.specs.Premises.{MayHappenInTurn, WasSent}
 use Rattle.letter.specs.declared.letter.Letter.{Letter}
 use Rattle.local_object.specs.Local.{LocalObject}
-use Rattle.local_object.specs.Events.{Outcome, silent}
+use Rattle.local_object.specs.Outcomes.{Outcome, silent}
 use Rattle.refinement.specs.Parts.{IsPartOf, WasSentAs}
 use Rattle.refinement.specs.Refined.{IsRefined}
 use Rattle.refinement.specs.WellFormed.{HasAsked, HasEntry, IsWellFormed}

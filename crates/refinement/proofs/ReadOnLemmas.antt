@@ -1,5 +1,5 @@
 -- A call that reads before a start goes on there.
-use Rattle.std.proofs.Common.{◌≡◌, ℕ, suc, ◌+◌, ◌*◌, ◌-◌, ◌<◌, List, ◌++◌, length, Option, Some, None, IsSome}
+use Rattle.std.proofs.Common.{◌≡◌, ℕ, ◌+◌, ◌*◌, ◌-◌, ◌<◌, List, ◌++◌, length, Some}
 use Rattle.std.proofs.Common.{refl, sym, subst, ap, ◌∙◌, slice_get}
 use Rattle.std.proofs.lemmas.Option.{get_or_from_slice_get}
 use Rattle.layout.specs.Layout.{Layout, quorum_of}
@@ -19,12 +19,14 @@ use Rattle.starts.specs.Starts.{IsStart}
 use Rattle.starts.proofs.LeadingLemmas.{sent_there}
 use Rattle.starts.proofs.ReadingLemmas.{reads_to}
 use Rattle.local_object.specs.Local.{LocalObject, layout_here}
-use Rattle.local_object.specs.Events.{on_open_call, pieces_here}
+use Rattle.local_object.specs.Events.{LocalEvent, done_here, pieces_here}
+use Rattle.local_object.specs.Outcomes.{on_open_call}
 use Rattle.local_object.specs.May.{IsCarriedOut}
-use Rattle.local_object.specs.Starting.{IsReadingHere, StartEvent, done_at_start, number_at, reading_call, reads_at}
+use Rattle.local_object.specs.Starting.{IsReadingHere, number_at, reading_call, reads_at}
 use Rattle.local_object.proofs.LastPositionLemmas.{some_layout}
+use Rattle.refinement.specs.Laws.{IsEventOfWorld}
 use Rattle.refinement.specs.Parts.{IsPartOf}
-use Rattle.refinement.specs.Starting.{HasEvents, events_at_start, left_behind}
+use Rattle.refinement.specs.Starting.{HasEvents, left_behind}
 use Rattle.refinement.specs.WellFormed.{HasAsked, IsWellFormed, current_requests}
 use Rattle.refinement.proofs.BegunCallLemmas.{same_requests}
 use Rattle.refinement.proofs.ChangedCallLemmas.{IsCarried, carried, changed_kept, changed_to}
@@ -145,16 +147,14 @@ module _ (fragment : Code) (world : World) (local : LocalObject) (id : ℕ) (cal
         (λ had. asked_there))) in
         filled fragment world after world.history leads.events ((start - call.phase.position) * most_events) done.0 done.1 leads.few
 
-pub read_on_has_events : (fragment : Code) (world : World) (local : LocalObject) (id start : ℕ) → IsWellFormed fragment world →
-    IsPartOf world local → (call : NodeCall) → IsCarriedOut local id call → IsReadingHere local call → call.phase.position < start →
-    IsSome (layout_here local start) → IsStart world start →
-    HasEvents fragment world (done_at_start local (StartEvent.ReadOn id start)) world.history
-    (events_at_start local (StartEvent.ReadOn id start))
-read_on_has_events fragment world local id start formed part call open_here reads less some starts =
-    let known = some_layout (layout_here local start) some in
-    subst (λ o. HasEvents fragment world (done_at_start local (StartEvent.ReadOn id start)) world.history
-    (left_behind o start * most_events)) (sym open_here)
+pub read_on_has_events : (id : ℕ) → IsEventOfWorld (LocalEvent.ReadOn id)
+read_on_has_events id fragment world local formed part may starts =
+    let start = local.start in
+    let call = may.0 in
+    let known = some_layout (layout_here local start) may.4 in
+    subst (λ o. HasEvents fragment world (done_here fragment local (LocalEvent.ReadOn id)) world.history
+    (left_behind o start * most_events)) (sym may.1)
     (subst (λ after. HasEvents fragment world after world.history ((start - call.phase.position) * most_events))
     (ap (reads_at local call (number_at call start) start) (sym known.1)
-    ∙ ap (λ o. on_open_call local o (λ c. reads_at local c (number_at c start) start (layout_here local start))) (sym open_here))
-    (reads_on_there fragment world local id call formed part open_here reads start less starts known.0 known.1))
+    ∙ ap (λ o. on_open_call local o (λ c. reads_at local c (number_at c start) start (layout_here local start))) (sym may.1))
+    (reads_on_there fragment world local id call formed part may.1 may.2 start may.3 starts known.0 known.1))

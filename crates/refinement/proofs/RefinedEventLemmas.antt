@@ -6,7 +6,7 @@ use Rattle.record.specs.declared.call.Entry.{Entry}
 use Rattle.record.specs.Fragments.{Code}
 use Rattle.network.specs.Worlds.{World}
 use Rattle.network.specs.Events.{Event, world_after}
-use Rattle.local_object.specs.Events.{Outcome}
+use Rattle.local_object.specs.Outcomes.{Outcome}
 use Rattle.refinement.specs.Parts.{IsPartOf, WasSentAs}
 use Rattle.refinement.specs.Refined.{IsRefined}
 use Rattle.refinement.specs.Starting.{HasEvents}

@@ -6,7 +6,8 @@ use Rattle.soundness.proofs.ListLemmas.{all_get}
 use Rattle.network.specs.Worlds.{known_layouts}
 use Rattle.open_calls.proofs.OpenCallLemmas.{found}
 use Rattle.letter.specs.declared.letter.Letter.{Letter}
-use Rattle.local_object.specs.Events.{letter_of, pieces_here}
+use Rattle.local_object.specs.Events.{pieces_here}
+use Rattle.local_object.specs.Outcomes.{letter_of}
 use Rattle.refinement.specs.Laws.{ResentLettersWereSent}
 use Rattle.refinement.specs.Parts.{WasSentAs}
 use Rattle.refinement.specs.WellFormed.{HasAsked, current_requests}

@@ -12,7 +12,7 @@ use Rattle.network.specs.Worlds.{World, after_restart, known_layouts}
 use Rattle.open_calls.specs.OpenCalls.{NodeCall}
 use Rattle.open_calls.proofs.OpenCallLemmas.{all_filter}
 use Rattle.local_object.specs.Local.{LocalObject, bank_here, bank_or_opened, layout_here}
-use Rattle.local_object.specs.Events.{silent}
+use Rattle.local_object.specs.Outcomes.{silent}
 use Rattle.refinement.specs.Laws.{RestartsAreWorldEvents}
 use Rattle.refinement.specs.Parts.{IsPartOf}
 use Rattle.local_object.specs.Restarts.{IsKeptHere}

@@ -19,9 +19,10 @@ use Rattle.local_object.specs.declared.kept_bank.KeptBank.{KeptBank}
 use Rattle.local_object.specs.ChangedBanks.{kept_bank}
 use Rattle.local_object.specs.KeptBanks.{kept_reply}
 use Rattle.local_object.specs.Local.{LocalObject, bank_here, bank_in, heard_place, with_bank_here}
-use Rattle.local_object.specs.Events.{LocalEvent, Outcome, handled_here, learnt_from, letter_of, reply_letters, served_here, silent}
+use Rattle.local_object.specs.Events.{LocalEvent, handled_here, reply_letters, served_here}
+use Rattle.local_object.specs.Outcomes.{Outcome, learnt_from, letter_of, silent}
 use Rattle.local_object.specs.May.{IsAddressed}
-use Rattle.refinement.specs.Laws.{IsEventOfWorld}
+use Rattle.refinement.specs.Laws.{IsPlainEventOfWorld}
 use Rattle.refinement.specs.Parts.{IsKeptOf, IsPartOf, WasSentAs}
 use Rattle.refinement.specs.Refined.{IsRefined, if_replied, served_events}
 use Rattle.refinement.specs.WellFormed.{HasAsked, IsWellFormed}
@@ -228,7 +229,7 @@ module _ (fragment : Code) (world : World) (local : LocalObject) (letter : Lette
           world.history (ap (served_world (ticked world) letter.message) (sym is)) refl
           ((asked, is), record { network = was.sent; log = tt; ids = tt }, tt) (served_kept reply e)
 
-pub serve_refined : (letter : Letter) → IsEventOfWorld (LocalEvent.Serve letter)
+pub serve_refined : (letter : Letter) → IsPlainEventOfWorld (LocalEvent.Serve letter)
 serve_refined letter fragment world local formed part may premised =
     let next = learnt_from local letter in
     let asked = may.0.0 in

@@ -10,9 +10,10 @@ use Rattle.network.specs.Worlds.{World, known_layouts, parts_of}
 use Rattle.open_calls.specs.OpenCalls.{NodeCall, open_call, with_open}
 use Rattle.network.specs.Events.{Event, IsFetched, on_open}
 use Rattle.local_object.specs.Local.{LocalObject}
-use Rattle.local_object.specs.Events.{LocalEvent, Outcome, on_open_call, pieces_here, silent}
+use Rattle.local_object.specs.Events.{LocalEvent, pieces_here}
+use Rattle.local_object.specs.Outcomes.{Outcome, on_open_call, silent}
 use Rattle.local_object.specs.May.{IsFetchedHere}
-use Rattle.refinement.specs.Laws.{IsEventOfWorld}
+use Rattle.refinement.specs.Laws.{IsPlainEventOfWorld}
 use Rattle.refinement.specs.Parts.{IsPartOf}
 use Rattle.refinement.specs.WellFormed.{HasAsked}
 use Rattle.refinement.proofs.BegunCallLemmas.{same_requests, ticked}
@@ -56,7 +57,7 @@ asked_settled fragment world call value fetch has = record {
       (fetch_pieceless call.phase.kind fetch)) ∙ at);
 }
 
-pub settle_refined : (id : ℕ) (value : List ℕ) → IsEventOfWorld (LocalEvent.Settle id value)
+pub settle_refined : (id : ℕ) (value : List ℕ) → IsPlainEventOfWorld (LocalEvent.Settle id value)
 settle_refined id value fragment world local formed part may premised =
     let call = may.0 in
     let is = carried fragment world local id call formed part may.1 in

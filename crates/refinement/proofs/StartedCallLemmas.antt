@@ -1,51 +1,41 @@
--- What a node does at a start are events of the world.
-use Rattle.std.proofs.Common.{◌≡◌, ◌⊎◌, inl, inr, ℕ, suc, ◌*◌, ◌<◌, [], ◌∷◌, ◌++◌, sym, subst, arith}
-use Rattle.bank.specs.declared.kind.Kind.TheVariants.{Next}
+-- A read or a write that begins at a start is what events of the world do; and how starts grow.
+use Rattle.std.proofs.Common.{◌≡◌, ◌⊎◌, inl, inr, ℕ, suc, ◌*◌, ◌<◌, [], ◌∷◌, ◌++◌, List, sym, subst, arith}
 use Rattle.record.specs.declared.call.CallKind.TheVariants.{Read, Write}
-use Rattle.record.specs.declared.stage.Stage.TheVariants.{ReadNext}
 use Rattle.network.specs.Events.{Event}
 use Rattle.starts.specs.Reading.{most_events}
 use Rattle.starts.specs.Starts.{IsFinalAt}
 use Rattle.starts.proofs.ShownFinalLemmas.{spreads_show_final}
+use Rattle.local_object.specs.Events.{LocalEvent}
 use Rattle.local_object.specs.Local.{layout_here}
-use Rattle.local_object.specs.Events.{begun_here}
-use Rattle.local_object.specs.Starting.{StartEvent, called_at}
+use Rattle.local_object.specs.Starting.{called_at}
 use Rattle.local_object.proofs.LastPositionLemmas.{some_layout}
-use Rattle.refinement.specs.Refined.{IsRefined, begun_entry}
-use Rattle.refinement.specs.Starting.{HasEvents, StartEventsAreWorldEvents, StartsGrow}
-use Rattle.refinement.proofs.BegunAnewLemmas.{anew_has_events}
+use Rattle.refinement.specs.Laws.{IsEventOfWorld}
+use Rattle.refinement.specs.Refined.{begun_entry}
+use Rattle.refinement.specs.Starting.{HasEvents, StartsGrow}
 use Rattle.refinement.proofs.BegunAtStartLemmas.{begins}
-use Rattle.refinement.proofs.BegunCallLemmas.{read_refined, write_refined}
+use Rattle.refinement.proofs.BegunCallLemmas.{read_begun, write_begun}
 use Rattle.refinement.proofs.ChangedCallLemmas.{carried}
-use Rattle.refinement.proofs.ReadOnLemmas.{read_on_has_events}
 
-pub start_events : StartEventsAreWorldEvents
-start_events (StartEvent.BeginRead id start) fragment world local formed part may premised =
+pub read_has_events : (id : ℕ) → IsEventOfWorld (LocalEvent.BeginRead id)
+read_has_events id fragment world local formed part may premised =
     let first = some_layout (layout_here local 0) part.first in
-    let there = some_layout (layout_here local start) may in
-    let one = read_refined id fragment world local formed part part.first premised.0 in
-    subst (λ o. HasEvents fragment world (called_at local id Read start o) (world.history ++ begun_entry id Read (suc world.now) ∷ [])
-    (suc (start * most_events))) (sym there.1)
-    (begins fragment world local id Read formed part premised.0 first.0 first.1 (Event.BeginRead local.node id)
-    (world.history ++ begun_entry id Read (suc world.now) ∷ [])
-    (subst (λ o. IsRefined fragment world (Event.BeginRead local.node id ∷ []) (begun_here local id Read (ReadNext 0 0) Next 0 o)) first.1
-    one.0) one.1 start there.0 there.1 premised.1)
-start_events (StartEvent.BeginWrite id value start) fragment world local formed part may premised =
+    let there = some_layout (layout_here local local.start) may in
+    let history = world.history ++ begun_entry id Read (suc world.now) ∷ [] in
+    let one = read_begun fragment world local id formed part premised.0 first.0 first.1 in
+    subst (λ o. HasEvents fragment world (called_at local id Read local.start o) history (suc (local.start * most_events))) (sym there.1)
+    (begins fragment world local id Read formed part premised.0 first.0 first.1 (Event.BeginRead local.node id) history one.0 one.1
+    local.start there.0 there.1 premised.1)
+
+pub write_has_events : (id : ℕ) (value : List ℕ) → IsEventOfWorld (LocalEvent.BeginWrite id value)
+write_has_events id value fragment world local formed part may premised =
     let first = some_layout (layout_here local 0) part.first in
-    let there = some_layout (layout_here local start) may.0 in
-    let one = write_refined id value fragment world local formed part (part.first, may.1) premised.0 in
-    subst (λ o. HasEvents fragment world (called_at local id (Write value) start o)
-    (world.history ++ begun_entry id (Write value) (suc world.now) ∷ []) (suc (start * most_events))) (sym there.1)
-    (begins fragment world local id (Write value) formed part premised.0 first.0 first.1 (Event.BeginWrite local.node id value)
-    (world.history ++ begun_entry id (Write value) (suc world.now) ∷ [])
-    (subst (λ o. IsRefined fragment world (Event.BeginWrite local.node id value ∷ [])
-    (begun_here local id (Write value) (ReadNext 0 0) Next 0 o)) first.1 one.0) one.1 start there.0 there.1 premised.1)
-start_events (StartEvent.ReadOn id start) fragment world local formed part may premised =
-    read_on_has_events fragment world local id start formed part may.0 may.1 may.2 may.3 may.4 premised
-start_events (StartEvent.BeginAnew id start) fragment world local formed part may premised =
-    let first = some_layout (layout_here local 0) part.first in
-    let there = some_layout (layout_here local start) may.4 in
-    anew_has_events fragment world local id start formed part may.0 may.1 may.2 may.3 first.0 first.1 there.0 there.1 premised
+    let there = some_layout (layout_here local local.start) may.0 in
+    let history = world.history ++ begun_entry id (Write value) (suc world.now) ∷ [] in
+    let one = write_begun fragment world local id value may.1 formed part premised.0 first.0 first.1 in
+    subst (λ o. HasEvents fragment world (called_at local id (Write value) local.start o) history (suc (local.start * most_events)))
+    (sym there.1)
+    (begins fragment world local id (Write value) formed part premised.0 first.0 first.1 (Event.BeginWrite local.node id value) history
+    one.0 one.1 local.start there.0 there.1 premised.1)
 
 -- Starts grow
 

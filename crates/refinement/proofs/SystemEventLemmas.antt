@@ -1,20 +1,22 @@
 -- An event of all nodes leads to their world.
-use Rattle.std.proofs.Common.{◌≡◌, ℕ, suc, ◌+◌, Bool, true, false, cond, eqb, eq-eqb, eqb-true, length, List, [], ◌∷◌}
-use Rattle.std.proofs.Common.{Some, slice_get, refl, sym, subst, ap, ◌∙◌, arith}
-use Rattle.std.specs.List.{AllByRecursion}
-use Rattle.record.specs.declared.call.Entry.{Entry}
+use Rattle.std.proofs.Common.{◌≡◌, ◌≤◌, ◌<◌, ℕ, suc, ◌+◌, Bool, true, false, cond, eqb, eq-eqb, eqb-true, List, [], ◌∷◌}
+use Rattle.std.proofs.Common.{refl, sym, ap, ◌∙◌, arith}
 use Rattle.record.specs.Fragments.{Code}
-use Rattle.soundness.proofs.ListLemmas.{all_get, all_weaker}
-use Rattle.network.specs.Worlds.{ClusterFile, World}
+use Rattle.soundness.proofs.ListLemmas.{all_weaker}
+use Rattle.network.specs.Worlds.{World}
 use Rattle.network.specs.Events.{world_after}
+use Rattle.network.specs.Laws.{IsReached}
 use Rattle.letter.specs.declared.letter.Letter.{Letter}
+use Rattle.starts.specs.Starts.{IsStart}
+use Rattle.starts.proofs.FinalPointerLemmas.{finals_stay_final}
 use Rattle.local_object.specs.Local.{LocalObject}
 use Rattle.local_object.specs.Events.{LocalEvent, done_here}
 use Rattle.local_object.specs.Resent.{IsResent}
 use Rattle.refinement.specs.Parts.{IsPartOf, WasSentAs}
 use Rattle.local_object.specs.Restarts.{IsKeptHere}
-use Rattle.refinement.specs.Refined.{IsPremisedHere, history_after, restart_event, world_events}
-use Rattle.refinement.specs.Systems.{IsPremisedIn, IsWorldOf, MayHappenIn, System, SystemEvent, system_after}
+use Rattle.refinement.specs.Refined.{history_after, restart_event}
+use Rattle.refinement.specs.Starting.{event_count}
+use Rattle.refinement.specs.Systems.{IsStartOf, IsWorldOf, MayHappenIn, System, SystemEvent, system_after}
 use Rattle.refinement.specs.Systems.{with_object_at}
 use Rattle.refinement.specs.WellFormed.{IsWellFormed}
 use Rattle.refinement.proofs.KeptNodeLemmas.{node_kept}
@@ -22,41 +24,11 @@ use Rattle.refinement.proofs.LocalEventLemmas.{each_refined}
 use Rattle.refinement.proofs.ResentLetterLemmas.{letters_sent}
 use Rattle.refinement.proofs.RestartedNodeLemmas.{restarts_refined}
 use Rattle.refinement.proofs.EventRunLemmas.{HasWorld}
+use Rattle.refinement.proofs.SystemStartLemmas.{mover_here, premised_there, starts_done, told_later, told_there}
 use Rattle.open_calls.proofs.ListLemmas.{all_append}
 
-module _ (fragment : Code) (world : World) (system : System) (formed : IsWellFormed fragment world) (is : IsWorldOf world system) where
-  unused_there : (id : ℕ) → AllByRecursion (λ entry. entry.call ≡ id → ⊥) system.history →
-      AllByRecursion (λ entry. entry.call ≡ id → ⊥) world.history
-  unused_there id free = subst (AllByRecursion (λ (entry : Entry). entry.call ≡ id → ⊥)) (sym is.history) free
-
-  -- the node that moves objects by the system's files does so by the world's
-  mover_there : (node : ℕ) → node ≡ (system.files node).mover →
-      (system.objects node).node ≡ (world.files (system.objects node).node).mover
-  mover_there node moves =
-      is.nodes node ∙ moves ∙ ap (λ (files : ℕ → ClusterFile). (files node).mover) (sym is.files)
-      ∙ ap (λ n. (world.files n).mover) (sym (is.nodes node))
-
-  mover_here : (node : ℕ) → (system.objects node).node ≡ (world.files (system.objects node).node).mover →
-      node ≡ (system.files node).mover
-  mover_here node moves =
-      sym (is.nodes node) ∙ moves ∙ ap (λ n. (world.files n).mover) (is.nodes node)
-      ∙ ap (λ (files : ℕ → ClusterFile). (files node).mover) is.files
-
-  letter_there : (letter : Letter) → (place : ℕ) × (slice_get system.letters place ≡ Some letter) → WasSentAs world letter
-  letter_there letter posted = all_get (WasSentAs world) system.letters posted.0 letter is.letters posted.1
-
-  premised_there : (node : ℕ) (event : LocalEvent) → IsPremisedIn system node event → IsPremisedHere world (system.objects node) event
-  premised_there node (LocalEvent.BeginRead id) premised = unused_there id premised
-  premised_there node (LocalEvent.BeginWrite id value) premised = unused_there id premised
-  premised_there node (LocalEvent.BeginMove id layout) premised = (unused_there id premised.0, mover_there node premised.1)
-  premised_there node (LocalEvent.Advance id) premised = tt
-  premised_there node (LocalEvent.Serve letter) premised = letter_there letter premised
-  premised_there node (LocalEvent.Take letter) premised = letter_there letter premised
-  premised_there node (LocalEvent.Settle id value) premised = tt
-  premised_there node (LocalEvent.Answer id) premised = tt
-  premised_there node (LocalEvent.GiveUp id) premised = tt
-  premised_there node (LocalEvent.Close position) premised = tt
-
+module _ (fragment : Code) (world : World) (system : System) (reached : IsReached fragment world) (formed : IsWellFormed fragment world)
+    (is : IsWorldOf world system) where
   -- what each node keeps after one of them changed
   nodes_after : (node : ℕ) (local : LocalObject) → local.node ≡ node → (other : ℕ) →
       (with_object_at system.objects node local other).node ≡ other
@@ -65,6 +37,14 @@ module _ (fragment : Code) (world : World) (system : System) (formed : IsWellFor
       go : (b : Bool) → eqb other node ≡ b → (cond b local (system.objects other)).node ≡ other
       go true e = own ∙ sym (eqb-true other node e)
       go false e = is.nodes other
+
+  starts_after : (later : World) (node : ℕ) (local : LocalObject) → ((start : ℕ) → IsStart world start → IsStart later start) →
+      IsStart world local.start → (other : ℕ) → IsStart later (with_object_at system.objects node local other).start
+  starts_after later node local stay own other = go (eqb other node)
+    where
+      go : (b : Bool) → IsStart later (cond b local (system.objects other)).start
+      go true = stay local.start own
+      go false = stay (system.objects other).start (is.starts other)
 
   parts_after : (later : World) (node : ℕ) (local : LocalObject) → local.node ≡ node → IsPartOf later local →
       ((other : LocalObject) → (other.node ≡ local.node → ⊥) → IsPartOf world other → IsPartOf later other) → (other : ℕ) →
@@ -83,22 +63,27 @@ module _ (fragment : Code) (world : World) (system : System) (formed : IsWellFor
   acted node event may =
       let local = system.objects node in
       let done = done_here fragment local event in
-      let events = world_events local event in
-      let later = world_after fragment events world in
-      let led = each_refined event fragment world local formed (is.parts node) may.0 (premised_there node event may.1) in
+      let led = each_refined event fragment world local formed (is.parts node) may.0
+      (premised_there fragment world system reached formed is node event may.0 may.1) in
+      let later = world_after fragment led.events world in
       let own = node_kept fragment local event ∙ is.nodes node in record {
-        events = events;
-        may = led.0.may;
-        formed = led.0.formed;
+        events = led.events;
+        may = led.refined.may;
+        formed = led.refined.formed;
         is = record {
-          files = led.0.files ∙ is.files;
+          files = led.refined.files ∙ is.files;
           nodes = nodes_after node done.local own;
-          parts = parts_after later node done.local own led.0.part led.0.others;
+          parts = parts_after later node done.local own led.refined.part led.refined.others;
           letters = all_append (WasSentAs later) system.letters done.sent
-              (all_weaker (WasSentAs world) (WasSentAs later) led.0.kept system.letters is.letters) led.0.sent;
-          history = led.1 ∙ ap (λ now. history_after local event (suc now) world.history) is.now
+              (all_weaker (WasSentAs world) (WasSentAs later) led.refined.kept system.letters is.letters) led.refined.sent;
+          starts = starts_after later node done.local
+              (λ start first position less. finals_stay_final fragment world led.events position led.refined.may (first position less))
+              (starts_done fragment world system reached formed is node event may.0 may.1);
+          told = all_weaker (IsStartOf world) (IsStartOf later) (told_later fragment world led.events led.refined.may) system.starts
+              is.told;
+          history = led.entries ∙ ap (λ now. history_after local event (suc now) world.history) is.now
               ∙ ap (history_after local event (suc system.now)) is.history;
-          now = led.0.now ∙ ap (λ now. now + length events) is.now;
+          now = led.refined.now ∙ ap (λ n. world.now + n) led.number ∙ ap (λ now. now + event_count local event) is.now;
         };
       }
 
@@ -116,10 +101,29 @@ module _ (fragment : Code) (world : World) (system : System) (formed : IsWellFor
           letters = all_append (WasSentAs world) system.letters letters is.letters
               (all_weaker (IsResent fragment local) (WasSentAs world)
               (λ letter again. letters_sent fragment world local letter formed (is.parts node) again) letters may);
+          starts = is.starts;
+          told = is.told;
           history = is.history;
           now = is.now;
         };
       }
+
+  tells : (node : ℕ) → HasWorld fragment world (system_after fragment system (SystemEvent.Tells node))
+  tells node = record {
+    events = [];
+    may = tt;
+    formed = formed;
+    is = record {
+      files = is.files;
+      nodes = is.nodes;
+      parts = is.parts;
+      letters = is.letters;
+      starts = is.starts;
+      told = told_there fragment world system reached formed is node;
+      history = is.history;
+      now = is.now;
+    };
+  }
 
   restarted : (node : ℕ) (after : LocalObject) → MayHappenIn fragment system (SystemEvent.Restarts node after) →
       HasWorld fragment world (system_after fragment system (SystemEvent.Restarts node after))
@@ -130,11 +134,12 @@ module _ (fragment : Code) (world : World) (system : System) (formed : IsWellFor
       let kept : IsKeptHere (before.node ≡ (world.files before.node).mover) before after = record {
         node = may.node;
         delta = may.delta;
+        start = may.start;
         layouts = may.layouts;
         first = may.first;
         banks = may.banks;
         calls = may.calls;
-        mover = λ moves. may.mover (mover_here node moves);
+        mover = λ moves. may.mover (mover_here fragment world system reached formed is node moves);
       } in
       let led = restarts_refined fragment world before after formed (is.parts node) kept in
       let own = may.node ∙ is.nodes node in
@@ -147,12 +152,20 @@ module _ (fragment : Code) (world : World) (system : System) (formed : IsWellFor
           nodes = nodes_after node after own;
           parts = parts_after later node after own led.0.part led.0.others;
           letters = all_weaker (WasSentAs world) (WasSentAs later) led.0.kept system.letters is.letters;
+          starts = starts_after later node after
+              (λ start first position less. finals_stay_final fragment world events position led.0.may (first position less))
+              (λ position less. is.starts node position (before_start position after.start before.start less may.start));
+          told = all_weaker (IsStartOf world) (IsStartOf later) (told_later fragment world events led.0.may) system.starts is.told;
           history = led.1 ∙ is.history;
           now = one;
         };
       }
+    where
+      before_start : (position start was : ℕ) → position < start → start ≤ was → position < was
+      before_start position start was less more = omega arith
 
   pub one_event : (event : SystemEvent) → MayHappenIn fragment system event → HasWorld fragment world (system_after fragment system event)
   one_event (SystemEvent.Acts node event) may = acted node event may
   one_event (SystemEvent.Resends node letters) may = resent node letters may
+  one_event (SystemEvent.Tells node) may = tells node
   one_event (SystemEvent.Restarts node after) may = restarted node after may

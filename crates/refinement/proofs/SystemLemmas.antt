@@ -1,5 +1,5 @@
 -- All nodes, each by what it keeps, have a world that is reached.
-use Rattle.std.proofs.Common.{◌≡◌, ℕ, zero, suc, ◌+◌, cond, List, [], ◌∷◌}
+use Rattle.std.proofs.Common.{◌≡◌, ℕ, zero, suc, ◌+◌, ◌<◌, cond, List, [], ◌∷◌}
 use Rattle.std.proofs.Common.{Some, None, slice_get, refl, sym, ap, ◌∙◌, arith}
 use Rattle.std.proofs.lemmas.Option.{same_Some}
 use Rattle.layout.specs.Layout.{Layout, IsLawful}
@@ -9,6 +9,7 @@ use Rattle.bank.proofs.RememberedBankLemmas.{remembered-opened}
 use Rattle.record.specs.Fragments.{Code}
 use Rattle.network.specs.Worlds.{ClusterFile, World, member_bank, known_layouts, opened_world}
 use Rattle.network.specs.Events.{world_after}
+use Rattle.network.specs.Laws.{IsReached}
 use Rattle.network.specs.Premises.{IsOneFile}
 use Rattle.local_object.specs.Local.{LocalObject, Place, bank_here, layout_here, layout_in, new_local}
 use Rattle.refinement.specs.Parts.{IsKeptOf, IsPartOf}
@@ -16,18 +17,20 @@ use Rattle.refinement.specs.Systems.{IsWorldOf, MayRunIn, System, SystemEvent, o
 use Rattle.refinement.specs.Systems.{system_run}
 use Rattle.refinement.specs.WellFormed.{IsWellFormed}
 use Rattle.open_calls.proofs.CallsOfNodeLemmas.{differs}
-use Rattle.refinement.proofs.EventRunLemmas.{HasWorld, then_world}
+use Rattle.refinement.proofs.EventRunLemmas.{HasWorld, reached_later, then_world}
 use Rattle.refinement.proofs.SystemEventLemmas.{one_event}
 use Rattle.starts.proofs.BankRowLemmas.{new_count}
 use Rattle.refinement.proofs.GrownWorldLemmas.{new_bank}
 
-all_events : (fragment : Code) (events : List SystemEvent) (world : World) (system : System) → IsWellFormed fragment world →
-    IsWorldOf world system → MayRunIn fragment events system → HasWorld fragment world (system_run fragment events system)
-all_events fragment [] world system formed is may = record { events = []; may = tt; formed = formed; is = is }
-all_events fragment (event ∷ events) world system formed is may =
-    let led = one_event fragment world system formed is event may.0 in
+all_events : (fragment : Code) (events : List SystemEvent) (world : World) (system : System) → IsReached fragment world →
+    IsWellFormed fragment world → IsWorldOf world system → MayRunIn fragment events system →
+    HasWorld fragment world (system_run fragment events system)
+all_events fragment [] world system reached formed is may = record { events = []; may = tt; formed = formed; is = is }
+all_events fragment (event ∷ events) world system reached formed is may =
+    let led = one_event fragment world system reached formed is event may.0 in
     then_world fragment world (system_after fragment system event) (system_run fragment events (system_after fragment system event)) led
-    (all_events fragment events (world_after fragment led.events world) (system_after fragment system event) led.formed led.is may.1)
+    (all_events fragment events (world_after fragment led.events world) (system_after fragment system event)
+    (reached_later fragment world led.events reached led.may) led.formed led.is may.1)
 
 -- The first world
 
@@ -82,18 +85,27 @@ module _ (files : ℕ → ClusterFile) (one : IsOneFile files) where
       mover zero layout e = e
       mover (suc q) layout e = absurd (cc)
 
+  none_before : (position : ℕ) → position < 0 → ⊥
+  none_before position less = absurd (omega (arith, less))
+
   opened_is : IsWorldOf (opened_world files) (opened_system files)
   opened_is = record {
     files = refl;
     nodes = λ node. refl;
     parts = opened_part;
     letters = tt;
+    starts = λ node position less. absurd (none_before position less);
+    told = tt;
     history = refl;
     now = refl;
   }
+
+  opened_reached : (fragment : Code) → IsLawful (files 0).first → IsReached fragment (opened_world files)
+  opened_reached fragment lawful = record { files = files; one = one; lawful = lawful; events = []; may = tt; result = refl }
 
   pub from_opened : (fragment : Code) (events : List SystemEvent) → IsLawful (files 0).first →
       MayRunIn fragment events (opened_system files) →
       HasWorld fragment (opened_world files) (system_run fragment events (opened_system files))
   from_opened fragment events lawful may =
-      all_events fragment events (opened_world files) (opened_system files) (opened_formed fragment lawful) opened_is may
+      all_events fragment events (opened_world files) (opened_system files) (opened_reached fragment lawful)
+      (opened_formed fragment lawful) opened_is may

@@ -12,8 +12,9 @@ use Rattle.open_calls.specs.OpenCalls.{NodeCall, open_call, with_open, taking_op
 use Rattle.network.specs.Events.{Event, on_open, world_after}
 use Rattle.letter.specs.declared.letter.Letter.{Letter}
 use Rattle.local_object.specs.Local.{LocalObject}
-use Rattle.local_object.specs.Events.{LocalEvent, Outcome, learnt_from, on_open_call, silent}
-use Rattle.refinement.specs.Laws.{IsEventOfWorld}
+use Rattle.local_object.specs.Events.{LocalEvent}
+use Rattle.local_object.specs.Outcomes.{Outcome, learnt_from, on_open_call, silent}
+use Rattle.refinement.specs.Laws.{IsPlainEventOfWorld}
 use Rattle.refinement.specs.Parts.{IsPartOf}
 use Rattle.refinement.specs.Refined.{IsRefined, if_carried}
 use Rattle.refinement.specs.WellFormed.{HasAsked, IsWellFormed}
@@ -63,7 +64,7 @@ asked_taken fragment world later call message sent layouts has =
 abbrev taking_here : Letter → LocalObject → NodeCall → Outcome
 taking_here letter next call = silent (record next { calls = with_open (taking_open letter.message call) next.calls })
 
-pub take_refined : (letter : Letter) → IsEventOfWorld (LocalEvent.Take letter)
+pub take_refined : (letter : Letter) → IsPlainEventOfWorld (LocalEvent.Take letter)
 take_refined letter fragment world local formed part may premised =
     go (learnt_from local letter) (part_learnt_from world local letter formed.one part premised)
     (open_call local.calls letter.message.call) (ap (λ calls. open_call calls letter.message.call) (calls_heard local letter))

@@ -1,5 +1,5 @@
 -- A world can wait: an event that gives up a call that nobody carries out changes nothing but the number of events.
-use Rattle.std.proofs.Common.{◌≡◌, ◌+◌, ◌-◌, ◌<◌, ◌≤◌, ℕ, zero, suc, cond, eqb, List, [], ◌∷◌, length, Option, Some, None}
+use Rattle.std.proofs.Common.{◌≡◌, ◌+◌, ◌-◌, ◌<◌, ◌≤◌, ℕ, zero, suc, cond, List, [], ◌∷◌, length, Some, None}
 use Rattle.std.proofs.Common.{refl, sym, subst, ap, ◌∙◌, arith}
 use Rattle.std.specs.List.{AllByRecursion}
 use Rattle.record.specs.declared.call.CallKind.TheVariants.{Move}
@@ -10,7 +10,7 @@ use Rattle.open_calls.specs.OpenCalls.{NodeCall, open_call}
 use Rattle.open_calls.proofs.CallsOfNodeLemmas.{differs, nothing_without}
 use Rattle.network.specs.Worlds.{World}
 use Rattle.network.specs.Events.{Event, world_after}
-use Rattle.local_object.specs.Events.{Outcome}
+use Rattle.local_object.specs.Outcomes.{Outcome}
 use Rattle.refinement.specs.Parts.{IsPartOf, WasSentAs}
 use Rattle.refinement.specs.Refined.{IsRefined}
 use Rattle.refinement.specs.Starting.{HasEvents}

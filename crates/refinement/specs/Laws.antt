@@ -1,6 +1,6 @@
 -- The contracts that docs/trusted.md lists do not depend on this file; other contracts and proofs do.
 -- The laws: what nodes do by themselves are events of a world, so what each world promises holds for all nodes.
-use Rattle.std.specs.Prelude.{◌≡◌, ℕ, suc, List, [], ◌∷◌, Some, IsSome}
+use Rattle.std.specs.Prelude.{◌≡◌, ℕ, suc, false, List, [], ◌∷◌, Some, IsSome}
 use Rattle.record.specs.declared.call.CallKind.TheVariants.{Read}
 use Rattle.record.specs.Fragments.{Code, IsCode}
 use Rattle.atomicity.specs.Atomic.{IsAtomic}
@@ -10,26 +10,40 @@ use Rattle.network.specs.Events.{world_after}
 use Rattle.network.specs.Laws.{IsReached}
 use Rattle.letter.specs.declared.letter.Letter.{Letter}
 use Rattle.local_object.specs.Local.{LocalObject}
-use Rattle.local_object.specs.Events.{LocalEvent, all_done, done_here, silent}
+use Rattle.local_object.specs.Events.{LocalEvent, all_done, done_here}
+use Rattle.local_object.specs.Outcomes.{silent}
 use Rattle.local_object.specs.May.{MayAllHappen, MayHappenHere}
 use Rattle.local_object.specs.Resent.{IsResent}
 use Rattle.refinement.specs.Parts.{IsPartOf, WasSentAs}
 use Rattle.refinement.specs.WellFormed.{IsWellFormed}
 use Rattle.local_object.specs.Restarts.{IsKeptHere}
-use Rattle.refinement.specs.Refined.{IsPremisedHere, IsRefined, history_after, restart_event, world_events}
+use Rattle.refinement.specs.Refined.{IsPremisedHere, IsRefined, history_after}
+use Rattle.refinement.specs.Starting.{HasEvents, event_count, is_at_start}
+use Rattle.refinement.specs.Refined.{restart_event, world_events}
 use Rattle.refinement.specs.Systems.{ArePremisedIn, IsDoneIn, IsReachedSystem, IsWorldOf, System, SystemEvent}
 use Rattle.refinement.specs.Systems.{system_after}
 use Rattle.refinement.specs.SystemValues.{HasAnswer, KeepsValuesIn}
 
--- what a node does is what the events of the world do, and the history is the same
-abbrev pub IsEventOfWorld : LocalEvent → Type 0
-IsEventOfWorld event = (fragment : Code) (world : World) (local : LocalObject) → IsWellFormed fragment world →
+-- what a node does is what the events of `world_events` do in the world, and the history is the same
+abbrev pub IsPlainEventOfWorld : LocalEvent → Type 0
+IsPlainEventOfWorld event = (fragment : Code) (world : World) (local : LocalObject) → IsWellFormed fragment world →
     IsPartOf world local → MayHappenHere fragment local event → IsPremisedHere world local event →
     IsRefined fragment world (world_events local event) (done_here fragment local event)
     × ((world_after fragment (world_events local event) world).history
     ≡ history_after local event (suc world.now) world.history)
 
--- each event at a node is an event of the world
+-- unless a call begins or goes on at the node's start, what a node does is what the events of `world_events` do
+abbrev pub PlainEventsAreWorldEvents : Type 0
+PlainEventsAreWorldEvents = (event : LocalEvent) → is_at_start event ≡ false → IsPlainEventOfWorld event
+
+-- what a node does is what some events of the world do, so many, and the history is the same
+abbrev pub IsEventOfWorld : LocalEvent → Type 0
+IsEventOfWorld event = (fragment : Code) (world : World) (local : LocalObject) → IsWellFormed fragment world →
+    IsPartOf world local → MayHappenHere fragment local event → IsPremisedHere world local event →
+    HasEvents fragment world (done_here fragment local event) (history_after local event (suc world.now) world.history)
+    (event_count local event)
+
+-- whatever a node does is what some events of the world do
 abbrev pub LocalEventsAreWorldEvents : Type 0
 LocalEventsAreWorldEvents = (event : LocalEvent) → IsEventOfWorld event
 

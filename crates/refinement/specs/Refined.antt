@@ -1,6 +1,6 @@
 -- The contracts that docs/trusted.md lists do not depend on this file; other contracts and proofs do.
 -- Which events of the world an event at a node is, and when the world after them agrees with what all nodes keep.
-use Rattle.std.specs.Prelude.{◌≡◌, ◌≢◌, ◌+◌, ℕ, List, [], ◌∷◌, ◌++◌, length, map, Option, None, Some}
+use Rattle.std.specs.Prelude.{◌≡◌, ◌≢◌, ◌+◌, ℕ, suc, List, [], ◌∷◌, ◌++◌, length, map, Option, None, Some, slice_get}
 use Rattle.std.specs.List.{AllByRecursion}
 use Rattle.bank.specs.declared.reply.Reply.{Reply}
 use Rattle.mail.specs.declared.message.Body.{Body}
@@ -10,14 +10,16 @@ use Rattle.record.specs.declared.call.CallKind.TheVariants.{Read, Write, Move}
 use Rattle.record.specs.declared.call.Entry.{Entry}
 use Rattle.record.specs.Fragments.{Code}
 use Rattle.record.specs.Journals.{operation_of, entry_value}
-use Rattle.network.specs.Worlds.{World, after_restart}
+use Rattle.network.specs.Worlds.{World, after_restart, known_layouts}
 use Rattle.open_calls.specs.OpenCalls.{NodeCall, open_call}
 use Rattle.network.specs.Events.{Event, world_after, answered_entry}
 use Rattle.network.specs.Premises.{IsUnused, MayHappenInTurn}
+use Rattle.starts.specs.Starts.{IsStart}
 use Rattle.letter.specs.declared.letter.Letter.{Letter}
 use Rattle.local_object.specs.KeptBanks.{kept_reply}
 use Rattle.local_object.specs.Local.{LocalObject, bank_here}
-use Rattle.local_object.specs.Events.{LocalEvent, Outcome}
+use Rattle.local_object.specs.Events.{LocalEvent}
+use Rattle.local_object.specs.Outcomes.{Outcome}
 use Rattle.refinement.specs.Parts.{IsPartOf, WasSentAs}
 use Rattle.refinement.specs.WellFormed.{IsWellFormed}
 
@@ -39,11 +41,10 @@ served_events local letter (body.Request asked) =
     (Event.Serve letter.message)
 served_events local letter (body.Reply kind made) = []
 
--- the events of the world that an event at a node is: one; or none if the node takes a reply to a call that it does not
--- carry out, gives such a call up, serves a request that its bank declines, or closes a bank
+-- the events of the world that an event at a node is, unless a call begins or goes on at the node's start: one; or none
+-- if the node takes a reply to a call that it does not carry out, gives such a call up, serves a request that its bank
+-- declines, closes a bank, or knows a later start
 abbrev pub world_events : LocalObject → LocalEvent → List Event
-world_events local (LocalEvent.BeginRead id) = Event.BeginRead local.node id ∷ []
-world_events local (LocalEvent.BeginWrite id value) = Event.BeginWrite local.node id value ∷ []
 world_events local (LocalEvent.BeginMove id layout) = Event.BeginMove local.node id layout ∷ []
 world_events local (LocalEvent.Advance id) = Event.Advance id ∷ []
 world_events local (LocalEvent.Serve letter) = served_events local letter letter.message.body
@@ -52,17 +53,22 @@ world_events local (LocalEvent.Take letter) =
 world_events local (LocalEvent.Settle id value) = Event.Settle id value ∷ []
 world_events local (LocalEvent.Answer id) = Event.Answer id ∷ []
 world_events local (LocalEvent.GiveUp id) = if_carried (open_call local.calls id) (Event.GiveUp id)
-world_events local (LocalEvent.Close position) = []
+world_events local _ = []
 
--- what is assumed of an event at a node: a letter is one that was sent, the id of a call is new, and only the node that
--- moves objects begins a move
+-- what is assumed of an event at a node: a letter is one that was sent, the id of a call is new, only the node that
+-- moves objects begins a move, a position at which calls begin or will begin is a start of the world, and the layout of
+-- a start of which the node hears is the world's
 abbrev pub IsPremisedHere : World → LocalObject → LocalEvent → Type 0
-IsPremisedHere world local (LocalEvent.BeginRead id) = IsUnused world id
-IsPremisedHere world local (LocalEvent.BeginWrite id value) = IsUnused world id
+IsPremisedHere world local (LocalEvent.BeginRead id) = IsUnused world id × IsStart world local.start
+IsPremisedHere world local (LocalEvent.BeginWrite id value) = IsUnused world id × IsStart world local.start
 IsPremisedHere world local (LocalEvent.BeginMove id layout) =
     IsUnused world id × (local.node ≡ (world.files local.node).mover)
 IsPremisedHere world local (LocalEvent.Serve letter) = WasSentAs world letter
 IsPremisedHere world local (LocalEvent.Take letter) = WasSentAs world letter
+IsPremisedHere world local (LocalEvent.Grow id) = IsStart world (suc local.start)
+IsPremisedHere world local (LocalEvent.Hear start layout) = slice_get (known_layouts world 0) start ≡ Some layout
+IsPremisedHere world local (LocalEvent.ReadOn id) = IsStart world local.start
+IsPremisedHere world local (LocalEvent.BeginAnew id) = IsStart world local.start
 IsPremisedHere world local _ = Unit {0}
 
 -- The history

@@ -1,10 +1,17 @@
 //! Each event at a node is an event of the world.
-ghost use Rattle.refinement.specs.Laws.{LocalEventsAreWorldEvents, ResentLettersWereSent, RestartsAreWorldEvents};
+ghost use Rattle.refinement.specs.Laws.{LocalEventsAreWorldEvents, PlainEventsAreWorldEvents};
+ghost use Rattle.refinement.specs.Laws.{ResentLettersWereSent, RestartsAreWorldEvents};
 
-/// A law: what a node does, by what it keeps itself, is what events of the world do; or there is no event, and nothing
-/// else changes.
+/// A law: what a node does, by what it keeps itself, is what some events of the world do; or there is no event, and
+/// nothing else changes. If a node begins a read or a write at its start, or lets a call that reads before it go on
+/// there, the call of the world began at position 0.
 pub fn local_events_are_world_events()
     ensures { LocalEventsAreWorldEvents }
+{}
+
+/// A law: unless a call begins or goes on at the node's start, this is a certain event of the world, or none.
+pub fn plain_events_are_world_events()
+    ensures { PlainEventsAreWorldEvents }
 {}
 
 /// A law: a node that stops, starts again and keeps what its log keeps is an event of the world.

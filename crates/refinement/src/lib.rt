@@ -9,9 +9,10 @@ pub use clusters::{
     clusters_are_atomic, clusters_have_systems, clusters_keep_values, seen_histories_are_atomic,
 };
 pub use events::{
-    local_events_are_world_events, resent_letters_were_sent, restarts_are_world_events,
+    local_events_are_world_events, plain_events_are_world_events, resent_letters_were_sent,
+    restarts_are_world_events,
 };
-pub use starting::{start_events_are_world_events, starts_grow};
+pub use starting::starts_grow;
 pub use systems::{
     answered_reads_have_values, answers_are_in_history, events_in_a_row_are_events,
     systems_are_atomic, systems_have_worlds, systems_keep_values,
