@@ -17,8 +17,9 @@ use Rattle.open_calls.proofs.CallsOfNodeLemmas.{differs}
 use Rattle.open_calls.proofs.ListLemmas.{all_append}
 use Rattle.open_calls.proofs.OpenCallLemmas.{found}
 use Rattle.local_object.specs.Doing.{can_close, close_events, has_move_open, is_move_call, is_served, serve_events}
-use Rattle.local_object.specs.Events.{LocalEvent, Outcome, advanced_at, advanced_here, all_done, begun_here, done_here, learnt_from}
-use Rattle.local_object.specs.Events.{on_open_call, served_here, silent}
+use Rattle.local_object.specs.Events.{LocalEvent, advanced_at, advanced_here, all_done, done_here, served_here}
+use Rattle.local_object.specs.Outcomes.{Outcome, begun_here, learnt_from, on_open_call, silent}
+use Rattle.local_object.specs.Starting.{anew_number, reads_at, reads_here}
 use Rattle.local_object.specs.Local.{LocalObject, last_position, layout_here, with_heard}
 use Rattle.local_object.proofs.HeardLayoutLemmas.{calls_heard}
 use Rattle.local_object.proofs.HeardPlaceLemmas.{layout_stays}
@@ -161,6 +162,21 @@ advance_keeps local id =
     on_open_keeps local id (λ call. advanced_here fragment local call (due_phase call))
     (λ call move. advanced_keeps local call move (due_phase call))
 
+-- a call reads at the start, in a phase of any number
+reading_keeps : (local : LocalObject) (call : NodeCall) → is_move call.kind ≡ true → (number : ℕ) →
+    KeepsOpen local (reads_here local call number).local
+reading_keeps local call move number all = at (layout_here local local.start)
+  where
+    at : (o : Option Layout) → HasOnlyMoves (reads_at local call number local.start o).local
+        × ((id : ℕ) → is_open (reads_at local call number local.start o).local id ≡ is_open local id)
+    at None = (all, λ id. refl)
+    at (Some layout) = with_keeps local _ move all
+
+pub anew_keeps : (local : LocalObject) (id : ℕ) → KeepsOpen local (done_here fragment local (LocalEvent.BeginAnew id)).local
+anew_keeps local id =
+    on_open_keeps local id (λ call. reads_here local call (anew_number call local.start))
+    (λ call move. reading_keeps local call move (anew_number call local.start))
+
 pub settle_keeps : (local : LocalObject) (id : ℕ) (value : List ℕ) →
     KeepsOpen local (done_here fragment local (LocalEvent.Settle id value)).local
 settle_keeps local id value =
@@ -209,6 +225,6 @@ move_opens local first heard id layout all =
     let last = last_position local in
     let next = with_heard local (suc last) layout in
     let here = last_known local (ap is_some heard) in
-    subst (λ (o : Option Layout). OpensMove local id (begun_here next id Move (first_stage Move last) (Spread Pending) last o).local)
+    subst (λ (o : Option Layout). OpensMove local id (begun_here next id Move (first_stage Move last) (Spread Pending) 1 last o).local)
     (sym (layout_stays local (suc last) layout last here.0 here.1))
     (all_append (λ (call : NodeCall). is_move call.kind ≡ true) local.calls _ all (refl, tt), λ other. some_push local.calls _ other)

@@ -2,6 +2,7 @@
 use Rattle.std.proofs.Common.{◌≡◌, inl, inr, ℕ, Bool, true, false, cond, eqb, is_some, not, List, [], ◌∷◌, ◌++◌, Option, None, Some}
 use Rattle.std.proofs.Common.{refl, sym, subst, ap, ◌∙◌}
 use Rattle.bank.specs.declared.kind.Kind.{Kind}
+use Rattle.call.specs.Call.{reached}
 use Rattle.call.specs.declared.next.Next.{Next}
 use Rattle.call.specs.declared.next.Next.TheVariants as next
 use Rattle.encoder.specs.Fragment.{fragment}
@@ -15,12 +16,13 @@ use Rattle.local_object.specs.Ended.{all_told, told_if}
 use Rattle.local_object.specs.Events.{LocalEvent, all_done, done_here}
 use Rattle.local_object.specs.Going.{next_if}
 use Rattle.local_object.specs.Local.{LocalObject}
-use Rattle.local_object.specs.Taking.{AreSettling, IsReplyOutcome, begin_events, call_events, can_begin, lead_events, machine_of}
-use Rattle.local_object.specs.Taking.{repeats, step_events}
+use Rattle.local_object.specs.Taking.{AreSettling, IsReplyOutcome, begin_anew_events, begin_events, call_events, can_begin}
+use Rattle.local_object.specs.Taking.{can_begin_anew, going_events, grows_by, is_read_begin, lead_events, machine_of, repeats}
+use Rattle.local_object.specs.Taking.{restart_events, step_events}
 use Rattle.recoveries.proofs.KeptCallLemmas.{found_id}
 use Rattle.recoveries.proofs.TakenReplyLemmas.{gone_on, taken_to}
 use Rattle.node_keeper.specs.Delivering.{first_id}
-use Rattle.node.proofs.OpenObjectLemmas.{HasOnlyMoves, advance_keeps, is_open, none_without, others_without}
+use Rattle.node.proofs.OpenObjectLemmas.{HasOnlyMoves, advance_keeps, anew_keeps, is_open, none_without, others_without}
 use Rattle.node.proofs.OpenObjectLemmas.{settle_keeps, take_keeps}
 
 -- where only moves were open, only moves are, and under the same ids, but for the one that ended, if one is given
@@ -69,11 +71,23 @@ module _ (local : LocalObject) (all : HasOnlyMoves local) where
       go true = advance_keeps local call.id all
       go false = (all, λ id. refl)
 
+  restarts : (call : NodeCall) (kind : Kind) (position : ℕ) → EndsBy local (restart_events local (machine_of call) kind position)
+  restarts call kind position = go (is_read_begin (reached (machine_of call)))
+    where
+      anew : (b : Bool) → EndsBy local (cond b (LocalEvent.BeginAnew call.id ∷ []) [])
+      anew true = anew_keeps local call.id all
+      anew false = (all, λ id. refl)
+
+      go : (b : Bool) → EndsBy local
+          (cond b (begin_anew_events local (machine_of call)) (begin_events local.places (machine_of call) kind position))
+      go true = anew (can_begin_anew local (machine_of call))
+      go false = begins call kind position
+
   steps : (id : ℕ) (call : NodeCall) → open_call local.calls id ≡ Some call → (n : Next) →
-      EndsBy local (step_events local.places (machine_of call) n)
+      EndsBy local (step_events local (machine_of call) n)
   steps id call e next.Wait = nothing
   steps id call e next.Settle = nothing
-  steps id call e (next.Restart kind position) = begins call kind position
+  steps id call e (next.Restart kind position) = restarts call kind position
   steps id call e (next.Begin kind position) = begins call kind position
   steps id call e next.Answer =
       let ends = answer_ends local id call e all in (
@@ -85,25 +99,39 @@ module _ (local : LocalObject) (all : HasOnlyMoves local) where
   leads : (again : Bool) (id : ℕ) → EndsBy local (lead_events again local id)
   leads again id = go (open_call local.calls id) refl
     where
-      go : (o : Option NodeCall) → open_call local.calls id ≡ o → EndsBy local (call_events again local.places o)
+      go : (o : Option NodeCall) → open_call local.calls id ≡ o → EndsBy local (call_events again local o)
       go None e = (all, λ other. refl)
       go (Some call) e = steps id call e (next_if again (machine_of call))
+
+-- the start grows by the call, if it can, and the call goes on
+goes : (local : LocalObject) → HasOnlyMoves local → (again : Bool) (id : ℕ) → EndsBy local (going_events again local id)
+goes local all again id = go (grows_by local (open_call local.calls id))
+  where
+    grows : Bool → List LocalEvent
+    grows b = cond b (LocalEvent.Grow id ∷ []) []
+
+    go : (b : Bool) → EndsBy local (grows b ++ lead_events again (all_done fragment local (grows b)).local id)
+    go true =
+        let grown = (done_here fragment local (LocalEvent.Grow id)).local in
+        let ends = leads grown all again id in
+        (ends.0, ends_then local grown _ _ (λ other. refl) ends.1)
+    go false = leads local all again id
 
 -- the call settles what it fetched, if it can, and goes on
 goes_on : (local : LocalObject) (again : Bool) (id : ℕ) (settling : List LocalEvent) → AreSettling local id settling → HasOnlyMoves local →
     HasOnlyMoves (gone_on again local id settling) × EndsOpen local
-    (first_id (all_told fragment local (settling ++ lead_events again (all_done fragment local settling).local id)))
+    (first_id (all_told fragment local (settling ++ going_events again (all_done fragment local settling).local id)))
     (gone_on again local id settling)
 goes_on local again id settling (inl none) all =
     subst (λ (es : List LocalEvent). HasOnlyMoves (gone_on again local id es) × EndsOpen local
-    (first_id (all_told fragment local (es ++ lead_events again (all_done fragment local es).local id))) (gone_on again local id es))
-    (sym none.0) (leads local all again id)
+    (first_id (all_told fragment local (es ++ going_events again (all_done fragment local es).local id))) (gone_on again local id es))
+    (sym none.0) (goes local all again id)
 goes_on local again id settling (inr some) all =
     let settled = (done_here fragment local (LocalEvent.Settle id some.0)).local in
     let kept = settle_keeps local id some.0 all in
-    let ends = leads settled kept.0 again id in
+    let ends = goes settled kept.0 again id in
     subst (λ (es : List LocalEvent). HasOnlyMoves (gone_on again local id es) × EndsOpen local
-    (first_id (all_told fragment local (es ++ lead_events again (all_done fragment local es).local id))) (gone_on again local id es))
+    (first_id (all_told fragment local (es ++ going_events again (all_done fragment local es).local id))) (gone_on again local id es))
     (sym some.2) (ends.0, ends_then local settled _ _ kept.1 ends.1)
 
 -- a letter is taken

@@ -5,6 +5,7 @@ use Rattle.std.proofs.lemmas.Option.{same_Some}
 use Rattle.bank.specs.declared.kind.Kind.{Kind}
 use Rattle.bank.specs.declared.kind.Kind.TheVariants as kind
 use Rattle.bank.specs.declared.status.Status.TheVariants as status
+use Rattle.call.specs.Call.{reached}
 use Rattle.call.specs.declared.next.Next.{Next}
 use Rattle.call.specs.declared.next.Next.TheVariants as next
 use Rattle.encoder.specs.Fragment.{fragment}
@@ -16,12 +17,14 @@ use Rattle.mail.specs.Phase.{Phase, after_body, has_taken, is_current, with_repl
 use Rattle.open_calls.specs.OpenCalls.{IsLacking, IsReady, NodeCall, due_phase, open_call, taking_open}
 use Rattle.local_object.specs.declared.progress.Ended.{Ended}
 use Rattle.local_object.specs.Doing.{is_taken}
-use Rattle.local_object.specs.Events.{LocalEvent, all_done, learnt_from}
+use Rattle.local_object.specs.Events.{LocalEvent, all_done}
+use Rattle.local_object.specs.Outcomes.{learnt_from}
 use Rattle.local_object.specs.Going.{next_if}
 use Rattle.local_object.specs.Leaving.{final_position, if_final, is_at, leaving, left_behind}
 use Rattle.local_object.specs.Local.{LocalObject}
 use Rattle.local_object.specs.May.{MayAllHappen}
-use Rattle.local_object.specs.Taking.{AreSettling, GoesOn, IsReplyOutcome, call_events, can_begin, lead_events, machine_of}
+use Rattle.local_object.specs.Taking.{AreSettling, GoesOn, IsReplyOutcome, begin_anew_events, begin_events, call_events}
+use Rattle.local_object.specs.Taking.{can_begin, can_begin_anew, grow_events, grows_by, is_read_begin, lead_events, machine_of}
 use Rattle.local_object.specs.Taking.{repeats, step_events}
 use Rattle.local_object.proofs.HeardLayoutLemmas.{calls_heard}
 use Rattle.recoveries.proofs.KeptCallLemmas.{found_id}
@@ -137,23 +140,42 @@ module _ (local new : LocalObject) (again : Bool) (id : ℕ) (call : NodeCall) (
     begun_complete true may is = complete_same may.0.0 may.0.1 (either_complete may.0.0 may.0.2)
     begun_complete false may is = absurd (stays is)
 
-    step_complete : (n : Next) → MayAllHappen fragment local (step_events local.places (machine_of call) n) →
-        new ≡ (all_done fragment local (step_events local.places (machine_of call) n)).local → IsSome call.phase.end
+    anew_complete : (b : Bool) → MayAllHappen fragment local (cond b (LocalEvent.BeginAnew call.id ∷ []) []) →
+        new ≡ (all_done fragment local (cond b (LocalEvent.BeginAnew call.id ∷ []) [])).local → IsSome call.phase.end
+    anew_complete true may is = complete_same may.0.0 may.0.1 may.0.2.complete
+    anew_complete false may is = absurd (stays is)
+
+    either_begun : (anew : Bool) (k : Kind) (at : ℕ) → let events : List LocalEvent =
+        cond anew (begin_anew_events local (machine_of call)) (begin_events local.places (machine_of call) k at) in
+        MayAllHappen fragment local events → new ≡ (all_done fragment local events).local → IsSome call.phase.end
+    either_begun true k at may is = anew_complete (can_begin_anew local (machine_of call)) may is
+    either_begun false k at may is = begun_complete (can_begin local.places (machine_of call) k at) may is
+
+    step_complete : (n : Next) → MayAllHappen fragment local (step_events local (machine_of call) n) →
+        new ≡ (all_done fragment local (step_events local (machine_of call) n)).local → IsSome call.phase.end
     step_complete next.Wait may is = absurd (stays is)
     step_complete next.Settle may is = absurd (stays is)
-    step_complete (next.Restart k at) may is = begun_complete (can_begin local.places (machine_of call) k at) may is
-    step_complete (next.Begin k at) may is = begun_complete (can_begin local.places (machine_of call) k at) may is
+    step_complete (next.Restart k at) may is = either_begun (is_read_begin (reached (machine_of call))) k at may is
+    step_complete (next.Begin k at) may is = either_begun false k at may is
     step_complete next.Answer may is =
         let other = may.0.0 in complete_same other may.0.1 may.0.2.complete
 
     pub lead_complete : MayAllHappen fragment local (lead_events again local id) →
         new ≡ (all_done fragment local (lead_events again local id)).local → IsSome call.phase.end
     lead_complete may is =
-        let same : lead_events again local id ≡ call_events again local.places (Some call) =
-        ap (call_events again local.places) found in
+        let same : lead_events again local id ≡ call_events again local (Some call) =
+        ap (call_events again local) found in
         step_complete (next_if again (machine_of call))
         (subst (λ (es : List LocalEvent). MayAllHappen fragment local es) same may)
         (subst (λ (es : List LocalEvent). new ≡ (all_done fragment local es).local) same is)
+
+-- the calls are those of before after the start grew, or did not grow
+grown_calls : (local : LocalObject) (id : ℕ) → (all_done fragment local (grow_events local id)).local.calls ≡ local.calls
+grown_calls local id = go (grows_by local (open_call local.calls id))
+  where
+    go : (b : Bool) → (all_done fragment local (cond b (LocalEvent.Grow id ∷ []) [])).local.calls ≡ local.calls
+    go true = refl
+    go false = refl
 
 -- a reply was taken, and its call went on
 gone_final : (old new : LocalObject) (letter : Letter) (letters : List Letter) (ended : List Ended) (position : ℕ) →
@@ -171,15 +193,20 @@ gone_final old new letter letters ended position goes left (Some first) found e 
     let is = final_kind second.phase.kind second.phase.position position
     (second_leaves old letter position first found ∙ e) in
     let before : List LocalEvent = LocalEvent.Take letter ∷ goes.settling in
-    let lead = lead_events (repeats old letter) settled id in
-    let stays : new ≡ settled → ⊥ =
+    let again = repeats old letter in
+    let grow = grow_events settled id in
+    let grown = (all_done fragment settled grow).local in
+    let lead = lead_events again grown id in
+    let grown_found : open_call grown.calls id ≡ Some third.0 =
+    ap (λ calls. open_call calls id) (grown_calls settled id) ∙ third.1 in
+    let stays : new ≡ grown → ⊥ =
     λ same. none_left (leaving old id) (leaving new id) position
-    (ap (λ (l : LocalObject). leaving l id) same ∙ ap final_position third.1
+    (ap (λ (l : LocalObject). leaving l id) same ∙ ap final_position grown_found
     ∙ ap (λ (p : Phase). if_final p.kind p.position) third.2 ∙ second_leaves old letter position first found
     ∙ sym (ap final_position found)) left in
-    let complete = lead_complete settled new (repeats old letter) id third.0 third.1 stays
-    (may_second old before lead goes.leads.done.may)
-    (goes.leads.done.local ∙ all_done_both old before lead) in record {
+    let complete = lead_complete grown new again id third.0 grown_found stays
+    (may_second settled grow lead (may_second old before (grow ++ lead) goes.leads.done.may))
+    (goes.leads.done.local ∙ all_done_both old before (grow ++ lead) ∙ all_done_both settled grow lead) in record {
       call = second;
       carried = taken_found old letter position first found;
       kind = is.0;

@@ -16,14 +16,16 @@ use Rattle.piece.specs.declared.piece.Piece.{Piece}
 use Rattle.record.specs.declared.call.CallKind.{CallKind}
 use Rattle.record.specs.declared.call.CallKind.TheVariants.{Read, Write, Move}
 use Rattle.record.specs.declared.stage.Stage.{Stage}
+use Rattle.record.specs.declared.stage.Stage.TheVariants.{ReadNext}
 use Rattle.record.specs.Legal.{first_stage}
-use Rattle.record.specs.PhaseOrder.{begun_at}
 use Rattle.record.specs.Sending.{requests}
 use Rattle.letter.specs.declared.letter.Letter.{Letter}
 use Rattle.mail.specs.Message.{is_request}
 use Rattle.local_object.specs.Doing.{IsOutcome, is_served, serve_events}
-use Rattle.local_object.specs.Events.{LocalEvent, advanced_at, advanced_here, all_done, begun_here, done_here, learnt_from, letter_of}
-use Rattle.local_object.specs.Events.{on_open_call, pieces_here, reply_letters, served_here, silent}
+use Rattle.local_object.specs.Events.{LocalEvent, advanced_at, advanced_here, all_done, called_here, done_here}
+use Rattle.local_object.specs.Events.{pieces_here, reply_letters, served_here}
+use Rattle.local_object.specs.Outcomes.{begun_here, learnt_from, letter_of, on_open_call, silent}
+use Rattle.local_object.specs.Starting.{anew_number, first_number, number_at, reads_at, reads_here}
 use Rattle.local_object.specs.KeptBanks.{kept_reply}
 use Rattle.local_object.specs.Local.{LocalObject, bank_here, last_position, layout_here, with_heard}
 use Rattle.local_object.specs.Resent.{IsResent, current_letters}
@@ -50,11 +52,29 @@ requests_ask local layout call number kind position [] member piece = tt
 requests_ask local layout call number kind position (server ∷ servers) member piece =
     (refl, requests_ask local layout call number kind position servers (suc member) piece)
 
-begun_asks : (local : LocalObject) (id : ℕ) (call_kind : CallKind) (stage : Stage) (kind : Kind) (position : ℕ)
-    (layout : Option Layout) → AllByRecursion Asks (begun_here local id call_kind stage kind position layout).sent
-begun_asks local id call_kind stage kind position None = tt
-begun_asks local id call_kind stage kind position (Some layout) =
-    requests_ask local layout id 1 kind position layout.members 0 empty_piece
+begun_asks : (local : LocalObject) (id : ℕ) (call_kind : CallKind) (stage : Stage) (kind : Kind) (number position : ℕ)
+    (layout : Option Layout) → AllByRecursion Asks (begun_here local id call_kind stage kind number position layout).sent
+begun_asks local id call_kind stage kind number position None = tt
+begun_asks local id call_kind stage kind number position (Some layout) =
+    requests_ask local layout id number kind position layout.members 0 empty_piece
+
+called_asks : (local : LocalObject) (id : ℕ) (call_kind : CallKind) →
+    AllByRecursion Asks (called_here local id call_kind).sent
+called_asks local id call_kind =
+    let start = local.start in
+    begun_asks local id call_kind (ReadNext start start) Next (first_number start) start (layout_here local start)
+
+reads_ask : (local : LocalObject) (call : NodeCall) (number start : ℕ) (layout : Option Layout) →
+    AllByRecursion Asks (reads_at local call number start layout).sent
+reads_ask local call number start None = tt
+reads_ask local call number start (Some layout) =
+    requests_ask local layout call.id number Next start layout.members 0 empty_piece
+
+reading_asks : (local : LocalObject) (number : NodeCall → ℕ) (call : Option NodeCall) →
+    AllByRecursion Asks (on_open_call local call (λ c. reads_here local c (number c))).sent
+reading_asks local number None = tt
+reading_asks local number (Some call) =
+    reads_ask local call (number call) local.start (layout_here local local.start)
 
 advanced_asks : (local : LocalObject) (call : NodeCall) (next : Kind × ℕ) (layout : Option Layout) →
     AllByRecursion Asks (advanced_at fragment local call next layout).sent
@@ -81,13 +101,13 @@ silent_asks local (Some call) change = tt
 event_asks : (local : LocalObject) (event : LocalEvent) → ServesNone event →
     AllByRecursion Asks (done_here fragment local event).sent
 event_asks local (LocalEvent.BeginRead id) none =
-    begun_asks local id Read (begun_at (first_stage Read 0) 0) Next 0 (layout_here local 0)
+    called_asks local id Read
 event_asks local (LocalEvent.BeginWrite id value) none =
-    begun_asks local id (Write value) (begun_at (first_stage (Write value) 0) 0) Next 0 (layout_here local 0)
+    called_asks local id (Write value)
 event_asks local (LocalEvent.BeginMove id layout) none =
     let last = last_position local in
     let next = with_heard local (suc last) layout in
-    begun_asks next id Move (first_stage Move last) (Spread Pending) last (layout_here next last)
+    begun_asks next id Move (first_stage Move last) (Spread Pending) 1 last (layout_here next last)
 event_asks local (LocalEvent.Advance id) none = open_asks local (open_call local.calls id)
 event_asks local (LocalEvent.Serve letter) none = absurd none
 event_asks local (LocalEvent.Take letter) none =
@@ -96,6 +116,12 @@ event_asks local (LocalEvent.Settle id value) none = silent_asks local (open_cal
 event_asks local (LocalEvent.Answer id) none = tt
 event_asks local (LocalEvent.GiveUp id) none = tt
 event_asks local (LocalEvent.Close position) none = tt
+event_asks local (LocalEvent.Grow id) none = tt
+event_asks local (LocalEvent.Hear start layout) none = tt
+event_asks local (LocalEvent.ReadOn id) none =
+    reading_asks local (λ call. number_at call local.start) (open_call local.calls id)
+event_asks local (LocalEvent.BeginAnew id) none =
+    reading_asks local (λ call. anew_number call local.start) (open_call local.calls id)
 
 all_ask : (local : LocalObject) (events : List LocalEvent) → AllByRecursion ServesNone events →
     AllByRecursion Asks (all_done fragment local events).sent
@@ -122,6 +148,10 @@ begins_serve_none (LocalEvent.Settle id value) other is = tt
 begins_serve_none (LocalEvent.Answer id) other is = tt
 begins_serve_none (LocalEvent.GiveUp id) other is = tt
 begins_serve_none (LocalEvent.Close position) other is = tt
+begins_serve_none (LocalEvent.Grow id) other is = tt
+begins_serve_none (LocalEvent.Hear start layout) other is = tt
+begins_serve_none (LocalEvent.ReadOn id) other is = tt
+begins_serve_none (LocalEvent.BeginAnew id) other is = tt
 
 -- Letters that are sent again
 

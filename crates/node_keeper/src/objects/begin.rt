@@ -18,7 +18,7 @@ use tag::{CallId, LONGEST_VALUE, Refusal};
 
 impl Objects {
     /// Begins a read of the object of a name, with an id that no other call of the object has in the whole cluster.
-    /// Returns the read's requests to the members of position 0.
+    /// Returns the read's requests to the members of the position at which the object's calls begin.
     ///
     /// Is refused with `NotNow` if a call with this id is open at the object, or with `NoMemory`.
     pub fn begin_read(&mut self, name: &Bytes, id: CallId) -> Result<Vec<Letter>, Refusal>
@@ -36,7 +36,7 @@ impl Objects {
     }
 
     /// Begins a write of this value to the object of a name, with an id that no other call of the object has in the
-    /// whole cluster. Returns the write's requests to the members of position 0.
+    /// whole cluster. Returns the write's requests to the members of the position at which the object's calls begin.
     ///
     /// Is refused with `NotNow` if a call with this id is open at the object, with `TooLong` if the value has more than
     /// `LONGEST_VALUE` bytes, or with `NoMemory`.
