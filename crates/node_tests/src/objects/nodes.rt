@@ -21,6 +21,10 @@ pub(crate) enum Act {
     Move(u8, &'static [u8]),
     /// Sends the letters again that were not answered.
     Resend,
+    /// Hears that calls may begin at this position, whose layout has this k and these members.
+    HearStart(u32, u8, &'static [u8]),
+    /// Has the call go on at the object's start.
+    ReadOn,
 }
 
 /// A step of a test: one node acts, and then all letters are handled, those too that are sent meanwhile.
@@ -88,20 +92,26 @@ impl Nodes {
     }
 
     fn play(&mut self, rt: &impl Abort, alloc: Global, step: &Step) {
-        let letters = self.act(rt, step);
+        let letters = self.act(rt, alloc, step);
         self.send(rt, step.node, letters);
         self.down = step.down;
         self.run(rt);
         assert_prints(rt, alloc, &self.ended, step.ended);
     }
 
-    fn act(&mut self, rt: &impl Abort, step: &Step) -> Vec<Letter> {
+    fn act(&mut self, rt: &impl Abort, alloc: Global, step: &Step) -> Vec<Letter> {
         let node = self.node(rt, step.node);
         let letters = match step.act {
             Act::Read => node.begin_read(step.id),
             Act::Write(text) => node.begin_write(step.id, Bytes::from_static(text)),
             Act::Move(k, members) => node.begin_move(step.id, layout(rt, k, members)),
             Act::Resend => node.resend(step.id),
+            Act::HearStart(position, k, members) => {
+                let heard = node.hear_start(position, layout(rt, k, members));
+                heard.expect(rt, "memory");
+                return Vec::new(alloc);
+            }
+            Act::ReadOn => node.read_on(step.id),
         };
         letters.expect(rt, "letters")
     }

@@ -63,6 +63,55 @@ static A_MOVE: [Step; 4] = [
     },
 ];
 
+const READ_AT_NODE_0: &str = "Some(Ended { id: 3, kind: Read, value: Some(b\"photo\") })";
+
+// After the move, node 0 reads although there is no quorum of the first members. Node 3 cannot do so before it hears of
+// the start.
+static STARTS: [Step; 6] = [
+    Step {
+        node: 0,
+        id: 1,
+        act: Act::Write(b"photo"),
+        down: None,
+        ended: WRITTEN,
+    },
+    Step {
+        node: 0,
+        id: 2,
+        act: Act::Move(1, &[2, 3]),
+        down: None,
+        ended: MOVED,
+    },
+    Step {
+        node: 0,
+        id: 3,
+        act: Act::Read,
+        down: Some(1),
+        ended: READ_AT_NODE_0,
+    },
+    Step {
+        node: 3,
+        id: 4,
+        act: Act::Read,
+        down: Some(1),
+        ended: READ_AT_NODE_0,
+    },
+    Step {
+        node: 3,
+        id: 4,
+        act: Act::HearStart(1, 1, &[2, 3]),
+        down: Some(1),
+        ended: READ_AT_NODE_0,
+    },
+    Step {
+        node: 3,
+        id: 4,
+        act: Act::ReadOn,
+        down: Some(1),
+        ended: "Some(Ended { id: 4, kind: Read, value: Some(b\"photo\") })",
+    },
+];
+
 static LOST_LETTERS: [Step; 2] = [
     Step {
         node: 0,
@@ -93,6 +142,11 @@ fn nothing_was_written(rt: HostRuntime) {
 #[test]
 fn a_move(rt: HostRuntime) {
     play(&rt, rt.alloc(), &A_MOVE);
+}
+
+#[test]
+fn starts(rt: HostRuntime) {
+    play(&rt, rt.alloc(), &STARTS);
 }
 
 #[test]
