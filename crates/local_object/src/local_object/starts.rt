@@ -37,9 +37,10 @@ impl LocalObject {
         Ok(())
     }
 
-    /// The read or write with this id goes on at the object's start, if it is open here and reads the sequence of
-    /// layouts at an earlier position. Returns its requests. Returns no letters, and changes nothing, if no such call
-    /// is open here, if its phase has a quorum of replies, or if there is no number in 32 bits for its new phase.
+    /// The call with this id goes on at the object's start, if it is open here and reads the sequence of layouts at an
+    /// earlier position. Returns its requests. Returns no letters, and changes nothing, if no such call is open here,
+    /// if it has settled a value, if its phase has a quorum of replies, or if there is no number in 32 bits for its new
+    /// phase.
     ///
     /// `NoMemory` is the only refusal.
     pub fn read_on(&mut self, id: CallId) -> Result<Vec<Letter>, Refusal>
