@@ -36,3 +36,15 @@ pub mod MoveIdLemmas
 pub mod DistinctMoveLemmas
 pub mod OpenMoveLawLemmas
 pub mod KillLemmas
+pub mod CommandViewLemmas
+pub mod ConnectionLemmas
+pub mod ServiceIdLemmas
+pub mod ServiceAnswerLemmas
+pub mod ServiceStepLemmas
+pub mod ServiceEndLemmas
+pub mod TalkStepLemmas
+pub mod ArrivalBoundLemmas
+pub mod HandledTalkLemmas
+pub mod TalkLemmas
+pub mod StartedTalkLemmas
+pub mod TalkEventLemmas

@@ -10,3 +10,4 @@ pub mod OpenMoves
 pub mod Interleaved
 pub mod StoppedStarts
 pub mod Kills
+pub mod Answers

@@ -1,4 +1,5 @@
 //! What each run of the processes of a cluster promises.
+ghost use Rattle.processes.specs.Answers.{ClientsGetTheirAnswers};
 ghost use Rattle.processes.specs.Interleaved.{SessionsAreEvents, StoppedSessionsAreEvents};
 ghost use Rattle.processes.specs.Interleaved.{UnexchangedSessionsAreEvents};
 ghost use Rattle.processes.specs.Laws.{ClientsSeeAtomicHistories, ProcessesAreAtomic};
@@ -29,6 +30,13 @@ pub fn processes_are_atomic()
 /// A law: for each name there is an atomic history of what the clients of the processes saw.
 pub fn clients_see_atomic_histories()
     ensures { ClientsSeeAtomicHistories }
+{
+    left_logs_are_read();
+}
+
+/// A law: each answer that is written to a client is one to the client's own command, and says what this history says.
+pub fn clients_get_their_answers()
+    ensures { ClientsGetTheirAnswers }
 {
     left_logs_are_read();
 }
