@@ -186,12 +186,12 @@ module _ (number : ℕ) (file : FileContents) (view : View) (time : ℕ) (talks 
         service_notices first ≡ [] → (middle : Desk) → AreServicesDone file.ticks delta middle more new →
         AllByRecursion (IsRight number file) more → UseIds view.ids more after →
         ((client : ℕ) → HasDeskIf client delta (ended_then arrival client) view middle (commands_then arrival client)) → All arrival
-    behind_one arrival first one sends says middle rest rights use now =
+    behind_one arrival first one sends says middle rest rights gave now =
         handled_of arrival more
         (ap (λ fs. fs ++ all_frames more) (sym sends) ∙ ap (λ ss. all_frames (ss ++ more)) (sym one))
         (ap (λ ns. ns ++ all_notices more) (sym says) ∙ ap (λ ss. all_notices (ss ++ more)) (sym one))
         (quiet_services number file file.ticks more (ended_then arrival) view after middle new (commands_then arrival)
-        (all_weaker FollowsUp IsQuiet follows_quiet more follows) rest rights use within now)
+        (all_weaker FollowsUp IsQuiet follows_quiet more follows) rest rights gave within now)
 
     -- a command has come in
     now_arrived : (other : ℕ) (command : Strings) (middle : Desk) → other < 2 ^ 64 → IsArrived old other command middle → (client : ℕ) →
@@ -250,17 +250,17 @@ module _ (number : ℕ) (file : FileContents) (view : View) (time : ℕ) (talks 
         let first = Service.Arrives other command in
         let does = subst (λ ss. AreServicesDone file.ticks delta old (ss ++ more) new) comes done in
         let rights = subst (λ ss. AllByRecursion (IsRight number file) (ss ++ more)) comes right in
-        let use = subst (λ ss. UseIds view.ids (ss ++ more) after) comes uses in
+        let gave = subst (λ ss. UseIds view.ids (ss ++ more) after) comes uses in
         behind_one (Some (came.Command other command)) first comes refl refl does.0 does.2 rights.1
-        (subst (λ ids. UseIds ids more after) use.1 use.2)
+        (subst (λ ids. UseIds ids more after) gave.1 gave.2)
         (λ client. now_arrived other command does.0 (small other command refl) does.1 client (unused client))
     all_handled (Some (came.Left other)) comes small unused =
         let first = Service.Leaves other in
         let does = subst (λ ss. AreServicesDone file.ticks delta old (ss ++ more) new) comes done in
         let rights = subst (λ ss. AllByRecursion (IsRight number file) (ss ++ more)) comes right in
-        let use = subst (λ ss. UseIds view.ids (ss ++ more) after) comes uses in
+        let gave = subst (λ ss. UseIds view.ids (ss ++ more) after) comes uses in
         behind_one (Some (came.Left other)) first comes refl refl does.0 does.2 rights.1
-        (subst (λ ids. UseIds ids more after) use.1 use.2)
+        (subst (λ ids. UseIds ids more after) gave.1 gave.2)
         (λ client. now_left other does.0 does.1 client)
 
 -- a node that handles a frame

@@ -48,3 +48,6 @@ pub mod HandledTalkLemmas
 pub mod TalkLemmas
 pub mod StartedTalkLemmas
 pub mod TalkEventLemmas
+pub mod TalkRunLemmas
+pub mod AnswerHistoryLemmas
+pub mod AnswerLawLemmas

@@ -17,7 +17,7 @@ use Rattle.processes.proofs.ProcessLawLemmas.{are_atomic}
 use Rattle.processes.proofs.SeenLemmas.{id_begun}
 
 -- a notice with which a call began says so, and has its id
-begins_with : (name : List ℕ) (notice : Notice) (entry : Entry) → IsBegunAs name notice entry → call_begun notice ≡ Some entry.call
+pub begins_with : (name : List ℕ) (notice : Notice) (entry : Entry) → IsBegunAs name notice entry → call_begun notice ≡ Some entry.call
 begins_with name (Notice.Reads other id) entry begun = ap Some (sym begun.1)
 begins_with name (Notice.Writes other id value) entry begun = ap Some (sym begun.1)
 begins_with name (Notice.Moves other id layout) entry begun = ap Some (sym begun.1)
@@ -79,6 +79,14 @@ module _ (processes : Processes) (cluster : NodeCluster) (is : IsClusterOf proce
 
   pub seen_through : IsHistoryOfSeen name processes.seen history
   seen_through = record { begins = begins; begun = begun_there; last = last_there; distinct = of.distinct; told = told_there }
+
+  -- no call of any object began later with the id of a call of the history
+  pub seen_last : (index time : ℕ) (entry : Entry) (notice : Notice) → slice_get history index ≡ Some entry →
+      slice_get processes.seen time ≡ Some notice → call_begun notice ≡ Some entry.call → time ≤ seen_through.begins index
+  unfolding seen_through
+  seen_last index time entry notice at seen same =
+      let there = of.begun index entry at in
+      is.last (of.begins index) time entry.call there.0 notice there.1 (begins_with name there.0 entry there.2) seen same
 
 pub clients_see : LeftLogIsRead → ClientsSeeAtomicHistories
 clients_see law processes reached name =

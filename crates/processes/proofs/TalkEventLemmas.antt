@@ -224,7 +224,7 @@ talks_handled number seen node after answers talks frame effects behind handles 
     left = step.left;
     replied = λ small. (let known = (is.each client).replied small in (
       known.0 ++ come_in client (length seen) (arrival_at frame),
-      subst₂ (λ as cs. WereWritten number client is.file now ids as cs (known.0 ++ come_in client (length seen) (arrival_at frame)))
+      subst₂ (λ ws cs. WereWritten number client is.file now ids ws cs (known.0 ++ come_in client (length seen) (arrival_at frame)))
           (sym (heard_answers client (length seen) (arrival_at frame) (talks client)))
           (sym (heard_commands client (length seen) (arrival_at frame) (talks client)))
           (written_more number client is.file now ids (talks client).answers (talks client).commands known.0

@@ -112,24 +112,24 @@ module _ (number : ℕ) (file : FileContents) (ticks : ℕ) where
 
 -- A command comes, or a connection ends
 
-same_less : (client : ℕ) (delta : Option ℕ) (old new : Desk) → new.calls ≡ old.calls → HasNoMore client delta (calls_of old) (calls_of new)
-same_less client delta old new same id call e mine = (call, sym (ap (λ cs. call_under cs id) same) ∙ e, refl)
+same_less : (client : ℕ) (kept : Option ℕ) (old new : Desk) → new.calls ≡ old.calls → HasNoMore client kept (calls_of old) (calls_of new)
+same_less client kept old new same id call e mine = (call, sym (ap (λ cs. call_under cs id) same) ∙ e, refl)
 
-module _ (client : ℕ) (delta : Option ℕ) (view : View) (old new : Desk) (other : ℕ) (commands : List Passed) where
+module _ (client : ℕ) (kept : Option ℕ) (view : View) (old new : Desk) (other : ℕ) (commands : List Passed) where
   -- nothing changes for another client
   pub elsewhere : (ended : Bool) → (other ≡ client → ⊥) →
       ((n : ℕ) → n ≢ other → connection_of new n ≡ connection_of old n) → new.calls ≡ old.calls →
-      HasDeskIf client delta ended view old commands → HasDeskIf client delta ended view new commands
+      HasDeskIf client kept ended view old commands → HasDeskIf client kept ended view new commands
   elsewhere ended differ others calls has =
-      subst (λ at. HasCommandsIf client delta ended view at (calls_of new) commands)
+      subst (λ at. HasCommandsIf client kept ended view at (calls_of new) commands)
       (sym (others client (λ same. differ (sym same))))
-      (kept_if client delta ended view view (connection_of old client) (calls_of old) (calls_of new) commands (widens_same view)
-      (same_less client delta old new calls) has)
+      (kept_if client kept ended view view (connection_of old client) (calls_of old) (calls_of new) commands (widens_same view)
+      (same_less client kept old new calls) has)
 
   -- a command has come in on the client's connection, which has not ended
   pub arrived : (command : Strings) (time : ℕ) → IsArrived old client command new → client < 2 ^ 64 → time ≤ length view.seen →
-      HasDeskIf client delta false view old commands →
-      HasDeskIf client delta false view new (commands ++ record { strings = command; time = time } ∷ [])
+      HasDeskIf client kept false view old commands →
+      HasDeskIf client kept false view new (commands ++ record { strings = command; time = time } ∷ [])
   arrived command time is small early has =
-      commands_more client delta view (connection_of old client) (connection_of new client) (calls_of old) (calls_of new) commands
-      (record { strings = command; time = time }) is.state is.waiting (same_less client delta old new is.calls) small early has
+      commands_more client kept view (connection_of old client) (connection_of new client) (calls_of old) (calls_of new) commands
+      (record { strings = command; time = time }) is.state is.waiting (same_less client kept old new is.calls) small early has
