@@ -1,8 +1,8 @@
 -- What an answer says is what the histories of the objects say.
-use Rattle.std.proofs.Common.{◌≡◌, ◌⊎◌, inl, inr, ◌<◌, ◌≤◌, ◌+◌, ℕ, zero, suc, Bool, true, false, cond, nat_lt, List, [], ◌∷◌, length}
-use Rattle.std.proofs.Common.{Option, None, Some, IsSome, is_some, Ok, slice_get, refl, sym, subst, ap, ◌∙◌, arith}
+use Rattle.std.proofs.Common.{◌≡◌, inl, inr, ◌≤◌, ℕ, zero, suc, List, [], ◌∷◌}
+use Rattle.std.proofs.Common.{Option, None, Some, is_some, Ok, slice_get, refl, sym, subst, ap, ◌∙◌}
 use Rattle.std.proofs.lemmas.Option.{same_Some}
-use Rattle.client_commands.specs.Deletion.{Deletion, count_of, is_written_again, left_over, name_now}
+use Rattle.client_commands.specs.Deletion.{Deletion, left_over, name_now}
 use Rattle.client_commands.specs.Reading.{command_at}
 use Rattle.client_commands.specs.declared.answer.Answer.{Answer}
 use Rattle.client_commands.specs.declared.answer.Answer.TheVariants as answers
@@ -14,9 +14,8 @@ use Rattle.client_commands.specs.declared.command.Wanted.TheVariants as wants
 use Rattle.cluster_file.specs.File.{FileContents}
 use Rattle.deeds.specs.CallId.{CallIds}
 use Rattle.deeds.specs.Deeds.{Notice}
-use Rattle.local_object.specs.declared.progress.Ended.{Ended}
-use Rattle.node_clients.specs.Answers.{kind_answer, last_answer, told_value}
-use Rattle.node_clients.specs.Calls.{call_answer, deletion_of, left_of, rest_of, wanted_by}
+use Rattle.node_clients.specs.Answers.{kind_answer, last_answer}
+use Rattle.node_clients.specs.Calls.{deletion_of, left_of, wanted_by}
 use Rattle.node_clients.specs.Connections.{asked}
 use Rattle.node_clients.specs.Served.{call_begun}
 use Rattle.node_clients.specs.Services.{begun_notices}
@@ -24,138 +23,18 @@ use Rattle.node_clients.specs.declared.next.Next.{Next}
 use Rattle.node_clients.specs.declared.next.Next.TheVariants as next
 use Rattle.node_clients.specs.declared.open_call.OpenCall.{OpenCall}
 use Rattle.node_effects.specs.Seen.{all_seen}
-use Rattle.record.specs.Sending.{value_or_empty}
 use Rattle.record.specs.declared.call.Entry.{Entry}
-use Rattle.record.specs.declared.call.Operation.{Operation}
 use Rattle.record.specs.declared.call.Operation.TheVariants as operation
-use Rattle.refinement.specs.SeenHistories.{IsBegunAs, IsToldAt}
-use Rattle.refinement.proofs.PlaceLemmas.{get_same}
-use Rattle.processes.specs.Answers.{AnswersItsCommands, AreWritten, IsAnswerTo, IsAnswered, IsCallOf, IsResult, Passed, SeenHistory}
+use Rattle.refinement.specs.SeenHistories.{IsBegunAs}
+use Rattle.processes.specs.Answers.{IsAnswerTo, IsAnswered, IsCallOf, IsResult, Passed, SeenHistory}
 use Rattle.processes.specs.Events.{call_begun as id_begun}
-use Rattle.processes.proofs.CommandViewLemmas.{HasReason, IsEndOf, IsNextOf, IsOpenFor, IsOwnCall, IsReplied, View, WroteOnce, Wrote}
-use Rattle.processes.proofs.SeenHistoryLemmas.{begins_with}
-use Rattle.processes.proofs.StandingLemmas.{IsAmong}
+use Rattle.processes.proofs.CommandViewLemmas.{HasReason, IsEndOf, IsNextOf, IsOpenFor, View}
 use Rattle.processes.proofs.TalkLemmas.{WereTold, WereWritten}
-
--- what is left of a DEL has the same names
-same_count : (delta : Option ℕ) (deletion rest : Deletion) → left_over delta deletion ≡ Some rest → count_of rest ≡ count_of deletion
-same_count delta deletion rest left = go (is_written_again delta deletion.made) (nat_lt 1 _) left
-  where
-    go : (again more : Bool) →
-        cond again (Some (record deletion { made = deletion.made + 1 }))
-        (cond more (Some (record deletion { done = deletion.done + 1; made = 0 })) None) ≡ Some rest →
-        count_of rest ≡ count_of deletion
-    go true more e = ap count_of (sym (same_Some (record deletion { made = deletion.made + 1 }) rest e))
-    go false true e = ap count_of (sym (same_Some (record deletion { done = deletion.done + 1; made = 0 }) rest e))
-    go false false e = absurd (cc)
-
-all_same_count : (view : View) (from : ℕ) (delta : Option ℕ) (count : ℕ) (first now : Deletion) → Wrote view from delta count first now →
-    count_of now ≡ count_of first
-all_same_count view from delta zero first now same = ap count_of (sym same)
-all_same_count view from delta (suc count) first now is =
-    all_same_count view from delta count is.1 now is.3 ∙ same_count delta first is.1 is.2
+use Rattle.processes.proofs.FoundCallLemmas.{IsFound, all_same_count, call_of, found, written_of}
 
 module _ (seen : List Notice) (histories : (name : List ℕ) → SeenHistory seen name)
     (last : (name : List ℕ) (index time : ℕ) (entry : Entry) (notice : Notice) → slice_get (histories name).calls index ≡ Some entry →
     slice_get seen time ≡ Some notice → id_begun notice ≡ Some entry.call → time ≤ (histories name).of.begins index) where
-  -- a call of a history that began as this notice says, and its answer, which was told
-  record IsFound (from to : ℕ) (notice : Notice) (ended : Ended) : Type 0 where
-    pub name : List ℕ
-    pub index : ℕ
-    pub entry : Entry
-    pub at : slice_get (histories name).calls index ≡ Some entry
-    pub begun : IsBegunAs name notice entry
-    pub kind : entry.kind ≡ ended.kind
-    pub value : entry.value ≡ ended.value
-    pub answered : IsSome entry.answered
-    pub began : from ≤ (histories name).of.begins index
-    pub place : ℕ
-    pub told : slice_get seen place ≡ Some (Notice.Tells name ended)
-    pub same : ended.id ≡ entry.call
-    pub in_time : place < to
-
-  found : (from to : ℕ) (notice : Notice) (id : ℕ) (told : List Notice) (ids : CallIds) (name : List ℕ) (ended : Ended) →
-      IsOwnCall (record { seen = seen; told = told; ids = ids }) from notice id → IsAmong told (Notice.Tells name ended) → ended.id ≡ id →
-      WereTold seen to told → IsFound from to notice ended
-  found from to notice id told ids name ended own among same were = record {
-    name = name;
-    index = here.index;
-    entry = here.entry;
-    at = here.at;
-    begun = subst (λ n. IsBegunAs name n here.entry) (get_same seen begins own.place there.0 notice there.1 own.at equal) there.2;
-    kind = here.kind;
-    value = here.value;
-    answered = here.answered;
-    began = let after = own.after in let e = equal in omega arith;
-    place = tells.0;
-    told = tells.1;
-    same = sym here.call;
-    in_time = tells.2;
-  }
-    where
-      tells : (place : ℕ) × (slice_get seen place ≡ Some (Notice.Tells name ended)) × (place < to)
-      tells = were (Notice.Tells name ended) among
-
-      here : IsToldAt (histories name).calls (histories name).of.begins tells.0 ended
-      here = (histories name).of.told tells.0 ended tells.1
-
-      begins : ℕ
-      begins = (histories name).of.begins here.index
-
-      there : (notice : Notice) × (slice_get seen begins ≡ Some notice) × IsBegunAs name notice here.entry
-      there = (histories name).of.begun here.index here.entry here.at
-
-      call_is : here.entry.call ≡ id
-      call_is = here.call ∙ same
-
-      equal : begins ≡ own.place
-      equal =
-          let first : begins ≤ own.place =
-          own.last begins there.0 there.1 (begins_with name there.0 here.entry there.2 ∙ ap Some call_is) in
-          let second : own.place ≤ begins =
-          last name here.index own.place here.entry notice here.at own.at (own.begins ∙ ap Some (sym call_is)) in omega arith
-
-  -- as one of the kinds of calls
-  call_of : (from to : ℕ) (notice : Notice) (ended : Ended) (is : IsFound from to notice ended) (name : List ℕ) (kind : Operation)
-      (value : Option (List ℕ)) → name ≡ is.name → is.entry.kind ≡ kind → is.entry.value ≡ value →
-      IsCallOf seen histories name from to kind value
-  call_of from to notice ended is name kind value same kinds values =
-      subst (λ n. IsCallOf seen histories n from to kind value) (sym same) (record {
-        index = is.index;
-        entry = is.entry;
-        at = is.at;
-        is_kind = kinds;
-        is_value = values;
-        answered = is.answered;
-        began = is.began;
-        place = is.place;
-        ended = ended;
-        told = is.told;
-        same_id = is.same;
-        same_value = sym is.value;
-        in_time = is.in_time;
-      })
-
-  once_of : (from to : ℕ) (told : List Notice) (ids : CallIds) (name : List ℕ) → WereTold seen to told →
-      WroteOnce (record { seen = seen; told = told; ids = ids }) from name →
-      IsCallOf seen histories name from to operation.Write (Some [])
-  once_of from to told ids name were once =
-      let is = found from to (Notice.Writes name once.id []) once.id told ids once.other once.ended once.call once.told once.same were in
-      call_of from to (Notice.Writes name once.id []) once.ended is name operation.Write (Some []) is.begun.0 is.begun.2 is.begun.3
-
-  -- all writes of a DEL
-  written_of : (from to : ℕ) (told : List Notice) (ids : CallIds) (delta : Option ℕ) (count : ℕ) (first now : Deletion) →
-      WereTold seen to told → Wrote (record { seen = seen; told = told; ids = ids }) from delta count first now →
-      IsCallOf seen histories (name_now now) from to operation.Write (Some []) → left_over delta now ≡ None →
-      AreWritten seen histories delta from to (suc count) (Some first)
-  written_of from to told ids delta zero first now were same call none =
-      (subst (λ d. IsCallOf seen histories (name_now d) from to operation.Write (Some [])) (sym same) call,
-      subst (AreWritten seen histories delta from to zero) (sym (ap (left_over delta) same ∙ none)) tt)
-  written_of from to told ids delta (suc count) first now were is call none =
-      (once_of from to told ids (name_now first) were is.0,
-      subst (AreWritten seen histories delta from to (suc count)) (sym is.2)
-      (written_of from to told ids delta count is.1 now were is.3 call none))
-
   module _ (number client : ℕ) (file : FileContents) (told : List Notice) (ids : CallIds) (command : Passed) (to : ℕ)
       (were : WereTold seen to told) where
     abbrev delta : Option ℕ
@@ -179,8 +58,8 @@ module _ (seen : List Notice) (histories : (name : List ℕ) → SeenHistory see
       abbrev call : OpenCall
       call = end.call
 
-      is : IsFound from to end.open_for.notice end.ended
-      is = found from to end.open_for.notice end.id told ids end.name end.ended end.open_for.own end.told end.same were
+      is : IsFound seen histories last from to end.open_for.notice end.ended
+      is = found seen histories last from to end.open_for.notice end.id told ids end.name end.ended end.open_for.own end.told end.same were
 
       -- the call as its command began it
       begun_as : (asks : Command) (notice : Notice) → asks ≡ end.open_for.asks → all_seen (begun_notices asks end.id) ≡ notice ∷ [] →
@@ -216,33 +95,36 @@ module _ (seen : List Notice) (histories : (name : List ℕ) → SeenHistory see
           IsCallOf seen histories (name_now deletion) from to operation.Write (Some [])
       last_write deletion same =
           let begun = begun_as (ask.Delete deletion) (Notice.Writes (name_now deletion) end.id []) same refl in
-          call_of from to end.open_for.notice end.ended is (name_now deletion) operation.Write (Some []) begun.0 begun.2 begun.3
+          call_of seen histories last from to end.open_for.notice end.ended is (name_now deletion) operation.Write (Some []) begun.0
+          begun.2 begun.3
 
       -- the result of a command that came
       result_of : (asks : Command) → asks ≡ end.open_for.asks → Result asks answer
       result_of (ask.Read wanted name) same =
           let begun = begun_as (ask.Read wanted name) (Notice.Reads name end.id) same refl in (
             end.ended.value,
-            call_of from to end.open_for.notice end.ended is name operation.Read end.ended.value begun.0 begun.2 is.value,
+            call_of seen histories last from to end.open_for.notice end.ended is name operation.Read end.ended.value begun.0
+                begun.2 is.value,
             answer_as (ask.Read wanted name) None wanted same refl refl
                 ∙ ap (λ k. kind_answer wanted k end.ended.value) (sym is.kind ∙ begun.2),
           )
       result_of (ask.Set name value) same =
           let begun = begun_as (ask.Set name value) (Notice.Writes name end.id value) same refl in (
-            call_of from to end.open_for.notice end.ended is name operation.Write (Some value) begun.0 begun.2 begun.3,
+            call_of seen histories last from to end.open_for.notice end.ended is name operation.Write (Some value) begun.0 begun.2 begun.3,
             answer_as (ask.Set name value) None wants.Value same refl refl
                 ∙ ap (λ k. kind_answer wants.Value k end.ended.value) (sym is.kind ∙ begun.2),
           )
       result_of (ask.Move name layout) same =
           let begun = begun_as (ask.Move name layout) (Notice.Moves name end.id layout) same refl in (
             end.ended.value,
-            call_of from to end.open_for.notice end.ended is name operation.Move end.ended.value begun.0 begun.2 is.value,
+            call_of seen histories last from to end.open_for.notice end.ended is name operation.Move end.ended.value begun.0
+                begun.2 is.value,
             answer_as (ask.Move name layout) None wants.Value same refl refl
                 ∙ ap (λ k. kind_answer wants.Value k end.ended.value) (sym is.kind ∙ begun.2),
           )
       result_of (ask.Delete deletion) same = (
         1,
-        written_of from to told ids delta zero deletion deletion were refl (last_write deletion same)
+        written_of seen histories last from to told ids delta zero deletion deletion were refl (last_write deletion same)
             (left_as (ask.Delete deletion) deletion same refl),
         answer_as (ask.Delete deletion) (Some deletion) wants.Value same refl refl,
       )
@@ -267,13 +149,17 @@ module _ (seen : List Notice) (histories : (name : List ℕ) → SeenHistory see
           inl (end.open_for.asks, ap command_at (sym same) ∙ asks, inl (result_of end.open_for.asks refl))
       end_right (next.Rest deletion) is_next asks =
           let same : ask.Delete deletion ≡ end.open_for.asks = cc in
-          inl (ask.Delete is_next.0, is_next.2, inl (
-            suc is_next.1,
-            written_of from to told ids delta is_next.1 is_next.0 deletion were is_next.3 (last_write deletion same)
-                (left_as (ask.Delete deletion) deletion same refl),
-            answer_as (ask.Delete deletion) (Some deletion) wants.Value same refl refl
-                ∙ ap (λ n. answers.Number n) (all_same_count view from delta is_next.1 is_next.0 deletion is_next.3),
-          ))
+          inl (
+            ask.Delete is_next.0,
+            is_next.2,
+            inl (
+              suc is_next.1,
+              written_of seen histories last from to told ids delta is_next.1 is_next.0 deletion were is_next.3 (last_write deletion same)
+                  (left_as (ask.Delete deletion) deletion same refl),
+              answer_as (ask.Delete deletion) (Some deletion) wants.Value same refl refl
+                  ∙ ap (λ n. answers.Number n) (all_same_count view from delta is_next.1 is_next.0 deletion is_next.3),
+            ),
+          )
 
     -- Any reason
 

@@ -1,5 +1,5 @@
 -- The law of the answers that clients get.
-use Rattle.std.proofs.Common.{◌≡◌, ◌<◌, ◌≤◌, ◌^◌, ℕ, false, List, [], Option, None, Some, slice_get, refl, sym, subst, ap, ◌∙◌}
+use Rattle.std.proofs.Common.{◌≡◌, ◌≤◌, ℕ, false, List, [], Some, slice_get, refl, subst}
 use Rattle.encoder.specs.Fragment.{fragment}
 use Rattle.record.specs.declared.call.Entry.{Entry}
 use Rattle.atomicity.specs.Atomic.{IsAtomic}
@@ -9,7 +9,7 @@ use Rattle.node_store.specs.Laws.{LeftLogIsRead}
 use Rattle.refinement.specs.Clusters.{NodeCluster}
 use Rattle.refinement.specs.SeenHistories.{IsHistoryOfSeen}
 use Rattle.refinement.proofs.ClusterLemmas.{seen_atomic}
-use Rattle.processes.specs.Answers.{AreOfPrograms, ClientsGetTheirAnswers, SeenHistory, Talk, new_talk, talk_in}
+use Rattle.processes.specs.Answers.{AreOfPrograms, ClientsGetTheirAnswers, SeenHistory, new_talk, talk_in}
 use Rattle.processes.specs.Events.{call_begun}
 use Rattle.processes.specs.Laws.{IsClusterOf}
 use Rattle.processes.specs.Processes.{Processes, new_processes}
@@ -17,7 +17,6 @@ use Rattle.processes.specs.Runs.{AreReached}
 use Rattle.processes.proofs.AnswerHistoryLemmas.{answers_all}
 use Rattle.processes.proofs.ProcessLawLemmas.{are_atomic}
 use Rattle.processes.proofs.SeenHistoryLemmas.{seen_last, seen_through}
-use Rattle.processes.proofs.TalkEventLemmas.{AreTalks}
 use Rattle.processes.proofs.TalkRunLemmas.{TalksAt, all_events}
 
 module _ (law : LeftLogIsRead) (processes : Processes) (reached : AreReached processes) where

@@ -1,12 +1,10 @@
 -- Which commands a client's connection still has to carry out, and which open call is for the first of them.
-use Rattle.std.proofs.Common.{◌≡◌, ◌≢◌, ◌⊎◌, inl, inr, ◌<◌, ◌≤◌, ◌+◌, ◌^◌, ℕ, zero, suc, Bool, true, false, eqb, eqb-true, eq-eqb}
-use Rattle.std.proofs.Common.{List, [], ◌∷◌, ◌++◌, length, map, Option, None, Some, is_some, Ok, refl, sym, subst, ap, ◌∙◌, arith}
+use Rattle.std.proofs.Common.{◌≡◌, ◌≢◌, ◌<◌, ◌≤◌, ◌^◌, ℕ, Bool, true, false, eqb, eqb-true, eq-eqb}
+use Rattle.std.proofs.Common.{List, [], ◌∷◌, ◌++◌, length, map, Option, None, Some, refl, sym, subst, ap, ◌∙◌, arith}
 use Rattle.std.specs.List.{AllByRecursion}
-use Rattle.client_commands.specs.declared.command.Command.{Command}
-use Rattle.client_commands.specs.declared.command.Command.TheVariants as ask
-use Rattle.node_clients.specs.Connections.{TakesNextAt, doing, waiting_on}
+use Rattle.node_clients.specs.Connections.{doing, waiting_on}
 use Rattle.node_clients.specs.declared.connection.Connection.{Connection}
-use Rattle.node_clients.specs.declared.connection.State.TheVariants.{Busy, Idle, Quit}
+use Rattle.node_clients.specs.declared.connection.State.TheVariants.{Busy, Idle}
 use Rattle.node_clients.specs.declared.next.Next.{Next}
 use Rattle.node_clients.specs.declared.next.Next.TheVariants as next
 use Rattle.node_clients.specs.declared.open_call.OpenCall.{OpenCall}
@@ -51,7 +49,7 @@ module _ (client : ℕ) (delta : Option ℕ) where
   HasNoMore old new = (id : ℕ) (call : OpenCall) → new id ≡ Some call → call.client ≡ Some client →
       (before : OpenCall) × (old id ≡ Some before) × (record before { age = 0 } ≡ record call { age = 0 })
 
-  same_client : (before call : OpenCall) → record before { age = 0 } ≡ record call { age = 0 } → call.client ≡ Some client →
+  pub same_client : (before call : OpenCall) → record before { age = 0 } ≡ record call { age = 0 } → call.client ≡ Some client →
       before.client ≡ Some client
   same_client before call same mine = ap (λ (c : OpenCall). c.client) same ∙ mine
 
@@ -91,17 +89,23 @@ module _ (client : ℕ) (delta : Option ℕ) where
           IsOpenHere new at commands id call
       opened id call mine was =
           let here = is.opened id was.0 was.1 (same_client was.0 call was.2 mine) in
-          let is_for = open_wider old new wide client delta here.1 id was.0 here.5 in
-          (here.0, here.1, here.2, here.3, here.4, record {
-            first = is_for.first;
-            is_next = is_for.is_next;
-            asks = is_for.asks;
-            asked_is = is_for.asked_is;
-            call_is = is_for.call_is ∙ ap Some was.2;
-            notice = is_for.notice;
-            begins = is_for.begins;
-            own = is_for.own;
-          })
+          let is_for = open_wider old new wide client delta here.1 id was.0 here.5 in (
+            here.0,
+            here.1,
+            here.2,
+            here.3,
+            here.4,
+            record {
+              first = is_for.first;
+              is_next = is_for.is_next;
+              asks = is_for.asks;
+              asked_is = is_for.asked_is;
+              call_is = is_for.call_is ∙ ap Some was.2;
+              notice = is_for.notice;
+              begins = is_for.begins;
+              own = is_for.own;
+            },
+          )
 
   pub kept_if : (ended : Bool) (old new : View) (at : Option Connection) (before after : ℕ → Option OpenCall) (commands : List Passed) →
       Widens old new → HasNoMore before after → HasCommandsIf ended old at before commands → HasCommandsIf ended new at after commands
@@ -150,86 +154,6 @@ module _ (client : ℕ) (delta : Option ℕ) where
           let differ : other ≢ id = λ same. absurd (let wrong : false ≡ true = sym t ∙ eq-eqb other id same in cc) in
           differ (is.one other id second call (sym (others other differ) ∙ f) also e mine)
 
-  -- A command that is taken
-
-  -- the first command is taken: this is next for it, and the others wait
-  pub record IsTaken (view : View) (at : Option Connection) (calls : ℕ → Option OpenCall) (commands : List Passed) (first : Next)
-      (waiting : List Next) : Type 0 where
-    pub command : Passed
-    pub rest : List Passed
-    pub those : commands ≡ command ∷ rest
-    pub is_next : IsNextOf view delta command first
-    pub waits : waiting ≡ as_came rest
-    pub none : (id : ℕ) (call : OpenCall) → calls id ≡ Some call → call.client ≡ Some client → ⊥
-    pub bound : client < 2 ^ 64
-    pub early : command.time ≤ length view.seen
-    pub times : AllByRecursion (λ (command : Passed). command.time ≤ length view.seen) rest
-
-  pub taken_of : (view : View) (at after : Option Connection) (calls : ℕ → Option OpenCall) (commands : List Passed) (first : Next) →
-      TakesNextAt at after (Some first) → HasCommands view at calls commands →
-      IsTaken view at calls commands first (waiting_on after)
-  taken_of view at after calls commands first takes is = go commands refl (is.idle takes.0) is.times
-    where
-      go : (those : List Passed) → commands ≡ those → Waits view delta those (waiting_on at) →
-          AllByRecursion (λ (command : Passed). command.time ≤ length view.seen) those →
-          IsTaken view at calls commands first (waiting_on after)
-      go [] e waits times = absurd (let wrong : first ∷ waiting_on after ≡ [] = sym takes.1 ∙ waits in cc)
-      go (command ∷ rest) e waits times =
-          let both : first ∷ waiting_on after ≡ waits.0 ∷ as_came rest = sym takes.1 ∙ waits.1 in
-          let same : first ≡ waits.0 = cc in record {
-            command = command;
-            rest = rest;
-            those = e;
-            is_next = subst (λ n. IsNextOf view delta command n) (sym same) waits.2;
-            waits = cc;
-            none = none_open view at calls commands is takes.0;
-            bound = is.bound command rest e;
-            early = times.0;
-            times = times.1;
-          }
-
-  -- from a connection that is not there, nothing is taken
-  pub none_taken : (at after : Option Connection) (first : Next) → TakesNextAt at after (Some first) → at ≡ None → ⊥
-  none_taken at after first takes none =
-      absurd (let wrong : first ∷ waiting_on after ≡ [] = sym takes.1 ∙ ap waiting_on none in cc)
-
-  -- the connection has been answered, or has quit: the others are left
-  pub answered_left : (old new : View) (at after : Option Connection) (before then : ℕ → Option OpenCall) (commands : List Passed)
-      (first : Next) → Widens old new → (taken : IsTaken old at before commands first (waiting_on after)) →
-      HasNoMore before then → HasCommands new after then taken.rest
-  answered_left old new at after before then commands first wide taken less =
-      none_left new after then taken.rest (λ e. rest_waits new taken.rest (waiting_on after) taken.waits)
-      (λ id call e mine. (let was = less id call e mine in
-      taken.none id was.0 was.1 (same_client was.0 call was.2 mine)))
-      (λ command rest e. taken.bound) (times_wider old new wide taken.rest taken.times)
-
-  -- the command has begun a call
-  pub opened_here : (old new : View) (at after : Option Connection) (before then : ℕ → Option OpenCall) (commands : List Passed)
-      (first : Next) (id : ℕ) → Widens old new → (taken : IsTaken old at before commands first (waiting_on after)) →
-      doing after ≡ Busy → ((other : ℕ) → other ≢ id → then other ≡ before other) →
-      ((call : OpenCall) → then id ≡ Some call → IsOpenFor client new delta taken.command id call) →
-      HasCommands new after then commands
-  opened_here old new at after before then commands first id wide taken busy others is_for = record {
-    idle = λ e. absurd (let wrong : Idle ≡ Busy = sym e ∙ busy in cc);
-    opened = λ other call e mine. (let same = only other call e mine in
-        (busy, taken.command, taken.rest, taken.those, taken.waits,
-        subst (λ n. IsOpenFor client new delta taken.command n call) (sym same)
-        (is_for call (sym (ap then same) ∙ e))));
-    one = λ one other call second e mine f also. only one call e mine ∙ sym (only other second f also);
-    bound = λ command rest e. taken.bound;
-    times = subst (AllByRecursion (λ (command : Passed). command.time ≤ length new.seen)) (sym taken.those)
-        (times_wider old new wide (taken.command ∷ taken.rest) (taken.early, taken.times));
-  }
-    where
-      only : (other : ℕ) (call : OpenCall) → then other ≡ Some call → call.client ≡ Some client → other ≡ id
-      only other call e mine = go (eqb other id) refl
-        where
-          go : (b : Bool) → eqb other id ≡ b → other ≡ id
-          go true t = eqb-true other id t
-          go false t =
-              let differ : other ≢ id = λ same. absurd (let wrong : false ≡ true = sym t ∙ eq-eqb other id same in cc) in
-              absurd (taken.none other call (sym (others other differ) ∙ e) mine)
-
   -- A command that comes
 
   came_append : (first second : List Passed) → as_came (first ++ second) ≡ as_came first ++ as_came second
@@ -239,9 +163,12 @@ module _ (client : ℕ) (delta : Option ℕ) where
   waits_more : (view : View) (commands : List Passed) (command : Passed) (waiting : List Next) → Waits view delta commands waiting →
       Waits view delta (commands ++ command ∷ []) (waiting ++ next.Came command.strings ∷ [])
   waits_more view [] command waiting none = (next.Came command.strings, ap (λ ns. ns ++ next.Came command.strings ∷ []) none, refl)
-  waits_more view (first ∷ rest) command waiting is =
-      (is.0, ap (λ ns. ns ++ next.Came command.strings ∷ []) is.1
-      ∙ ap (λ ns. is.0 ∷ ns) (sym (came_append rest (command ∷ []))), is.2)
+  waits_more view (first ∷ rest) command waiting is = (
+    is.0,
+    ap (λ ns. ns ++ next.Came command.strings ∷ []) is.1
+        ∙ ap (λ ns. is.0 ∷ ns) (sym (came_append rest (command ∷ []))),
+    is.2,
+  )
 
   pub commands_more : (view : View) (at after : Option Connection) (before then : ℕ → Option OpenCall) (commands : List Passed)
       (command : Passed) → doing after ≡ doing at → waiting_on after ≡ waiting_on at ++ next.Came command.strings ∷ [] →
@@ -265,5 +192,10 @@ module _ (client : ℕ) (delta : Option ℕ) where
     where
       kept : HasCommands view at then commands
       kept = commands_kept view view at before then commands
-          (record { longer = omega arith; at = λ place notice e. e; fresh = λ place id notice e begins given. e;
-          among = λ notice is. is; given = λ id is. is }) less is
+          (record {
+            longer = omega arith;
+            at = λ place notice e. e;
+            fresh = λ place id notice e begins given. e;
+            among = λ notice is. is;
+            given = λ id is. is;
+          }) less is

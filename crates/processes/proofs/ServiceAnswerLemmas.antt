@@ -1,48 +1,33 @@
 -- What each service sends to a client is the answer to the client's first command.
-use Rattle.std.proofs.Common.{◌≡◌, ◌≢◌, ◌⊎◌, inl, inr, ◌<◌, ◌≤◌, ◌+◌, ◌^◌, ℕ, zero, suc, Bool, true, false, cond, eqb, eqb-true, eq-eqb}
-use Rattle.std.proofs.Common.{List, [], ◌∷◌, ◌++◌, length, Option, None, Some, is_some, Ok, slice_get, refl, sym, subst, ap, ◌∙◌, arith}
-use Rattle.std.specs.List.{AllByRecursion, filter}
-use Rattle.std.proofs.lemmas.List.{length-append}
-use Rattle.std.proofs.lemmas.Option.{same_Some, slice_get_within}
+use Rattle.std.proofs.Common.{◌≡◌, ◌≢◌, ◌⊎◌, inl, inr, ◌<◌, ◌≤◌, ◌^◌, ℕ, Bool, true, false, cond, eqb, eqb-true, eq-eqb}
+use Rattle.std.proofs.Common.{List, [], ◌∷◌, length, Option, None, Some, is_some, refl, sym, subst, ap, ◌∙◌}
+use Rattle.std.specs.List.{AllByRecursion}
+use Rattle.std.proofs.lemmas.Option.{same_Some}
 use Rattle.client_commands.specs.Answers.{sent_strings}
-use Rattle.client_commands.specs.Deletion.{Deletion, left_over, name_now}
-use Rattle.client_commands.specs.Reading.{command_at}
+use Rattle.client_commands.specs.Deletion.{Deletion, left_over}
 use Rattle.client_commands.specs.declared.answer.Answer.{Answer}
-use Rattle.client_commands.specs.declared.answer.Answer.TheVariants as answers
-use Rattle.client_commands.specs.declared.answer.AnswerError.TheVariants.{NoQuorum}
 use Rattle.client_commands.specs.declared.command.Command.{Command}
 use Rattle.client_commands.specs.declared.command.Command.TheVariants as ask
 use Rattle.cluster_file.specs.File.{FileContents}
-use Rattle.deeds.specs.CallId.{CallIds, HasRanges}
-use Rattle.deeds.specs.Deeds.{Notice}
-use Rattle.local_object.specs.declared.progress.Ended.{Ended}
-use Rattle.node.specs.GivenIds.{UsesIds}
-use Rattle.node.specs.Replies.{IsReplyTo, IsRight}
-use Rattle.node_clients.specs.Answers.{answer_frame}
-use Rattle.node_clients.specs.Calls.{call_answer, call_under, client_waiting, deletion_of, left_of, older_call, rest_of, waiting_for}
-use Rattle.node_clients.specs.Connections.{TakesNextAt, asked, doing, waiting_on}
-use Rattle.node_clients.specs.Desk.{IsIdleFor, connection_of, has_listener, is_connected, listener}
-use Rattle.node_clients.specs.Served.{IsOlder, IsPassed, IsServiceDone, call_begun}
-use Rattle.node_clients.specs.Services.{Service, begun_notices, service_frames, service_notices, told_frames}
+use Rattle.node_clients.specs.Calls.{call_under, client_waiting, deletion_of, left_of, waiting_for}
+use Rattle.node_clients.specs.Connections.{doing, waiting_on}
+use Rattle.node_clients.specs.Desk.{IsIdleFor, connection_of, is_connected, listener}
+use Rattle.node_clients.specs.Served.{call_begun}
+use Rattle.node_clients.specs.Services.{Service, told_frames}
 use Rattle.node_clients.specs.declared.connection.Connection.{Connection}
-use Rattle.node_clients.specs.declared.connection.State.TheVariants.{Busy, Idle, Quit}
+use Rattle.node_clients.specs.declared.connection.State.TheVariants.{Idle}
 use Rattle.node_clients.specs.declared.desk.Desk.{Desk}
 use Rattle.node_clients.specs.declared.next.Next.{Next}
-use Rattle.node_clients.specs.declared.next.Next.TheVariants as next
 use Rattle.node_clients.specs.declared.open_call.OpenCall.{OpenCall}
 use Rattle.node_clients.proofs.ServedLemmas.{busy_is_there}
-use Rattle.node_effects.specs.Seen.{all_seen}
 use Rattle.node_strings.specs.Strings.{Strings}
 use Rattle.processes.specs.Answers.{Passed, answers_to}
-use Rattle.processes.specs.Events.{call_begun as id_begun, is_begun, is_told}
-use Rattle.processes.proofs.CommandViewLemmas.{AreReplied, HasReason, IsNextOf, IsOpenFor, IsOwnCall, IsReplied, View, Widens}
-use Rattle.processes.proofs.CommandViewLemmas.{WroteOnce, open_wider, wrote_then}
-use Rattle.processes.proofs.ConnectionLemmas.{HasCommands, HasCommandsIf, HasNoMore, IsTaken, Waits, answered_left, as_came}
-use Rattle.processes.proofs.ConnectionLemmas.{closed_none, kept_if, no_more_same, none_left, none_taken, opened_here, rest_waits}
-use Rattle.processes.proofs.ConnectionLemmas.{taken_of, times_wider}
-use Rattle.processes.proofs.ServiceIdLemmas.{IsCalling, IsNotCalling, calling_or_not, is_given, mine_sent, next_of, other_sent}
-use Rattle.processes.proofs.ServiceIdLemmas.{service_widens, view_after}
-use Rattle.processes.proofs.StandingLemmas.{IsAmong, among_second}
+use Rattle.processes.proofs.CommandViewLemmas.{AreReplied, HasReason, IsOpenFor, View, Widens}
+use Rattle.processes.proofs.CommandViewLemmas.{open_wider}
+use Rattle.processes.proofs.ConnectionLemmas.{HasCommandsIf, HasNoMore, Waits}
+use Rattle.processes.proofs.ConnectionLemmas.{closed_none, kept_if, none_left, rest_waits}
+use Rattle.processes.proofs.ConnectionLemmas.{times_wider}
+use Rattle.processes.proofs.AnswerFrameLemmas.{mine_sent, other_sent}
 
 -- the open calls of a desk, by their ids
 abbrev pub calls_of : Desk → ℕ → Option OpenCall

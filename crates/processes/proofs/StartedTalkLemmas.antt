@@ -90,8 +90,8 @@ started_desk client delta view new copy after entries waits empty carried desk =
     none_left client delta view (connection_of after.desk client) (calls_of after.desk) []
     (idle_empty (connection_of after.desk client) (subst (λ (cs : Connections). has_next (get nat_eq cs.by_number client) ≡ true → ⊥)
     (sym clients) (λ has. waits client has)))
-    (λ id call e mine. absurd (let wrong : None ≡ Some client = sym (nobody id call (sym (ap (λ (d : Desk). call_under d.calls id) desk) ∙ e))
-    ∙ mine in cc))
+    (λ id call e mine. absurd (let wrong : None ≡ Some client =
+    sym (nobody id call (sym (ap (λ (d : Desk). call_under d.calls id) desk) ∙ e)) ∙ mine in cc))
     (λ command rest e. absurd (cc)) tt
   where
     clients : after.desk.clients ≡ new.desk.clients

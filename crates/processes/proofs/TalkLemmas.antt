@@ -1,22 +1,20 @@
 -- What is known of all that has passed on the connections of a process's clients.
-use Rattle.std.proofs.Common.{◌≡◌, ◌⊎◌, inl, inr, ◌<◌, ◌≤◌, ◌+◌, ◌^◌, ℕ, zero, suc, List, [], ◌∷◌, ◌++◌, length, map, Option, Some, slice_get}
-use Rattle.std.proofs.Common.{refl, sym, subst, ap, ◌∙◌, arith, flat_map}
+use Rattle.std.proofs.Common.{◌≡◌, ◌⊎◌, inl, inr, ◌<◌, ◌+◌, ℕ, List, [], ◌∷◌, ◌++◌, length, Some, slice_get}
+use Rattle.std.proofs.Common.{refl, sym, subst, ap, ◌∙◌, arith}
 use Rattle.std.proofs.lemmas.List.{length-append}
-use Rattle.std.proofs.lemmas.Option.{slice_get_within}
 use Rattle.cluster_file.specs.File.{FileContents}
-use Rattle.deeds.specs.CallId.{CallIds, HasRanges}
+use Rattle.deeds.specs.CallId.{CallIds}
 use Rattle.deeds.specs.Deeds.{Notice}
-use Rattle.node.specs.declared.node.Node.{Node}
 use Rattle.node_strings.specs.Strings.{Strings}
 use Rattle.recoveries.specs.OwnCalls.{WasGiven}
 use Rattle.refinement.proofs.PlaceLemmas.{get_first, get_split}
-use Rattle.processes.specs.Answers.{Passed, Talk, answers_to, passed_at}
+use Rattle.processes.specs.Answers.{Passed, answers_to, passed_at}
 use Rattle.processes.specs.Events.{call_begun as id_begun}
-use Rattle.processes.specs.Processes.{Process, Processes, WaitingAnswers}
-use Rattle.processes.proofs.CommandViewLemmas.{AreReplied, IsReplied, View, Widens, replied_more, replied_then, replies_wider, reply_wider}
+use Rattle.processes.specs.Processes.{WaitingAnswers}
+use Rattle.processes.proofs.CommandViewLemmas.{AreReplied, IsReplied, View, Widens, replies_wider, reply_wider}
 use Rattle.processes.proofs.GivenIdLemmas.{BeginsAt}
-use Rattle.processes.proofs.ServiceAnswerLemmas.{HasDeskIf}
 use Rattle.processes.proofs.StandingLemmas.{IsAmong, among_first, among_second}
+use Rattle.processes.proofs.RepliesInOrderLemmas.{replied_more}
 
 -- what clients were told before a time, at a place of what they saw
 abbrev pub WereTold : (seen : List Notice) → (time : ℕ) → (told : List Notice) → Type 0
@@ -161,8 +159,11 @@ module _ (number client : ℕ) (file : FileContents) where
       (commands middle left : List Passed) → AreWaiting seen ids told answers commands middle →
       AreReplied number client file (record { seen = seen; told = all_told told answers ++ last.told; ids = ids })
       (answers_to client last.frames) middle left → AreWaiting seen ids told (answers ++ last ∷ []) commands left
-  waiting_then seen ids told [] last commands middle left same replied =
-      (left, subst (λ cs. AreReplied number client file (view_of seen (told ++ last.told) ids) (answers_to client last.frames) cs left)
-      (sym same) replied, refl)
+  waiting_then seen ids told [] last commands middle left same replied = (
+    left,
+    subst (λ cs. AreReplied number client file (view_of seen (told ++ last.told) ids) (answers_to client last.frames) cs left)
+        (sym same) replied,
+    refl,
+  )
   waiting_then seen ids told (first ∷ rest) last commands middle left is replied =
       (is.0, is.1, waiting_then seen ids (told ++ first.told) rest last is.0 middle left is.2 replied)

@@ -1,6 +1,6 @@
 -- What several services keep, and what the coming of a command and the end of a connection change.
-use Rattle.std.proofs.Common.{◌≡◌, ◌≢◌, ◌<◌, ◌≤◌, ◌^◌, ℕ, Bool, true, false, cond, ◌||◌, eqb, eqb-true, eq-eqb}
-use Rattle.std.proofs.Common.{List, [], ◌∷◌, ◌++◌, length, Option, None, refl, sym, subst, ap, ◌∙◌, arith, append_assoc, append-nil}
+use Rattle.std.proofs.Common.{◌≡◌, ◌≢◌, ◌<◌, ◌≤◌, ◌^◌, ℕ, Bool, true, false, cond}
+use Rattle.std.proofs.Common.{List, [], ◌∷◌, ◌++◌, length, Option, refl, sym, subst, ap, ◌∙◌, append_assoc, append-nil}
 use Rattle.std.specs.List.{AllByRecursion, filter}
 use Rattle.std.proofs.lemmas.Grind.{flat_map-append}
 use Rattle.cluster_file.specs.File.{FileContents}
@@ -10,7 +10,7 @@ use Rattle.node.specs.GivenIds.{UseIds}
 use Rattle.node.specs.Replies.{IsRight}
 use Rattle.node_clients.specs.Calls.{call_under}
 use Rattle.node_clients.specs.Desk.{connection_of}
-use Rattle.node_clients.specs.Served.{AreServicesDone, IsArrived, IsGone}
+use Rattle.node_clients.specs.Served.{AreServicesDone, IsArrived}
 use Rattle.node_clients.specs.Services.{Service, all_frames, all_notices, service_frames, service_notices}
 use Rattle.node_clients.specs.declared.desk.Desk.{Desk}
 use Rattle.node_effects.specs.Seen.{all_seen, seen_of}
@@ -18,11 +18,12 @@ use Rattle.node_effects.specs.declared.notice.Notice.{Notice as Told}
 use Rattle.node_strings.specs.Strings.{Strings}
 use Rattle.processes.specs.Answers.{Passed, answer_to, answers_to}
 use Rattle.processes.specs.Events.{is_begun, is_told}
-use Rattle.processes.proofs.CommandViewLemmas.{AreReplied, View, Widens, replied_then, replies_wider, widens_same, widens_then}
+use Rattle.processes.proofs.CommandViewLemmas.{AreReplied, View, Widens, replies_wider, widens_same, widens_then}
 use Rattle.processes.proofs.ConnectionLemmas.{HasCommandsIf, HasNoMore, commands_more, kept_if}
 use Rattle.processes.proofs.ServiceIdLemmas.{service_widens, uses_later, view_after}
 use Rattle.processes.proofs.ServiceAnswerLemmas.{HasDeskIf, HasStepped, IsQuiet, calls_of, reach_bound}
 use Rattle.processes.proofs.ServiceEndLemmas.{quiet_step}
+use Rattle.processes.proofs.RepliesInOrderLemmas.{replied_then}
 
 -- what clients see of some services, and of others behind them
 seen_append : (p : Notice → Bool) (xs ys : List Told) →
