@@ -179,23 +179,25 @@ module _ (seen : List Notice) (histories : (name : List ℕ) → SeenHistory see
 
   -- All answers of a connection
 
-  pub answers_all : (number client : ℕ) (file : FileContents) (ids : CallIds) (answers commands left : List Passed) →
+  pub answers_all : (number client : ℕ) (file : FileContents) (ids : CallIds) (given : Option FileContents) →
+      ((own : FileContents) → given ≡ Some own → file ≡ own) → (answers commands left : List Passed) →
       WereWritten number client file seen ids answers commands left → (place : ℕ) (written : Passed) →
       slice_get answers place ≡ Some written → (command : Passed) × (slice_get commands place ≡ Some command)
-      × IsAnswered seen histories number client command written
-  answers_all number client file ids [] commands left is place written e = absurd (cc)
-  answers_all number client file ids (first ∷ rest) [] left is place written e = absurd is
-  answers_all number client file ids (first ∷ rest) (command ∷ commands) left is zero written e =
+      × IsAnswered seen histories number client given command written
+  answers_all number client file ids given named [] commands left is place written e = absurd (cc)
+  answers_all number client file ids given named (first ∷ rest) [] left is place written e = absurd is
+  answers_all number client file ids given named (first ∷ rest) (command ∷ commands) left is zero written e =
       subst (λ w. (other : Passed) × (slice_get (command ∷ commands) 0 ≡ Some other)
-      × IsAnswered seen histories number client other w) (same_Some first written e) (
+      × IsAnswered seen histories number client given other w) (same_Some first written e) (
         command,
         refl,
         record {
           file = file;
+          is_given = named;
           answer = is.2.answer;
           sent = is.2.sent;
           right = right number client file is.0 ids command first.time is.1 is.2.answer is.2.reason;
         },
       )
-  answers_all number client file ids (first ∷ rest) (command ∷ commands) left is (suc place) written e =
-      answers_all number client file ids rest commands left is.3 place written e
+  answers_all number client file ids given named (first ∷ rest) (command ∷ commands) left is (suc place) written e =
+      answers_all number client file ids given named rest commands left is.3 place written e

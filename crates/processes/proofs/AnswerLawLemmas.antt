@@ -48,7 +48,12 @@ module _ (law : LeftLogIsRead) (processes : Processes) (reached : AreReached pro
     ids = record { node = number; epoch = 0; given = 0 };
     own = refl;
     runs = λ node e. absurd (cc);
-    each = λ client. record { left = []; replied = λ small. ([], refl, refl); has = λ node e. absurd (cc) };
+    each = λ client. record {
+      left = [];
+      named = λ own e. absurd (cc);
+      replied = λ small. ([], refl, refl);
+      has = λ node e. absurd (cc);
+    };
   }
 
   talks : AreOfPrograms reached.events new_processes → (number : ℕ) →
@@ -65,5 +70,6 @@ get_answers law processes reached of = (
   λ number unused client small place written e. (let is = talks law processes reached of number unused in
       let known = (is.each client).replied small in
       answers_all processes.seen (histories law processes reached) (last law processes reached) number client is.file is.ids
+      (talk_in processes reached number client).file (is.each client).named
       (talk_in processes reached number client).answers (talk_in processes reached number client).commands known.0 known.1 place written e),
 )

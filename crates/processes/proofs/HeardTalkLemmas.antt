@@ -90,6 +90,25 @@ heard_answers client time (Some (came.Command other command)) talk = go (eqb oth
     go true = refl
     go false = refl
 
+pub heard_file : (client time : ℕ) (arrival : Option Arrival) (talk : Talk) →
+    (heard_talk client time arrival talk).file ≡ talk.file
+heard_file client time None talk = refl
+heard_file client time (Some (came.Message node frame)) talk = refl
+heard_file client time (Some (came.Tick heard)) talk = refl
+heard_file client time (Some (came.Left other)) talk = go (eqb other client)
+  where
+    go : (b : Bool) → (cond b (record talk { ended = true }) talk).file ≡ talk.file
+    go true = refl
+    go false = refl
+heard_file client time (Some (came.Command other command)) talk = go (eqb other client)
+  where
+    now : Talk
+    now = record talk { commands = talk.commands ++ passed_at time (command ∷ []); reused = talk.reused || talk.ended }
+
+    go : (b : Bool) → (cond b now talk).file ≡ talk.file
+    go true = refl
+    go false = refl
+
 pub heard_reused : (client time : ℕ) (arrival : Option Arrival) (talk : Talk) →
     (heard_talk client time arrival talk).reused ≡ false → talk.reused ≡ false
 heard_reused client time None talk e = e

@@ -36,6 +36,7 @@ pub record IsTalk (number client : ℕ) (file : FileContents) (ids : CallIds) (s
   pub replied : client < 2 ^ 64 → (middle : List Passed)
       × WereWritten number client file seen ids talk.answers talk.commands middle
       × AreWaiting number client file seen ids seen answers middle left
+  pub named : (own : FileContents) → talk.file ≡ Some own → file ≡ own
   pub has : (node : Node) → running ≡ Some node →
       HasDeskIf client file.fixed.delta talk.ended (view_at seen answers ids) node.desk left
 
@@ -82,6 +83,7 @@ module _ (number : ℕ) (seen : List Notice) (running : Option Node) (answers : 
       runs = is.runs;
       each = λ client. (let talk = is.each client in record {
         left = talk.left;
+        named = talk.named;
         replied = λ small. (let known = talk.replied small in (
           known.0,
           written_wider number client is.file seen more is.ids is.ids (λ id given. given) fresh (talks client).answers
@@ -111,6 +113,7 @@ module _ (number : ℕ) (seen : List Notice) (running : Option Node) (answers : 
     ));
     each = λ client. (let talk = is.each client in record {
       left = talk.left;
+      named = talk.named;
       replied = talk.replied;
       has = λ other e. subst (λ (n : Node). HasDeskIf client is.file.fixed.delta (talks client).ended (view_at seen answers is.ids) n.desk
           talk.left) (same_Some after other e)
@@ -134,9 +137,15 @@ module _ (number : ℕ) (seen : List Notice) (running : Option Node) (answers : 
       go : (client : ℕ) (b : Bool) → nat_lt client (2 ^ 64) ≡ b → IsTalk number client is.file is.ids seen None [] (talks client)
       go client true t =
           let known = (is.each client).replied (ltb-true client (2 ^ 64) t) in
-          record { left = known.0; replied = λ small. (known.0, known.1, refl); has = λ node e. absurd (cc) }
+          record {
+            left = known.0;
+            named = (is.each client).named;
+            replied = λ small. (known.0, known.1, refl);
+            has = λ node e. absurd (cc);
+          }
       go client false t = record {
         left = [];
+        named = (is.each client).named;
         replied = λ small. absurd (let wrong : false ≡ true = sym t ∙ lt-ltb client (2 ^ 64) small in cc);
         has = λ node e. absurd (cc);
       }
@@ -163,6 +172,7 @@ talks_told number seen running first rest talks only is = record {
   runs = is.runs;
   each = λ client. (let talk = is.each client in record {
     left = talk.left;
+    named = talk.named;
     replied = λ small. (let known = talk.replied small in (
       known.2.0,
       written_then number client is.file (seen ++ first.told) is.ids (seen ++ first.told) (length (seen ++ first.told)) were

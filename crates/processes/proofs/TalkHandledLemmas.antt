@@ -25,7 +25,7 @@ use Rattle.processes.proofs.StandingLemmas.{IsAmong, among_first}
 use Rattle.processes.proofs.TalkLemmas.{WereWritten, all_pushed, all_told, all_wider, among_both}
 use Rattle.processes.proofs.TalkLemmas.{waiting_more, waiting_then, waiting_wider, written_more, written_wider}
 use Rattle.processes.proofs.TalkEventLemmas.{AreTalks, desk_wider, told_wider, view_at}
-use Rattle.processes.proofs.HeardTalkLemmas.{come_in, heard_answers, heard_commands}
+use Rattle.processes.proofs.HeardTalkLemmas.{come_in, heard_answers, heard_commands, heard_file}
 
 pub talks_handled : (number : ℕ) (seen : List Notice) (node after : Node) (answers : List WaitingAnswers) (talks : ℕ → Talk)
     (frame : Strings) (effects : Effects) (behind : ℕ) → Handles node frame effects after → HasRanges node.keeper.ids →
@@ -46,6 +46,8 @@ talks_handled number seen node after answers talks frame effects behind handles 
   ));
   each = λ client. (let step = all.each client in record {
     left = step.left;
+    named = λ given e. (is.each client).named given
+        (sym (heard_file client (length seen) (arrival_at frame) (talks client)) ∙ e);
     replied = λ small. (let known = (is.each client).replied small in (
       known.0 ++ come_in client (length seen) (arrival_at frame),
       subst₂ (λ ws cs. WereWritten number client is.file now ids ws cs (known.0 ++ come_in client (length seen) (arrival_at frame)))

@@ -50,6 +50,7 @@ own_event names processes (ProcessEvent.Starts number read anew new copy after) 
       (ap (λ (n : Node). n.keeper.ids) (sym same), ap (λ (n : Node). n.keeper.file) (sym same)));
   each = λ client. record {
     left = [];
+    named = λ own e. same_Some after.keeper.file own e;
     replied = λ small. ([], refl, refl);
     has = λ node e. subst (λ (n : Node). HasDeskIf client after.keeper.file.fixed.delta false
         (view_at (processes.seen ++ []) [] after.keeper.ids) n.desk []) (same_Some after node e)

@@ -43,16 +43,17 @@ pub record Passed : Type 0 where
 
 -- What has passed on the connection of a client since the process was started: the commands that came in, and the
 -- answers that were written. Also whether the connection has ended, and whether a command came in after that, so that
--- its number was used twice.
+-- its number was used twice; and which cluster file the node has, once it was started.
 pub record Talk : Type 0 where
   pub commands : List Passed
   pub answers : List Passed
   pub ended : Bool
   pub reused : Bool
+  pub file : Option FileContents
 
 -- nothing has passed yet
 abbrev pub new_talk : Talk
-new_talk = record { commands = []; answers = []; ended = false; reused = false }
+new_talk = record { commands = []; answers = []; ended = false; reused = false; file = None }
 
 -- each of these strings, at this time
 abbrev pub passed_at : (time : ℕ) → List Strings → List Passed
@@ -84,7 +85,8 @@ answers_to client frames = flat_map (answer_to client) frames
 
 -- what has passed on the connection of this client after an event of its process, which happens to these processes
 abbrev pub own_talk_after : (client : ℕ) → Processes → ProcessEvent → Talk → Talk
-own_talk_after client processes (ProcessEvent.Starts number read anew new copy after) talk = new_talk
+own_talk_after client processes (ProcessEvent.Starts number read anew new copy after) talk =
+    record new_talk { file = Some after.keeper.file }
 own_talk_after client processes (ProcessEvent.Handles number frame effects after) talk =
     heard_talk client (length processes.seen) (arrival_at frame) talk
 own_talk_after client processes (ProcessEvent.Tells number) talk =
@@ -188,9 +190,10 @@ module _ (seen : List Notice) (histories : (name : List ℕ) → SeenHistory see
       × (IsResult file.fixed.delta from to command answer ⊎ IsGivenUp client command answer))
       ⊎ IsReplyTo number file client found answer
 
-  -- what was written is an answer to this command, and to nothing that came in later
-  pub record IsAnswered (number client : ℕ) (command written : Passed) : Type 0 where
+  -- what was written is an answer to this command, which a node with this cluster file carried out
+  pub record IsAnswered (number client : ℕ) (given : Option FileContents) (command written : Passed) : Type 0 where
     pub file : FileContents
+    pub is_given : (own : FileContents) → given ≡ Some own → file ≡ own
     pub answer : Answer
     pub sent : written.strings ≡ sent_strings answer
     pub right : IsAnswerTo number client file command.time written.time (command_at command.strings) answer
@@ -199,7 +202,8 @@ module _ (seen : List Notice) (histories : (name : List ℕ) → SeenHistory see
   -- and no command has two
   abbrev pub AnswersItsCommands : (number client : ℕ) → Talk → Type 0
   AnswersItsCommands number client talk = (place : ℕ) (written : Passed) → slice_get talk.answers place ≡ Some written →
-      (command : Passed) × (slice_get talk.commands place ≡ Some command) × IsAnswered number client command written
+      (command : Passed) × (slice_get talk.commands place ≡ Some command)
+      × IsAnswered number client talk.file command written
 
 -- The law
 
