@@ -10,6 +10,7 @@ pub mod Leaving
 pub mod Logging
 pub mod NextIds
 pub mod Objects
+pub mod Placing
 pub mod Resending
 pub mod Sendings
 pub mod Sizes

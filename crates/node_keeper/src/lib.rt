@@ -16,4 +16,5 @@ mod ids;
 mod keeper;
 mod laws;
 mod objects;
+mod placing;
 mod post;

@@ -9,6 +9,7 @@ ghost use Rattle.cluster_file.specs.Placement.{placed};
 ghost use Rattle.local_object.specs.Local.{LocalObject, new_local};
 ghost use Rattle.node_keeper.specs.Objects.{AreSame, IsAbsentIfNew, new_of, objects_of};
 
+use crate::placing::Placing;
 use bytes::Bytes;
 use cluster_file::ClusterNodes;
 use indexmap::IndexMap;
@@ -39,7 +40,7 @@ pub struct Objects {
     // How many finalized versions the banks keep beside the newest. None where they keep all.
     delta: Option<u32>,
     // The layout that the object of each name has before any move.
-    placement: ClusterNodes,
+    placement: Placing,
     // The objects that may differ from new ones.
     by_name: IndexMap<Bytes, LocalObject>,
 }
@@ -72,7 +73,7 @@ impl Objects {
             alloc,
             number,
             delta,
-            placement,
+            placement: Placing::new(alloc, placement),
             by_name: IndexMap::new(alloc),
         }
     }
@@ -85,6 +86,20 @@ impl Objects {
         LocalObject::new(self.alloc, self.number, self.delta, self.first_layout(name))
     }
 
+    /// If the object of a name is not in the map, its layout is remembered, so that the next functions need not compute
+    /// it.
+    ///
+    /// `NoMemory` is the only refusal.
+    pub(crate) fn expect(&mut self, name: &Bytes) -> Result<(), Refusal>
+        ensures same { self.new ≡ self.old }
+        ensures refused { IfErr result (λ e. e ≡ NoMemory) }
+    {
+        if self.by_name.contains_key(name) {
+            return Ok(());
+        }
+        self.placement.remember(name)
+    }
+
     // The object of a name is in the map. Where it was not, it is a new one.
     fn hear_of(&mut self, name: &Bytes) -> Result<(), Refusal>
         ensures there { OnOk result (IsSome (get (pointwise nat_eq) self.new.by_name name.now)) }
@@ -95,6 +110,7 @@ impl Objects {
         if self.by_name.contains_key(name) {
             return Ok(());
         }
+        self.placement.remember(name)?;
         let object = self.new_object(name)?;
         self.add(name.clone()?, object)
     }

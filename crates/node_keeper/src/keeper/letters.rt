@@ -54,6 +54,32 @@ impl Keeper {
         ensures delivers { IfOk result (DeliversLetter sender it self.old work.old self.new work.new) }
         ensures refused { IfErr result (IsUnwritten (CanDeliver sender it self.old)) }
     {
+        self.expect(&it.name)?;
+        self.deliver_expected(sender, it, came, work)
+    }
+
+    // Questions about the object of a name are answered quickly from now on, also if the node has not heard of it.
+    fn expect(&mut self, name: &Bytes) -> Result<(), NodeError>
+        ensures same { self.new ≡ self.old }
+        ensures refused { IfErr result (λ e. e ≡ NoMemory) }
+    {
+        Ok(self.objects.expect(name)?)
+    }
+
+    // Does what `deliver` does.
+    fn deliver_expected(
+        &mut self,
+        sender: u8,
+        it: NamedLetter,
+        came: Option<Frame>,
+        work: &mut Work,
+    ) -> Result<Delivered, NodeError>
+        requires { IfSome came (IsFrameOf self.old.digest it) }
+        ensures acts { OnOk result
+            (Acts sender (if_heeded (kept_of self.old) (named_of it)) self.old work.old self.new work.new) }
+        ensures delivers { IfOk result (DeliversLetter sender it self.old work.old self.new work.new) }
+        ensures refused { IfErr result (IsUnwritten (CanDeliver sender it self.old)) }
+    {
         if !self.heeds(&it)? {
             return Ok(Delivered::Dropped);
         }

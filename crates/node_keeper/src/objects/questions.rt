@@ -26,7 +26,7 @@ impl Objects {
     pub fn first_layout(&self, name: &Bytes) -> Layout
         ensures { result ≡ first_layout_of self.now name.now }
     {
-        self.placement.place(name.as_slice())
+        self.placement.place(name)
     }
 
     /// Returns how many objects the map has. Every other object is a new one.

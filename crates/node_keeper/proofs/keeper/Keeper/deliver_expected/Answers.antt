@@ -4,7 +4,7 @@ use Rattle.node_effects.specs.Work.{no_growth}
 use Rattle.node_effects.proofs.GrowthLemmas.{grown_none}
 use Rattle.node_keeper.specs.Keeping.{if_heeded, kept_of}
 use Rattle.node_keeper.proofs.ActLemmas.{acts_rest}
-use Rattle.node_keeper.proofs.keeper.Keeper.deliver.Goals as goal
+use Rattle.node_keeper.proofs.keeper.Keeper.deliver_expected.Goals as goal
 
 pub returns-then-not-branch-clause-acts : goal.returns-then-not-branch-clause-acts
 returns-then-not-branch-clause-acts c =
