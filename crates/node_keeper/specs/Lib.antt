@@ -8,6 +8,7 @@ pub mod Fitting
 pub mod Keeping
 pub mod Leaving
 pub mod Logging
+pub mod NewObjects
 pub mod NextIds
 pub mod Objects
 pub mod Placing

@@ -8,6 +8,7 @@ ghost use Rattle.indexmap.specs.IndexMap.{get};
 ghost use Rattle.cluster_file.specs.Placement.{placed};
 ghost use Rattle.local_object.specs.Local.{LocalObject, new_local};
 ghost use Rattle.node_keeper.specs.Objects.{AreSame, IsAbsentIfNew, new_of, objects_of};
+ghost use Rattle.node_keeper.specs.NewObjects.{IsToldIfNew};
 
 use crate::placing::Placing;
 use bytes::Bytes;
@@ -122,6 +123,17 @@ impl Objects {
     {
         if self.is_new(name) {
             let _forgotten = self.by_name.swap_remove(name);
+        }
+    }
+
+    // Does what `forget_new` does. `may_be_new` is true if the map has the object of the name, and it equals a new one.
+    fn forget_if_new(&mut self, name: &Bytes, may_be_new: bool)
+        requires { IsToldIfNew self.old name.now may_be_new }
+        ensures same { AreSame self.old self.new }
+        ensures spared { IsAbsentIfNew self.new name.now }
+    {
+        if may_be_new {
+            self.forget_new(name);
         }
     }
 

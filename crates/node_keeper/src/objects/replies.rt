@@ -1,14 +1,19 @@
 //! How calls take replies, and how calls end without an answer.
-ghost use Rattle.std.specs.Prelude.{◌≡◌, [], IfErr, IfOk, OnOk, option_to_list};
+ghost use Rattle.std.specs.Prelude.{◌≡◌, [], ℕ, true, IfErr, IfOk, OnOk, Option, option_to_list};
 ghost use Rattle.tag.specs.declared.refusal.Refusal.TheVariants.{NoMemory};
-ghost use Rattle.local_object.specs.Doing.{give_up_events, gives_up};
+ghost use Rattle.layout.specs.Layout.{Layout};
+ghost use Rattle.local_object.specs.Doing.{give_up_events, gives_up, is_taken};
+ghost use Rattle.local_object.specs.Going.{IsSomeOutcome};
+ghost use Rattle.local_object.specs.Local.{new_local};
+ghost use Rattle.local_object.specs.Taking.{IsReplyOutcome};
 ghost use Rattle.node_keeper.specs.Doing.{IsOutcomeAt, IsReplyOutcomeAt};
 ghost use Rattle.node_keeper.specs.Objects.{IsAbsentIfNew, objects_of};
+ghost use Rattle.node_keeper.specs.NewObjects.{IsToldIfNew};
 
-use super::Objects;
+use super::{Objects, may_be_new};
 use bytes::Bytes;
 use letter::Letter;
-use local_object::Progress;
+use local_object::{LocalObject, Progress};
 use tag::{CallId, Refusal};
 
 impl Objects {
@@ -24,21 +29,36 @@ impl Objects {
         ensures spared { OnOk result (IsAbsentIfNew self.new name.now) }
         ensures refused { IfErr result (λ e. e ≡ NoMemory) }
     {
-        let progress = self.take_there(name, letter)?;
-        self.forget_new(name);
+        let (progress, may_be_new) = self.take_there(name, letter)?;
+        self.forget_if_new(name, may_be_new);
         Ok(progress)
     }
 
-    // Does what `take` does, but leaves the object in the map, also if it equals a new one.
-    fn take_there(&mut self, name: &Bytes, letter: Letter) -> Result<Progress, Refusal>
-        ensures done { IfOk result (λ progress. IsReplyOutcomeAt self.old name.now letter self.new
-            progress.letters.items (option_to_list progress.ended)) }
+    // Does what `take` does, but leaves the object in the map. Returns whether it may equal a new one.
+    fn take_there(&mut self, name: &Bytes, letter: Letter) -> Result<(Progress, bool), Refusal>
+        ensures done { IfOk result (λ it. IsReplyOutcomeAt self.old name.now letter self.new
+            it.0.letters.items (option_to_list it.0.ended)) }
 
+        ensures told { IfOk result (λ it. IsToldIfNew self.new name.now it.1) }
+        ensures refused { IfErr result (λ e. e ≡ NoMemory) }
+    {
+        match self.by_name.get_mut(name) {
+            Some(object) => taken(object, letter),
+            None => self.take_new(name, letter),
+        }
+    }
+
+    // Does the same for an object that is not in the map.
+    fn take_new(&mut self, name: &Bytes, letter: Letter) -> Result<(Progress, bool), Refusal>
+        ensures done { IfOk result (λ it. IsReplyOutcomeAt self.old name.now letter self.new
+            it.0.letters.items (option_to_list it.0.ended)) }
+
+        ensures told { IfOk result (λ it. IsToldIfNew self.new name.now it.1) }
         ensures refused { IfErr result (λ e. e ≡ NoMemory) }
     {
         self.hear_of(name)?;
         match self.by_name.get_mut(name) {
-            Some(object) => object.take(letter),
+            Some(object) => taken(object, letter),
             None => unreachable!(),
         }
     }
@@ -66,4 +86,19 @@ impl Objects {
             None => false,
         }
     }
+}
+
+// A call of an object takes a reply. Returns what came of it, and whether the object may equal a new one.
+fn taken(object: &mut LocalObject, letter: Letter) -> Result<(Progress, bool), Refusal>
+    ensures done { IfOk result (λ it.
+        IsSomeOutcome object.old object.new it.0.letters.items (option_to_list it.0.ended)) }
+    ensures taken { IfOk result (λ it. IsReplyOutcome (is_taken object.old letter) object.old letter object.new
+        it.0.letters.items (option_to_list it.0.ended)) }
+    ensures told { IfOk result (λ it. (number : ℕ) (delta : Option ℕ) (first : Layout)
+        → object.new ≡ new_local number delta first → it.1 ≡ true) }
+    ensures refused { IfErr result (λ e. e ≡ NoMemory) }
+{
+    let progress = object.take(letter)?;
+    let may_be_new = may_be_new(object);
+    Ok((progress, may_be_new))
 }

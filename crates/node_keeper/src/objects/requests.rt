@@ -1,16 +1,20 @@
 //! Requests that are served, and requests that are sent again.
-ghost use Rattle.std.specs.Prelude.{◌≡◌, IfErr, IfOk, OnOk, option_to_list};
+ghost use Rattle.std.specs.Prelude.{◌≡◌, ℕ, true, IfErr, IfOk, OnOk, Option, option_to_list};
 ghost use Rattle.std.specs.List.{AllByRecursion};
 ghost use Rattle.tag.specs.declared.refusal.Refusal.TheVariants.{NoMemory};
 ghost use Rattle.encoder.specs.Fragment.{fragment};
-ghost use Rattle.local_object.specs.Doing.{serve_events};
+ghost use Rattle.layout.specs.Layout.{Layout};
+ghost use Rattle.local_object.specs.Doing.{IsOutcome, serve_events};
+ghost use Rattle.local_object.specs.Local.{new_local};
 ghost use Rattle.local_object.specs.Resent.{IsResent, letters_again};
 ghost use Rattle.node_keeper.specs.Doing.{IsOutcomeAt};
 ghost use Rattle.node_keeper.specs.Objects.{IsAbsentIfNew, objects_of};
+ghost use Rattle.node_keeper.specs.NewObjects.{IsToldIfNew};
 
-use super::Objects;
+use super::{Objects, may_be_new};
 use bytes::Bytes;
 use letter::Letter;
+use local_object::LocalObject;
 use tag::{CallId, Refusal};
 
 impl Objects {
@@ -26,21 +30,40 @@ impl Objects {
         ensures spared { OnOk result (IsAbsentIfNew self.new name.now) }
         ensures refused { IfErr result (λ e. e ≡ NoMemory) }
     {
-        let reply = self.serve_there(name, letter)?;
-        self.forget_new(name);
+        let (reply, may_be_new) = self.serve_there(name, letter)?;
+        self.forget_if_new(name, may_be_new);
         Ok(reply)
     }
 
-    // Does what `serve` does, but leaves the object in the map, also if it equals a new one.
-    fn serve_there(&mut self, name: &Bytes, letter: Letter) -> Result<Option<Letter>, Refusal>
-        ensures done { IfOk result (λ reply. IsOutcomeAt self.old name.now
-            (serve_events (objects_of self.old name.now) letter) self.new (option_to_list reply)) }
+    // Does what `serve` does, but leaves the object in the map. Returns whether it may equal a new one.
+    fn serve_there(
+        &mut self,
+        name: &Bytes,
+        letter: Letter,
+    ) -> Result<(Option<Letter>, bool), Refusal>
+        ensures done { IfOk result (λ it. IsOutcomeAt self.old name.now
+            (serve_events (objects_of self.old name.now) letter) self.new (option_to_list it.0)) }
 
+        ensures told { IfOk result (λ it. IsToldIfNew self.new name.now it.1) }
+        ensures refused { IfErr result (λ e. e ≡ NoMemory) }
+    {
+        match self.by_name.get_mut(name) {
+            Some(object) => served(object, letter),
+            None => self.serve_new(name, letter),
+        }
+    }
+
+    // Does the same for an object that is not in the map.
+    fn serve_new(&mut self, name: &Bytes, letter: Letter) -> Result<(Option<Letter>, bool), Refusal>
+        ensures done { IfOk result (λ it. IsOutcomeAt self.old name.now
+            (serve_events (objects_of self.old name.now) letter) self.new (option_to_list it.0)) }
+
+        ensures told { IfOk result (λ it. IsToldIfNew self.new name.now it.1) }
         ensures refused { IfErr result (λ e. e ≡ NoMemory) }
     {
         self.hear_of(name)?;
         match self.by_name.get_mut(name) {
-            Some(object) => object.serve(letter),
+            Some(object) => served(object, letter),
             None => unreachable!(),
         }
     }
@@ -64,4 +87,17 @@ impl Objects {
             None => Ok(Vec::new(self.alloc)),
         }
     }
+}
+
+// An object serves a request. Returns the reply, and whether the object may equal a new one.
+fn served(object: &mut LocalObject, letter: Letter) -> Result<(Option<Letter>, bool), Refusal>
+    ensures done { IfOk result (λ it.
+        IsOutcome object.old (serve_events object.old letter) object.new (option_to_list it.0)) }
+    ensures told { IfOk result (λ it. (number : ℕ) (delta : Option ℕ) (first : Layout)
+        → object.new ≡ new_local number delta first → it.1 ≡ true) }
+    ensures refused { IfErr result (λ e. e ≡ NoMemory) }
+{
+    let reply = object.serve(letter)?;
+    let may_be_new = may_be_new(object);
+    Ok((reply, may_be_new))
 }
