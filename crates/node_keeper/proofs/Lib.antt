@@ -14,6 +14,7 @@ pub mod HeardNameLemmas
 pub mod IdLemmas
 pub mod LeavingLemmas
 pub mod LetterLemmas
+pub mod NewObjectLemmas
 pub mod PlaceRecordLemmas
 pub mod QuietLemmas
 pub mod ReadLemmas
