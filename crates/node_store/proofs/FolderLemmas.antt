@@ -1,11 +1,12 @@
 -- What is kept of a file, or found in its place.
 use Rattle.std.proofs.Common.{◌≡◌, ◌⊎◌, ℕ, ◌+◌, ◌≤◌, List, length, [], Option, Some, None, inl, inr, sym, subst, ap, ◌∙◌}
-use Rattle.std.proofs.Common.{append-nil, arith}
-use Rattle.std.specs.Prelude.{Result, Ok, Err}
+use Rattle.std.proofs.Common.{append-nil, arith, refl, Bool, true, false}
+use Rattle.std.specs.Prelude.{Result, Ok, Err, IsTrue, ◌||◌}
+use Rattle.std.proofs.lemmas.Bool.{or_left, or_right}
 use Rattle.std.proofs.lemmas.List.{take_all}
 use Rattle.std.specs.Io.KnownBytes.{Keeps}
 use Rattle.frames.specs.Writing.{Writes}
-use Rattle.node_store.specs.Logs.{Grows, IsKeptBehind}
+use Rattle.node_store.specs.Logs.{Grows, IsKeptBehind, TellsExchange, TellsFailure}
 use Rattle.node_store.specs.Disk.{LosesEnd, found_after_stop}
 use Rattle.node_store.proofs.GrowthLemmas.{Known, grows_none, grows_same, grows_twice}
 
@@ -82,3 +83,41 @@ synced_found other then kept keeps (Some xs) writes same all either behind =
             subst (λ (k : Known). Grows k (found_after_stop other kept)) (sym is) behind,
           )
     ]
+
+-- Whether a call failed
+
+-- a call of the file tells it of the log in the folder
+pub file_tells : {T E : Type 0} (r : Result T E) (old new folder : Bool) → TellsFailure old new r
+    → TellsFailure (old || folder) (new || folder) r
+file_tells (Ok x) old new folder same = ap (λ (b : Bool). b || folder) same
+file_tells (Err e) old new folder is = or_left new folder is
+
+-- a file that was opened has not failed, if the folder has not
+pub opened_unfailed : (file then folder : Bool) → (IsTrue file → IsTrue folder) → then ≡ folder → IsTrue (file || then)
+    → IsTrue folder
+opened_unfailed true then folder had same is = had refl
+opened_unfailed false then folder had same is = sym same ∙ is
+
+-- the log has failed behind an exchange only if it had, or the file that was put in its place
+pub exchanged_unfailed : (old folder then second : Bool) → then ≡ folder → IsTrue (second || then)
+    → IsTrue ((old || folder) || second)
+exchanged_unfailed old folder then true same is = or_right (old || folder) true refl
+exchanged_unfailed old folder then false same is = or_left (old || folder) false (or_right old folder (sym same ∙ is))
+
+-- the same of the log with the second one, which had failed only if the log had
+pub exchange_unfailed : (old now second new : Bool) → now ≡ old → (IsTrue second → IsTrue old)
+    → (IsTrue new → IsTrue (now || second)) → IsTrue new → IsTrue old
+exchange_unfailed old now second new same had only is = either now second same had (only is)
+  where
+    either : (now second : Bool) → now ≡ old → (IsTrue second → IsTrue old) → IsTrue (now || second) → IsTrue old
+    either true second same had is = sym same
+    either false second same had is = had is
+
+-- where nothing is said of failures, any call tells them
+pub always_tells : {T E : Type 0} (r : Result T E) → TellsFailure true true r
+always_tells (Ok x) = refl
+always_tells (Err e) = refl
+
+pub always_tells_exchange : {T E : Type 0} (r : Result T E) → TellsExchange true true r
+always_tells_exchange (Ok x) = λ is. is
+always_tells_exchange (Err e) = refl

@@ -1,6 +1,6 @@
 -- Why the loop of a machine stops.
 use Rattle.std.proofs.Common.{◌≡◌, ◌⊎◌, inl, inr, ℕ, List, [], ◌∷◌, ◌++◌, Option, None, Some, Result, Ok, Err, IfErr}
-use Rattle.std.proofs.Common.{refl, sym, subst}
+use Rattle.std.proofs.Common.{refl, sym, subst, Bool, ◌∙◌}
 use Rattle.std.specs.List.{flat_map, FoldsTo}
 use Rattle.std.specs.Result.{IsErrAnd}
 use Rattle.std.specs.Io.KnownBytes.{Consumes}
@@ -10,7 +10,8 @@ use Rattle.node_log.specs.Reading.{HadLeft}
 use Rattle.node_effects.specs.declared.effects.Effects.{Effects}
 use Rattle.node_effects.specs.declared.error.NodeError.{NodeError}
 use Rattle.node_effects.specs.declared.error.NodeError.TheVariants.{NoMemory}
-use Rattle.node_store.specs.Serving.{BeginsWithFrame, BeginsWithFrames, Happens, IsWriteLost, LoopEvent, Notes, StopsAtFrame, read_by}
+use Rattle.node_store.specs.Serving.{BeginsWithFrame, BeginsWithFrames, Happens, IsReadStop, IsWriteLost, LoopEvent, Notes, StopsAtFrame}
+use Rattle.node_store.specs.Serving.{TellsLostLog, read_by}
 use Rattle.node_store.specs.declared.stop.ServeError.{ServeError}
 use Rattle.node_store.specs.declared.stop.ServeError.TheVariants as stops
 use Rattle.node_store.proofs.FrameReadingLemmas.{frames_behind}
@@ -22,6 +23,37 @@ stood_first : (frame : List (List ℕ)) (had left : Known) → Consumes had left
 stood_first frame None left took = tt
 stood_first frame (Some bytes) None took = absurd took
 stood_first frame (Some bytes) (Some rest) took = (bytes, refl, (rest, took))
+
+-- before a part of the loop that stopped, no call of the log failed
+told_as : (S T : Type 0) (a b c : Bool) (error : ServeError) → b ≡ a → TellsLostLog {T = S} b c (Err error)
+    → TellsLostLog {T = T} a c (Err error)
+told_as S T a b c (stops.NoFrame fault) is told = told ∙ is
+told_as S T a b c (stops.NoInput error) is told = told ∙ is
+told_as S T a b c (stops.LogLost error) is told = told
+told_as S T a b c (stops.OutputLost error) is told = told ∙ is
+told_as S T a b c (stops.Stopped error) is told = told ∙ is
+
+-- the loop tells of a call of the log as a part of it did, before which none failed
+pub told_so : (S : Type 0) {T : Type 0} (a b c : Bool) (result : Result T ServeError) (error : ServeError) →
+    IsErrAnd result (λ y. y ≡ error) → b ≡ a → TellsLostLog {T = S} b c (Err error) → TellsLostLog a c result
+told_so S {T} a b c result error stops is told =
+    let p = err_from_is_err_and result stops in
+    subst (λ r. TellsLostLog a c r) (sym p.1)
+    (told_as S T a b c p.0 is (subst (λ e. TellsLostLog {T = S} b c (Err e)) (sym p.2) told))
+
+-- where nothing is read or handled any more, no call of the log failed
+unread : (T : Type 0) (a : Bool) (error : ServeError) → IsReadStop error → TellsLostLog {T = T} a a (Err error)
+unread T a (stops.NoFrame fault) is = refl
+unread T a (stops.NoInput error) is = refl
+unread T a (stops.LogLost error) is = absurd is
+unread T a (stops.OutputLost error) is = absurd is
+unread T a (stops.Stopped error) is = refl
+
+pub told_none : {T : Type 0} (a : Bool) (result : Result T ServeError) (error : ServeError) →
+    IsErrAnd result (λ y. y ≡ error) → IsReadStop error → TellsLostLog a a result
+told_none {T} a result error stops is =
+    let p = err_from_is_err_and result stops in
+    subst (λ r. TellsLostLog a a r) (sym p.1) (unread T a p.0 (subst IsReadStop (sym p.2) is))
 
 module _ {M : Type 0} (handles : M → List (List ℕ) → Effects → M → Type 0) (notes : M → ℕ → M → Type 0)
     (fails : M → List (List ℕ) → NodeError → Type 0) where

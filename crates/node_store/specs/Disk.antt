@@ -30,9 +30,10 @@ found_after_stop (Some bytes) kept = bytes
 abbrev pub MayLeadTo : (other : Option (Option (List ℕ))) → Option (List ℕ) → Type 0
 MayLeadTo other bytes = (other ≡ None) ⊎ (other ≡ Some bytes)
 
--- what a contract sees of a log: the bytes that were written, and those that are kept, where they are known, and
--- whether each sync succeeded
+-- what a contract sees of a log: the bytes that were written, and those that are kept, where they are known; whether
+-- each sync succeeded; and whether a call failed
 pub record LogBytes : Type 0 where
   pub written : Option (List ℕ)
   pub kept : Option (List ℕ)
   pub sound : Bool
+  pub failed : Bool

@@ -1,5 +1,6 @@
 -- What the loop of a machine did.
-use Rattle.std.specs.Prelude.{◌≡◌, ◌⊎◌, ◌++◌, [], ℕ, List, Bool, true, false, Option, None, Some, Result, Ok, Err, ⊤}
+use Rattle.std.specs.Prelude.{◌≡◌, ◌⊎◌, ◌++◌, [], ℕ, List, Bool, true, false, IsTrue, Option, None, Some}
+use Rattle.std.specs.Prelude.{Result, Ok, Err, ⊤}
 use Rattle.std.specs.List.{flat_map, FoldsTo}
 use Rattle.std.specs.Io.KnownBytes.{Consumes}
 use Rattle.frames.specs.Frame.{frame_bytes}
@@ -67,6 +68,18 @@ abbrev pub IsWriteLost : ServeError → Type 0
 IsWriteLost (stops.LogLost error) = ⊤
 IsWriteLost (stops.OutputLost error) = ⊤
 IsWriteLost error = ⊥
+
+-- frames are not read or handled any more: the input is no frame or cannot be read, or the machine cannot go on
+abbrev pub IsReadStop : ServeError → Type 0
+IsReadStop (stops.NoFrame fault) = ⊤
+IsReadStop (stops.NoInput error) = ⊤
+IsReadStop (stops.Stopped error) = ⊤
+IsReadStop error = ⊥
+
+-- whether a call of the log has failed: one has if the loop stops with LogLost; else, this is as it was before
+abbrev pub TellsLostLog : {T : Type 0} → (old new : Bool) → Result T ServeError → Type 0
+TellsLostLog old new (Err (stops.LogLost error)) = IsTrue new
+TellsLostLog old new result = new ≡ old
 
 -- what was written of these outputs: all of them, or the first ones, for a reason of which nothing more is said
 abbrev pub WritesOutputs : (chain : ℕ) → (kept keeps held holds : Option (List ℕ)) → List Output

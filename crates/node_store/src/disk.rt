@@ -11,7 +11,7 @@ pub trait DiskFile {
     ghost use Rattle.std.specs.Prelude.{IfOk, length};
     ghost use Rattle.std.specs.Io.KnownBytes.{Keeps};
     ghost use Rattle.frames.specs.Writing.{Writes};
-    ghost use Rattle.node_store.specs.Logs.{Grows, IsKeptBehind};
+    ghost use Rattle.node_store.specs.Logs.{Grows, IsKeptBehind, TellsFailure};
     ghost use Rattle.node_store.specs.Disk.{IsCutTo, LeavesFront, LosesEnd};
 
     // The bytes that a reader of the file gets while the machine runs, where they are known.
@@ -25,13 +25,17 @@ pub trait DiskFile {
     // and the file may then keep bytes that were written later than these.
     ghost sound: { Self → Bool } = { λ _. true };
 
+    // Whether an `append` or a `sync_data` failed. A file that says nothing of this may always have failed.
+    ghost failed: { Self → Bool } = { λ _. true };
+
     /// Writes bytes at the end. Where it fails, a front of them was written.
     fn append(&mut self, bytes: &[u8]) -> io::Result<()>
         ensures written { Writes (written self.old) (written self.new) result bytes.now }
         ensures kept { Grows (kept self.old) (kept self.new) }
         ensures within { IsTrue (sound self.old) → Grows (kept self.old) (written self.old)
             → Grows (kept self.new) (written self.new) }
-        ensures sound { sound self.new ≡ sound self.old };
+        ensures sound { sound self.new ≡ sound self.old }
+        ensures failure { TellsFailure (failed self.old) (failed self.new) result };
 
     /// Makes the file keep what was written, if no earlier call failed. Behind that it may still keep bytes that were
     /// cut off: where it fails, some or all of these. What it kept before, it keeps in any case.
@@ -43,7 +47,8 @@ pub trait DiskFile {
         ensures cut { IsKeptBehind (written self.old) (kept self.old) → Grows (written self.old) (kept self.new)
             × Grows (kept self.new) (kept self.old) }
         ensures all { IsTrue (sound self.old) → OnOk result (kept self.new ≡ written self.new) }
-        ensures sound { OnOk result (sound self.new ≡ sound self.old) };
+        ensures sound { OnOk result (sound self.new ≡ sound self.old) }
+        ensures failure { TellsFailure (failed self.old) (failed self.new) result };
 
     /// How many bytes the file has.
     fn length(&self) -> io::Result<u64>
@@ -55,7 +60,8 @@ pub trait DiskFile {
         ensures written { OnOk result (IsCutTo count (written self.old) (written self.new)) }
         ensures left { LeavesFront count (written self.old) (written self.new) }
         ensures kept { LosesEnd count (kept self.old) (kept self.new) }
-        ensures sound { sound self.new ≡ sound self.old };
+        ensures sound { sound self.new ≡ sound self.old }
+        ensures failure { failed self.new ≡ failed self.old };
 }
 
 /// The folder of a node, in which only this program makes and renames files: the file `log`, and the file `log.new`,
@@ -66,6 +72,7 @@ pub trait DiskFolder {
     ghost use Rattle.std.specs.Prelude.{OnOk, OnErr, IfOk};
     ghost use Rattle.std.specs.Io.KnownBytes.{Keeps};
     ghost use Rattle.node_store.specs.Disk.{MayLeadTo, found_after_stop};
+    ghost use Rattle.node_store.specs.Logs.{TellsFailure};
     ghost use Rattle.node_store.specs.Rewriting.{IsBeside};
 
     /// A file in the folder.
@@ -85,11 +92,16 @@ pub trait DiskFolder {
     // elsewhere.
     ghost sound: { Self → Bool } = { λ _. true };
 
+    // Whether a `rename_second` or a `sync_folder` failed. A folder that says nothing of this may always have failed.
+    ghost failed: { Self → Bool } = { λ _. true };
+
     /// Opens the file `log`, or makes it, if there is none.
     fn open_log(&mut self) -> io::Result<Self::File>
         ensures written { IfOk result (λ log. Self.File.written log ≡ found self.old) }
         ensures fresh { IfOk result (λ log. IsTrue (Self.File.sound log)) }
-        ensures sound { sound self.new ≡ sound self.old };
+        ensures unfailed { IfOk result (λ log. IsTrue (Self.File.failed log) → IsTrue (failed self.old)) }
+        ensures sound { sound self.new ≡ sound self.old }
+        ensures failure { failed self.new ≡ failed self.old };
 
     /// Opens the file `log`, which the program has open, once more, to read it from its start.
     fn read_log(&self, log: &Self::File) -> io::Result<Self::Reader>
@@ -100,12 +112,15 @@ pub trait DiskFolder {
         ensures other { other self.new ≡ other self.old }
         ensures empty { IfOk result (λ second. IsBeside (Self.File.written log.now) (Self.File.written second) []) }
         ensures fresh { IfOk result (λ second. IsTrue (Self.File.sound second)) }
-        ensures sound { sound self.new ≡ sound self.old };
+        ensures unfailed { IfOk result (λ second. IsTrue (Self.File.failed second) → IsTrue (failed self.old)) }
+        ensures sound { sound self.new ≡ sound self.old }
+        ensures failure { failed self.new ≡ failed self.old };
 
     /// Removes the file `log.new`. Fails with `NotFound` if there is none.
     fn remove_second(&mut self) -> io::Result<()>
         ensures other { other self.new ≡ other self.old }
-        ensures sound { sound self.new ≡ sound self.old };
+        ensures sound { sound self.new ≡ sound self.old }
+        ensures failure { failed self.new ≡ failed self.old };
 
     /// Gives the file `log.new` the name `log`. The name may lead to the old file after the machine stops. Where this
     /// fails, the name leads to the old file, and may lead to the new one after the machine stops.
@@ -114,11 +129,13 @@ pub trait DiskFolder {
             (MayLeadTo (other self.new) (found_after_stop (other self.old) (Self.File.kept log.now))) }
         ensures failed { OnErr result
             ((other self.new ≡ other self.old) ⊎ (other self.new ≡ Some (Self.File.kept second.now))) }
-        ensures sound { sound self.new ≡ sound self.old };
+        ensures sound { sound self.new ≡ sound self.old }
+        ensures failure { TellsFailure (failed self.old) (failed self.new) result };
 
     /// Makes the folder keep to which files its names lead, if no earlier call failed.
     fn sync_folder(&mut self) -> io::Result<()>
         ensures synced { IsTrue (sound self.old) → OnOk result (other self.new ≡ None) }
         ensures failed { (other self.new ≡ other self.old) ⊎ (other self.new ≡ None) }
-        ensures sound { OnOk result (sound self.new ≡ sound self.old) };
+        ensures sound { OnOk result (sound self.new ≡ sound self.old) }
+        ensures failure { TellsFailure (failed self.old) (failed self.new) result };
 }

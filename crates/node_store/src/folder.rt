@@ -1,5 +1,5 @@
 //! The log in a folder of the disk.
-ghost use Rattle.std.specs.Prelude.{◌≡◌, IfOk};
+ghost use Rattle.std.specs.Prelude.{◌≡◌, IfOk, IsTrue};
 
 use crate::disk::{DiskFile, DiskFolder};
 use crate::log::Log;
@@ -22,13 +22,14 @@ impl<D: DiskFolder> Model for FolderLog<D> {
 
     ghost Value = { LogBytes };
 
-    ghost use Rattle.std.specs.Prelude.{◌≡◌, ◌&&◌, None, IsTrue};
+    ghost use Rattle.std.specs.Prelude.{◌≡◌, ◌&&◌, ◌||◌, None, IsTrue};
     ghost use Rattle.node_store.specs.Disk.{found_after_stop};
 
     ghost view = { λ log. record {
       written = D.File.written log.file;
       kept = found_after_stop (D.other log.folder) (D.File.kept log.file);
       sound = D.File.sound log.file && D.sound log.folder;
+      failed = D.File.failed log.file || D.failed log.folder;
     } };
 
     ghost invariant = { λ log. IsTrue log.is_placed → IsTrue (D.sound log.folder) → D.other log.folder ≡ None };
@@ -51,11 +52,12 @@ pub struct SecondLog<F> {
 }
 
 impl<D: DiskFolder + Drop> FolderLog<D> {
-    /// Opens the file `log` in a folder, or makes it, if there is none. No sync of this log has failed yet, if none of
+    /// Opens the file `log` in a folder, or makes it, if there is none. No call of this log has failed yet, if none of
     /// the folder has.
     pub fn open(folder: D) -> io::Result<FolderLog<D>>
         ensures written { IfOk result (λ log. log.written ≡ D.found folder) }
         ensures sound { IfOk result (λ log. log.sound ≡ D.sound folder) }
+        ensures unfailed { IfOk result (λ log. IsTrue log.failed → IsTrue (D.failed folder)) }
     {
         let mut folder = folder;
         let file = folder.open_log()?;
@@ -73,6 +75,8 @@ impl<D: DiskFolder> Log for FolderLog<D> {
     ghost kept = { λ log. log.kept };
 
     ghost sound = { λ log. log.sound };
+
+    ghost failed = { λ log. log.failed };
 
     fn append(&mut self, bytes: &[u8]) -> io::Result<()> {
         self.file.append(bytes)
@@ -95,6 +99,8 @@ impl<F: DiskFile> Log for SecondLog<F> {
     ghost kept = { λ log. F.kept log.second };
 
     ghost sound = { λ log. F.sound log.second };
+
+    ghost failed = { λ log. F.failed log.second };
 
     fn append(&mut self, bytes: &[u8]) -> io::Result<()> {
         self.second.append(bytes)

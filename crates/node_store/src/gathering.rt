@@ -1,7 +1,7 @@
 //! What is to be done for frames that lie in memory.
 ghost use Rattle.std.specs.Prelude.{◌≡◌, ◌<◌, ◌≤◌, Ok, Some, true, false, length, IfErr, IfOk, OnOk};
 ghost use Rattle.node_store.specs.Gathering.{HandlesInput};
-ghost use Rattle.node_store.specs.Serving.{IsInputEnd, HandlesArrived, StopsAtFrame, StopsBehind};
+ghost use Rattle.node_store.specs.Serving.{IsInputEnd, IsReadStop, HandlesArrived, StopsAtFrame, StopsBehind};
 
 use crate::batch::Batch;
 use crate::end::LogEnd;
@@ -50,6 +50,7 @@ pub fn gather_round<'a, M: Machine>(
     ensures ended { IfOk result (λ round. round.rest.now ≡ input.now → IsInputEnd input.now) }
     ensures lost { IfErr result (StopsBehind M.handles M.notes machine.old (Some input.now)) }
     ensures stopped { IfErr result (StopsAtFrame M.handles M.notes M.fails machine.old (Some input.now)) }
+    ensures kind { IfErr result IsReadStop }
 {
     let mut batch = Batch::new(alloc, end.chain);
     let report = machine.begin_round(end.length);
@@ -74,6 +75,7 @@ fn take_frames<'a, M: Machine>(
     ensures ended { OnOk result (left.new.now ≡ left.old.now → IsInputEnd left.old.now) }
     ensures lost { IfErr result (StopsBehind M.handles M.notes machine.old (Some left.old.now)) }
     ensures stopped { IfErr result (StopsAtFrame M.handles M.notes M.fails machine.old (Some left.old.now)) }
+    ensures kind { IfErr result IsReadStop }
 {
     if !take_frame(alloc, machine, left, batch)? {
         return Ok(());
@@ -93,6 +95,7 @@ fn take_more<'a, M: Machine>(
     ensures no_more { OnOk result (length left.new.now ≤ length left.old.now) }
     ensures lost { IfErr result (StopsBehind M.handles M.notes machine.old (Some left.old.now)) }
     ensures stopped { IfErr result (StopsAtFrame M.handles M.notes M.fails machine.old (Some left.old.now)) }
+    ensures kind { IfErr result IsReadStop }
 {
     for _ in 1..MOST_AT_ONCE {
         if batch.is_full() {
@@ -119,6 +122,7 @@ fn take_frame<'a, M: Machine>(
     ensures no_more { OnOk result (length left.new.now ≤ length left.old.now) }
     ensures lost { IfErr result (StopsBehind M.handles M.notes machine.old (Some left.old.now)) }
     ensures stopped { IfErr result (StopsAtFrame M.handles M.notes M.fails machine.old (Some left.old.now)) }
+    ensures kind { IfErr result IsReadStop }
 {
     let mut reader = GivenBytes::new(*left);
     if handle_next(alloc, machine, &mut reader, batch)? {

@@ -22,7 +22,7 @@ pub use stop::ServeError;
 pub use stopping::{StoppingLog, StoppingWriter};
 pub use stored::StoredLog;
 pub use surviving::SurvivingLog;
-pub use writing::{append_bytes, append_entries, push_entries};
+pub use writing::{append_bytes, push_entries};
 
 mod batch;
 mod disk;

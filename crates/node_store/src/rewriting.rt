@@ -2,6 +2,7 @@
 ghost use Rattle.std.specs.Prelude.{◌≡◌, ◌↔◌, ◌+◌, ◌*◌, ◌≤◌, [], IsTrue, OnOk, IfOk, length};
 ghost use Rattle.std.specs.Io.KnownBytes.{Appends};
 ghost use Rattle.node_log.specs.Entry.{first_chain};
+ghost use Rattle.node_store.specs.Logs.{TellsExchange};
 ghost use Rattle.node_store.specs.Recovery.{log_bytes};
 ghost use Rattle.node_store.specs.Rewriting.{HasGrown, HasRewritten, IsBeside, IsEndOf};
 
@@ -63,6 +64,7 @@ pub fn rewrite_log<L: RewritableLog>(
     ensures kept { HasRewritten (L.kept log.old) (L.kept log.new) entries.now result }
     ensures synced { OnOk result (L.kept log.new ≡ L.written log.new) }
     ensures sound { OnOk result (IsTrue (L.sound log.new)) }
+    ensures failure { TellsExchange (L.failed log.old) (L.failed log.new) result }
 {
     match write_second(alloc, log, entries) {
         Ok((second, end)) => {
@@ -87,8 +89,10 @@ fn write_second<L: RewritableLog>(
 
     ensures synced { IfOk result (λ done. L.Second.kept done.0 ≡ L.Second.written done.0) }
     ensures fresh { IfOk result (λ done. IsTrue (L.Second.sound done.0)) }
+    ensures unfailed { IfOk result (λ done. IsTrue (L.Second.failed done.0) → IsTrue (L.failed log.old)) }
     ensures end { IfOk result (λ done. IsEndOf entries.now done.1) }
     ensures sound { L.sound log.new ≡ L.sound log.old }
+    ensures failure { L.failed log.new ≡ L.failed log.old }
 {
     let mut second = log.begin_second()?;
     match write_entries(alloc, &mut second, entries) {
@@ -107,6 +111,7 @@ fn write_entries<L: Log>(alloc: Global, log: &mut L, entries: &[Entry]) -> io::R
         (log_bytes first_chain entries.now)) }
     ensures synced { OnOk result (L.kept log.new ≡ L.written log.new) }
     ensures sound { OnOk result (IsTrue (L.sound log.new)) }
+    ensures failure { OnOk result (L.failed log.new ≡ L.failed log.old) }
     ensures end { IfOk result (IsEndOf entries.now) }
 {
     let mut part = Gathered::new(alloc);
@@ -129,6 +134,7 @@ fn write_entries<L: Log>(alloc: Global, log: &mut L, entries: &[Entry]) -> io::R
 fn write_part<L: Log>(log: &mut L, part: &mut Gathered, before: u64) -> io::Result<u64>
     ensures written { OnOk result (Appends (L.written log.old) (L.written log.new) part.old) }
     ensures sound { OnOk result (L.sound log.new ≡ L.sound log.old) }
+    ensures failure { OnOk result (L.failed log.new ≡ L.failed log.old) }
     ensures empty { OnOk result (part.new ≡ []) }
     ensures length { IfOk result (λ end. end ≡ before + length part.old) }
 {

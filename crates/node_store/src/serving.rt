@@ -10,9 +10,9 @@ ghost use Rattle.node_effects.specs.declared.output.Output.{Output};
 ghost use Rattle.node_store.specs.Outputs.{HasGathered};
 ghost use Rattle.node_store.specs.Rewriting.{HasLengthened};
 ghost use Rattle.node_store.specs.Rounds.{ServesInRounds};
-ghost use Rattle.node_store.specs.Serving.{HandlesArrived, IsFrameHandled, IsInputEnd, IsWriteLost};
+ghost use Rattle.node_store.specs.Serving.{HandlesArrived, IsFrameHandled, IsInputEnd, IsReadStop, IsWriteLost};
 ghost use Rattle.node_store.specs.Serving.{ServesSome, ServesUntil};
-ghost use Rattle.node_store.specs.Serving.{StopsAtFrame, WritesOutputs};
+ghost use Rattle.node_store.specs.Serving.{StopsAtFrame, TellsLostLog, WritesOutputs};
 
 use crate::batch::Batch;
 use crate::end::LogEnd;
@@ -42,7 +42,8 @@ pub(crate) const MOST_AT_ONCE: u16 = 1024;
 /// writes all that is wanted for them. A round begins only as long as the log has not grown as `has_grown` says. So the
 /// loop returns once the log has grown so, and where the log ends is returned only then.
 ///
-/// The clause `stopped` says what `Stopped` means: the machine cannot handle the next frame, or memory was refused.
+/// The clause `stopped` says what `Stopped` means: the machine cannot handle the next frame, or memory was refused. The
+/// clause `failure` says that `LogLost` comes just if a call of the log failed.
 ///
 /// What an operator should know is written to `err`. A write that fails there is ignored.
 pub fn serve_frames<M: Machine, I: Read + Drop, O: Write, L: Log, E: Write>(
@@ -75,6 +76,7 @@ pub fn serve_frames<M: Machine, I: Read + Drop, O: Write, L: Log, E: Write>(
     ensures sound { OnOk result (IsTrue (L.sound log.new)) }
     ensures lengthened { IfOk result (λ now. MatchOption now ⊤
         (λ now. HasLengthened (L.kept log.old) (L.kept log.new) end.length now.length)) }
+    ensures failure { TellsLostLog (L.failed log.old) (L.failed log.new) result }
 {
     let mut length = end.length;
     let mut batch = Batch::new(alloc, end.chain);
@@ -123,6 +125,7 @@ fn serve_arrived<M: Machine, I: Read + Drop, O: Write, L: Log>(
     ensures synced { OnOk result (L.kept log.new ≡ L.written log.new) }
     ensures sound { OnOk result (IsTrue (L.sound log.new)) }
     ensures appended { OnOk result (Appends (L.kept log.old) (L.kept log.new) batch.new.log) }
+    ensures failure { TellsLostLog (L.failed log.old) (L.failed log.new) result }
 {
     let goes_on = handle_arrived(alloc, machine, input, batch)?;
     write_batch(output, log, batch)?;
@@ -145,6 +148,7 @@ fn write_batch<O: Write, L: Log>(
     ensures synced { OnOk result (L.kept log.new ≡ L.written log.new) }
     ensures sound { OnOk result (IsTrue (L.sound log.new)) }
     ensures appended { OnOk result (Appends (L.kept log.old) (L.kept log.new) batch.now.log) }
+    ensures failure { TellsLostLog (L.failed log.old) (L.failed log.new) result }
 {
     if let Err(error) = write_out(output, &batch.early) {
         return Err(ServeError::OutputLost(error));
@@ -169,6 +173,7 @@ fn handle_arrived<M: Machine, I: Read + Drop>(
         (reader_remaining I.remaining input.new) batch.old batch.new result }
     ensures stopped { IfErr result
         (StopsAtFrame M.handles M.notes M.fails machine.old (reader_remaining I.remaining input.old)) }
+    ensures kind { IfErr result IsReadStop }
 {
     for _ in 0..MOST_AT_ONCE {
         if !handle_next(alloc, machine, input, batch)? {
@@ -197,6 +202,7 @@ pub(crate) fn handle_next<M: Machine, R: Read>(
         (R.remaining input.new) batch.old batch.new result }
     ensures stopped { IfErr result
         (StopsAtFrame M.handles M.notes M.fails machine.old (R.remaining input.old)) }
+    ensures kind { IfErr result IsReadStop }
     ensures ended { IfOk result (λ found. found ≡ false → HadLeft IsInputEnd (R.remaining input.old)) }
     ensures same { IfOk result (λ found. found ≡ false → (machine.new ≡ machine.old) × (batch.new ≡ batch.old)) }
     ensures taken { IfOk result (λ found. found ≡ true → (frame : List (List ℕ))

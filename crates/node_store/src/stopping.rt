@@ -5,12 +5,13 @@
 //! call is a failure of the inner log or writer, which may have done a part of it.
 //!
 //! The two do not count together. So there is a pair of numbers for each moment of the one sequence of calls to both.
-ghost use Rattle.std.specs.Prelude.{◌≡◌, ◌-◌, ◌<◌, ◌↔◌, [], IfOk, IfSome, IsTrue, OnOk, length};
+ghost use Rattle.std.specs.Prelude.{◌≡◌, ◌-◌, ◌<◌, ◌↔◌, [], true, IfOk, IfSome, IsTrue, OnOk};
+ghost use Rattle.std.specs.Prelude.{length};
 ghost use Rattle.std.specs.Io.{WritesAtMost};
 ghost use Rattle.std.specs.Io.KnownBytes.{Keeps, WriteAppends};
 ghost use Rattle.frames.specs.Writing.{Writes};
 ghost use Rattle.node_store.specs.Disk.{IsFrontOf, LosesEnd};
-ghost use Rattle.node_store.specs.Logs.{Grows, IsKeptBehind};
+ghost use Rattle.node_store.specs.Logs.{Grows, IsKeptBehind, TellsExchange, TellsFailure};
 ghost use Rattle.node_store.specs.Rewriting.{Becomes, IsBeside, KeepsOrBecomes};
 ghost use Rattle.node_store.specs.Stopping.{FailsIfNoneLeft};
 
@@ -63,12 +64,16 @@ impl<L: Log> Log for StoppingLog<L> {
 
     ghost sound = { λ it. L.sound it.log };
 
+    // A call that is not passed on fails without a call of the log in it, so this one may always have failed.
+    ghost failed = { λ _. true };
+
     fn append(&mut self, bytes: &[u8]) -> io::Result<()>
         ensures written { Writes (L.written self.old.log) (L.written self.new.log) result bytes.now }
         ensures kept { Grows (L.kept self.old.log) (L.kept self.new.log) }
         ensures within { IsTrue (L.sound self.old.log) → Grows (L.kept self.old.log) (L.written self.old.log)
             → Grows (L.kept self.new.log) (L.written self.new.log) }
         ensures sound { L.sound self.new.log ≡ L.sound self.old.log }
+        ensures failure { TellsFailure true true result }
         ensures stopped { FailsIfNoneLeft self.old.left self.old self.new result }
         ensures counts { self.new.left ≡ self.old.left - 1 }
     {
@@ -88,6 +93,7 @@ impl<L: Log> Log for StoppingLog<L> {
             → Grows (L.written self.old.log) (L.kept self.new.log) × Grows (L.kept self.new.log) (L.kept self.old.log) }
         ensures all { IsTrue (L.sound self.old.log) → OnOk result (L.kept self.new.log ≡ L.written self.new.log) }
         ensures sound { OnOk result (L.sound self.new.log ≡ L.sound self.old.log) }
+        ensures failure { TellsFailure true true result }
         ensures stopped { FailsIfNoneLeft self.old.left self.old self.new result }
         ensures counts { self.new.left ≡ self.old.left - 1 }
     {
@@ -107,6 +113,7 @@ impl<L: RewritableLog> RewritableLog for StoppingLog<L> {
         ensures empty { IfOk result (λ second.
             IsBeside (L.written self.old.log) (L.Second.written second) []) }
         ensures fresh { IfOk result (λ second. IsTrue (L.Second.sound second)) }
+        ensures unfailed { IfOk result (λ second. IsTrue (L.Second.failed second) → IsTrue true) }
         ensures sound { L.sound self.new.log ≡ L.sound self.old.log }
         ensures stopped { FailsIfNoneLeft self.old.left self.old self.new result }
         ensures counts { self.new.left ≡ self.old.left - 1 }
@@ -139,6 +146,7 @@ impl<L: RewritableLog> RewritableLog for StoppingLog<L> {
         ensures all { IsTrue (L.sound self.old.log) → OnOk result (L.kept self.new.log ≡ L.written self.new.log) }
         ensures sound { IsTrue (L.sound self.old.log) → IsTrue (L.Second.sound second)
             → OnOk result (IsTrue (L.sound self.new.log)) }
+        ensures failure { TellsExchange true true result }
         ensures stopped { FailsIfNoneLeft self.old.left self.old self.new result }
         ensures counts { self.new.left ≡ self.old.left - 1 }
     {

@@ -23,5 +23,6 @@ pub trait StoredLog: RewritableLog {
         ensures left { LosesEnd count (Self.written self.old) (Self.written self.new) }
         ensures kept { LosesEnd count (Self.kept self.old) (Self.kept self.new) }
         ensures lost { IfOk result (λ lost. IfSome (Self.written self.old) (λ bytes. lost ≡ length bytes - count)) }
-        ensures sound { Self.sound self.new ≡ Self.sound self.old };
+        ensures sound { Self.sound self.new ≡ Self.sound self.old }
+        ensures failure { Self.failed self.new ≡ Self.failed self.old };
 }

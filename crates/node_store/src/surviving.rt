@@ -8,6 +8,7 @@
 //! program that is killed, read it over a `StoppingLog` of a `SurvivingLog`.
 ghost use Rattle.std.specs.Prelude.{◌≡◌, IsTrue, OnOk};
 ghost use Rattle.std.specs.Io.KnownBytes.{Keeps};
+ghost use Rattle.node_store.specs.Logs.{TellsFailure};
 
 use crate::log::Log;
 use crate::second::RewritableLog;
@@ -30,6 +31,8 @@ impl<L: Log> Log for SurvivingLog<L> {
 
     ghost sound = { λ it. L.sound it.log };
 
+    ghost failed = { λ it. L.failed it.log };
+
     fn append(&mut self, bytes: &[u8]) -> io::Result<()> {
         self.log.append(bytes)
     }
@@ -39,6 +42,7 @@ impl<L: Log> Log for SurvivingLog<L> {
         ensures written { Keeps (L.written self.old.log) (L.written self.new.log) }
         ensures synced { IsTrue (L.sound self.old.log) → OnOk result (L.kept self.new.log ≡ L.written self.new.log) }
         ensures sound { OnOk result (L.sound self.new.log ≡ L.sound self.old.log) }
+        ensures failure { TellsFailure (L.failed self.old.log) (L.failed self.new.log) result }
     {
         self.log.sync()
     }

@@ -1,16 +1,15 @@
 //! Appending to the log.
-ghost use Rattle.std.specs.Prelude.{◌≡◌, ◌++◌, IsTrue, IfOk, OnOk, length};
+ghost use Rattle.std.specs.Prelude.{◌≡◌, ◌++◌, IsTrue, OnOk};
 ghost use Rattle.std.specs.List.{concat};
 ghost use Rattle.frames.specs.Writing.{Writes};
 ghost use Rattle.node_log.specs.Entry.{chain_behind};
 ghost use Rattle.node_store.specs.Recovery.{log_bytes};
-ghost use Rattle.node_store.specs.Logs.{Grows};
+ghost use Rattle.node_store.specs.Logs.{Grows, TellsFailure};
 
 use crate::log::Log;
 use bytes::Bytes;
 use frames::Gathered;
 use node_log::{Chain, Entry, push_entry};
-use std::alloc::Global;
 use std::io;
 
 /// Appends the bytes of entries to bytes that wait to be written to the log, and goes on with the chain behind them.
@@ -34,6 +33,7 @@ pub fn append_bytes<L: Log>(log: &mut L, bytes: &Gathered) -> io::Result<()>
     ensures kept { Writes (L.kept log.old) (L.kept log.new) result bytes.now }
     ensures synced { OnOk result (L.kept log.new ≡ L.written log.new) }
     ensures sound { OnOk result (IsTrue (L.sound log.new)) }
+    ensures failure { TellsFailure (L.failed log.old) (L.failed log.new) result }
 {
     if bytes.is_empty() {
         return Ok(());
@@ -49,6 +49,7 @@ pub(crate) fn append_parts<L: Log>(log: &mut L, bytes: &Gathered) -> io::Result<
     ensures within { IsTrue (L.sound log.old) → Grows (L.kept log.old) (L.written log.old)
         → Grows (L.kept log.new) (L.written log.new) }
     ensures sound { L.sound log.new ≡ L.sound log.old }
+    ensures failure { TellsFailure (L.failed log.old) (L.failed log.new) result }
 {
     let (parts, last) = bytes.parts();
     append_each(log, parts)?;
@@ -62,32 +63,10 @@ fn append_each<L: Log>(log: &mut L, parts: &[Bytes]) -> io::Result<()>
     ensures within { IsTrue (L.sound log.old) → Grows (L.kept log.old) (L.written log.old)
         → Grows (L.kept log.new) (L.written log.new) }
     ensures sound { L.sound log.new ≡ L.sound log.old }
+    ensures failure { TellsFailure (L.failed log.old) (L.failed log.new) result }
 {
     for part in parts {
         log.append(part)?;
     }
     Ok(())
-}
-
-/// Appends entries to a log that is synced and ends behind this chain, and syncs it again. Returns how many bytes they
-/// have, and goes on with the chain behind them. If it fails, also for want of memory, the log keeps a front of the
-/// bytes.
-pub fn append_entries<L: Log>(
-    alloc: Global,
-    log: &mut L,
-    chain: &mut Chain,
-    entries: &[Entry],
-) -> io::Result<u64>
-    requires synced { L.kept log.old ≡ L.written log.old }
-    requires sound { IsTrue (L.sound log.old) }
-    ensures kept { Writes (L.kept log.old) (L.kept log.new) result (log_bytes chain.old.state entries.now) }
-    ensures length { IfOk result (λ bytes. bytes ≡ length (log_bytes chain.old.state entries.now)) }
-    ensures chain { OnOk result (chain.new.state ≡ chain_behind chain.old.state entries.now) }
-    ensures synced { OnOk result (L.kept log.new ≡ L.written log.new) }
-    ensures sound { OnOk result (IsTrue (L.sound log.new)) }
-{
-    let mut bytes = Gathered::new(alloc);
-    push_entries(&mut bytes, chain, entries)?;
-    append_bytes(log, &bytes)?;
-    Ok(bytes.len() as u64)
 }

@@ -6,6 +6,7 @@ use node_store::{DiskFile, DiskFolder};
 use std::alloc::Global;
 use std::collections::VecDeque;
 use std::io;
+use std::io::ErrorKind;
 
 /// A file in memory.
 #[derive(Drop)]
@@ -17,6 +18,8 @@ pub(crate) struct MemoryFile {
     pub(crate) kept: Vec<u8>,
     /// Whether each sync succeeded. After one that failed, later ones succeed and keep nothing more.
     pub(crate) is_sound: bool,
+    /// Whether an append or a sync failed.
+    pub(crate) has_failed: bool,
 }
 
 /// A folder in memory, which has the bytes of the file `log` before that is opened.
@@ -28,6 +31,8 @@ pub(crate) struct MemoryFolder {
     other: Option<Vec<u8>>,
     // Whether a rename stays after the machine stops, though the folder was not synced.
     keeps_renames: bool,
+    // Whether a rename failed.
+    has_failed: bool,
 }
 
 impl MemoryFolder {
@@ -38,6 +43,7 @@ impl MemoryFolder {
             found,
             other: None,
             keeps_renames,
+            has_failed: false,
         }
     }
 }
@@ -59,9 +65,16 @@ impl DiskFile for MemoryFile {
 
     ghost sound = { λ file. file.is_sound };
 
+    ghost failed = { λ file. file.has_failed };
+
     fn append(&mut self, bytes: &[u8]) -> io::Result<()> {
-        self.bytes.extend_from_slice(bytes)?;
-        Ok(())
+        match self.bytes.extend_from_slice(bytes) {
+            Ok(()) => Ok(()),
+            Err(_) => {
+                self.has_failed = true;
+                Err(io::Error::from(ErrorKind::OutOfMemory))
+            }
+        }
     }
 
     fn sync_data(&mut self) -> io::Result<()> {
@@ -75,6 +88,7 @@ impl DiskFile for MemoryFile {
             }
             Err(error) => {
                 self.is_sound = false;
+                self.has_failed = true;
                 Err(error)
             }
         }
@@ -103,12 +117,15 @@ impl DiskFolder for MemoryFolder {
 
     ghost other = { λ folder. other_of folder.other };
 
+    ghost failed = { λ folder. folder.has_failed };
+
     fn open_log(&mut self) -> io::Result<MemoryFile> {
         Ok(MemoryFile {
             alloc: self.alloc,
             bytes: copy_of(self.alloc, &self.found)?,
             kept: copy_of(self.alloc, &self.found)?,
             is_sound: true,
+            has_failed: false,
         })
     }
 
@@ -123,6 +140,7 @@ impl DiskFolder for MemoryFolder {
             bytes: Vec::new(self.alloc),
             kept: Vec::new(self.alloc),
             is_sound: true,
+            has_failed: false,
         })
     }
 
@@ -136,7 +154,13 @@ impl DiskFolder for MemoryFolder {
             return Ok(());
         }
         if self.other.is_none() {
-            self.other = Some(copy_of(self.alloc, &log.kept)?);
+            match copy_of(self.alloc, &log.kept) {
+                Ok(kept) => self.other = Some(kept),
+                Err(error) => {
+                    self.has_failed = true;
+                    return Err(error);
+                }
+            }
         }
         Ok(())
     }

@@ -52,9 +52,9 @@ pub record IsBegun (old new : Node) (chain then : ℕ) (kept keeps : Option (Lis
   pub chained : then ≡ chain_behind chain (start_entries old)
 
 -- What a start of the program is that returns, by the contracts of `Node::new`, `recover_machine`, `entries_anew`,
--- `rewrite_log`, `Node::start` and `append_entries`. These bytes were found. A new node carried out the entries in
--- them, and the file was cut where these end. The log was perhaps written anew. The node was started, and the log got
--- the entries of the start, behind which it has this chain and keeps these bytes.
+-- `rewrite_log`, `Node::start`, `push_entries` and `append_bytes`. These bytes were found. A new node carried out the
+-- entries in them, and the file was cut where these end. The log was perhaps written anew. The node was started, and
+-- the log got the entries of the start, behind which it has this chain and keeps these bytes.
 pub record IsStart (names : FileOfNames) (number : ℕ) (disk : List ℕ) (node : Node) (chain : ℕ)
     (keeps : Option (List ℕ)) : Type 0 where
   pub new : Node

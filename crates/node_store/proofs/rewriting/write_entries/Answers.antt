@@ -24,12 +24,14 @@ loop-entry-preserved g c =
             w.in_ok-length.ensures.empty w.in_ok-length.ensures.length),
         chained,
         ap g.L.Log.sound w.log-is ∙ w.in_ok-length.ensures.sound ∙ c.loop-entry.invariant.2,
+        ap g.L.Log.failed w.log-is ∙ w.in_ok-length.ensures.failure ∙ c.loop-entry.invariant.3,
       )
       | else-len-ge-PART_BYTES w ↦ (
         same_written _ _ _ _ _ _ _ _ (ap g.L.Log.written w.log-is)
             w.part-is w.length-is waits,
         chained,
         ap g.L.Log.sound w.log-is ∙ c.loop-entry.invariant.2,
+        ap g.L.Log.failed w.log-is ∙ c.loop-entry.invariant.3,
       )
     ]
 

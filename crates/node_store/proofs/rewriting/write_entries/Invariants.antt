@@ -10,3 +10,4 @@ abbrev pub invariant-loop-entry : goal.invariant-loop-entry
 invariant-loop-entry g l = AreWritten (g.L.Log.written l.fn.log) (g.L.Log.written l.log) l.part l.length
     (log_bytes first_chain (take l.entry-index l.entries))
     × (l.chain.state ≡ chain_behind first_chain (take l.entry-index l.entries)) × IsTrue (g.L.Log.sound l.log)
+    × (g.L.Log.failed l.log ≡ g.L.Log.failed l.fn.log)

@@ -1,7 +1,8 @@
+use Rattle.std.proofs.Common.{refl}
 use Rattle.std.specs.Io.Buffered.{reader_remaining}
 use Rattle.std.proofs.lemmas.Result.{err_from_is_err_and}
 use Rattle.node_store.proofs.ServingLemmas.{serves_arrived, serves_unhandled, serves_unwritten}
-use Rattle.node_store.proofs.StoppingLemmas.{lost_stops, stopped_so}
+use Rattle.node_store.proofs.StoppingLemmas.{lost_stops, stopped_so, told_none, told_so}
 use Rattle.node_store.proofs.serving.serve_arrived.Goals as goal
 
 pub returns-in_err-goes_on-clause-serves : goal.returns-in_err-goes_on-clause-serves
@@ -44,3 +45,12 @@ returns-in_err-write_batch-clause-stopped g c =
     stopped_so g.M.Machine.handles g.M.Machine.notes g.M.Machine.fails c.args.machine.now had
     c.from_residual-in_err-write_batch.result error c.from_residual-in_err-write_batch.ensures.1
     (lost_stops g.M.Machine.handles g.M.Machine.notes g.M.Machine.fails c.args.machine.now had error c.in_err-write_batch.ensures.lost)
+
+pub returns-in_err-goes_on-clause-failure : goal.returns-in_err-goes_on-clause-failure
+returns-in_err-goes_on-clause-failure g c =
+    told_none _ c.from_residual.result c.in_err-goes_on.field-0.0 c.from_residual.ensures.1 c.in_err-goes_on.ensures.kind
+
+pub returns-in_err-write_batch-clause-failure : goal.returns-in_err-write_batch-clause-failure
+returns-in_err-write_batch-clause-failure g c =
+    let residual = c.from_residual-in_err-write_batch in
+    told_so (Unit {0}) _ _ _ residual.result c.in_err-write_batch.field-0.0 residual.ensures.1 refl c.in_err-write_batch.ensures.failure

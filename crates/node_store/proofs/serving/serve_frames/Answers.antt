@@ -1,11 +1,11 @@
-use Rattle.std.proofs.Common.{rules, true, false, sym, List, ℕ}
+use Rattle.std.proofs.Common.{rules, true, false, refl, sym, ◌∙◌, Bool, List, ℕ}
 use Rattle.std.specs.Io.Buffered.{reader_remaining}
 use Rattle.std.proofs.lemmas.Result.{err_from_is_err_and}
 use Rattle.node_store.specs.declared.stop.ServeError.TheVariants.{NoInput}
 use Rattle.node_store.proofs.GrowthLemmas.{lengthened_none, lengthened_then}
 use Rattle.node_store.proofs.RoundLemmas.{between, comes_first, comes_on, gone_on, round_noted, stops_idle}
 use Rattle.node_store.proofs.ServingLemmas.{serves_none, serves_behind, serves_more, serves_as, serves_idle, going, stopped}
-use Rattle.node_store.proofs.StoppingLemmas.{stopped_so, stops_noted, stops_then}
+use Rattle.node_store.proofs.StoppingLemmas.{stopped_so, stops_noted, stops_then, told_so}
 use Rattle.node_store.proofs.serving.serve_frames.Goals as goal
 
 pub returns-in_err-serve_arrived-clause-serves : goal.returns-in_err-serve_arrived-clause-serves
@@ -80,6 +80,7 @@ loop-preserved g c =
       lengthened_then (kept c.args.log.now) (kept c.loop.log) (kept c.serve_arrived.new.log) c.args.end.length c.loop.length _ _
           c.loop.invariant.4 c.in_ok-serve_arrived.ensures.appended (search rules),
       c.in_ok-serve_arrived.ensures.sound,
+      c.in_ok-serve_arrived.ensures.failure ∙ c.loop.invariant.6,
     )
 
 pub returns-then-has_grown-clause-lengthened : goal.returns-then-has_grown-clause-lengthened
@@ -137,6 +138,7 @@ loop-init g c =
           (held c.args.output.now) c.new-batch.ensures.chain,
       lengthened_none (kept c.args.log.now) c.args.end.length (search rules),
       c.requires.sound,
+      refl,
     )
 
 pub returns-then-has_grown-clause-rounds : goal.returns-then-has_grown-clause-rounds
@@ -215,3 +217,8 @@ returns-in_err-serve_arrived-clause-stopped g c =
     (known c.loop.input) before.0 error before.1 before.2
     (stops_noted g.M.Machine.handles g.M.Machine.notes g.M.Machine.fails c.loop.machine c.begin_round-report.new.self c.loop.length
     (known c.loop.input) error c.begin_round-report.ensures.noted c.in_err-serve_arrived.ensures.stopped))
+
+pub returns-in_err-serve_arrived-clause-failure : goal.returns-in_err-serve_arrived-clause-failure
+returns-in_err-serve_arrived-clause-failure g c =
+    told_so Bool _ _ _ c.from_residual.result c.in_err-serve_arrived.field-0.0 c.from_residual.ensures.1 c.loop.invariant.6
+    c.in_err-serve_arrived.ensures.failure

@@ -1,5 +1,5 @@
 -- The frames so far were handled, what the machine wanted done for them is done, and the log is as long as is said.
--- No sync of it failed.
+-- No sync of it failed, and no other call since the loop began.
 use Rattle.std.proofs.Common.{◌≡◌, [], true, Ok}
 use Rattle.std.specs.Prelude.{IsTrue}
 use Rattle.std.specs.Io.Buffered.{reader_remaining}
@@ -32,4 +32,4 @@ invariant-loop g l = ServesSome g.M.Machine.handles g.M.Machine.notes l.fn.end.c
       held = g.O.Write.contents l.output;
     })
     × HasLengthened (g.L.Log.kept l.fn.log) (g.L.Log.kept l.log) l.fn.end.length l.length
-    × IsTrue (g.L.Log.sound l.log)
+    × IsTrue (g.L.Log.sound l.log) × (g.L.Log.failed l.log ≡ g.L.Log.failed l.fn.log)

@@ -6,7 +6,7 @@ use Rattle.node_store.proofs.GrowthLemmas.{appends_none, grows_none, grows_twice
 use Rattle.node_store.proofs.writing.append_each.Goals as goal
 
 pub loop-part-init : goal.loop-part-init
-loop-part-init g c = (appends_none _, grows_none _, λ sound within. within, refl)
+loop-part-init g c = (appends_none _, grows_none _, λ sound within. within, refl, refl)
 
 pub returns-in_err-append-clause-kept : goal.returns-in_err-append-clause-kept
 returns-in_err-append-clause-kept g c = grows_twice _ _ _ c.loop-part.invariant.1 c.append.ensures.kept
@@ -22,6 +22,7 @@ loop-part-preserved g c = (
   grows_twice _ _ _ c.loop-part.invariant.1 c.append.ensures.kept,
   λ sound within. c.append.ensures.within (c.loop-part.invariant.3 ∙ sound) (c.loop-part.invariant.2 sound within),
   c.append.ensures.sound ∙ c.loop-part.invariant.3,
+  c.in_ok-append.ensures.failure ∙ c.loop-part.invariant.4,
 )
 
 pub returns-in_err-append-clause-written : goal.returns-in_err-append-clause-written

@@ -1,4 +1,4 @@
--- The parts so far were appended, and no sync failed meanwhile.
+-- The parts so far were appended, and no sync and no other call failed meanwhile.
 use Rattle.std.proofs.Common.{◌≡◌, take}
 use Rattle.std.specs.Prelude.{IsTrue}
 use Rattle.std.specs.List.{flat_map}
@@ -14,3 +14,4 @@ invariant-loop-part g l =
     × (IsTrue (g.L.Log.sound l.fn.log) → Grows (g.L.Log.kept l.fn.log) (g.L.Log.written l.fn.log)
     → Grows (g.L.Log.kept l.log) (g.L.Log.written l.log))
     × (g.L.Log.sound l.log ≡ g.L.Log.sound l.fn.log)
+    × (g.L.Log.failed l.log ≡ g.L.Log.failed l.fn.log)
