@@ -6,7 +6,7 @@ use Rattle.node.specs.Failures.{Fails}
 use Rattle.node.specs.Handles.{Handles as HandlesFrame}
 use Rattle.node.specs.Recovering.{Notes as NotesLength}
 use Rattle.node_store.specs.Gathering.{HandlesInput}
-use Rattle.node_store.specs.Serving.{StopsAtFrame, StopsBehind}
+use Rattle.node_store.specs.Serving.{IsReadStop, StopsAtFrame, StopsBehind}
 use Rattle.node_store.specs.Steps.{steps_of, Step as Deed}
 use Rattle.node_store.specs.declared.batch.Batch.{Batch}
 use Rattle.node_store.specs.declared.end.LogEnd.{LogEnd}
@@ -30,12 +30,13 @@ pub record HasHandled (old new : NodeCore) (input : List ℕ) (round : Round) : 
   pub former : new.former ≡ None
   pub going : new.is_stopped ≡ old.is_stopped
 
--- why a core handles no frames: it has stopped before; or it stops behind some frames of the input, for this reason
+-- why a core handles no frames: it has stopped before; or it stops behind some frames of the input, for this reason,
+-- which is none of the log or the output
 abbrev pub HasFailed : NodeCore → (input : List ℕ) → CoreError → Type 0
 HasFailed old input errors.Stopped = old.is_stopped ≡ true
 HasFailed old input (errors.Ended error) =
     StopsBehind HandlesFrame NotesLength old.node (Some input) error
-    × StopsAtFrame HandlesFrame NotesLength Fails old.node (Some input) error
+    × StopsAtFrame HandlesFrame NotesLength Fails old.node (Some input) error × IsReadStop error
 HasFailed old input _ = ⊥
 
 -- what is to be done for a batch, in this order: nothing with the log if it gets no entry
