@@ -7,5 +7,6 @@ mod FailedStartLemmas
 mod ReaderLemmas
 mod SessionLemmas
 mod RunLemmas
+mod LogFaultLemmas
 mod KillLemmas
 mod KilledRunLemmas

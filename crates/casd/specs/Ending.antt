@@ -1,6 +1,7 @@
 -- The contracts that docs/trusted.md lists do not depend on this file; other contracts and proofs do.
 -- What a run of the program does, by the words after its name, and with which status it ends.
-use Rattle.std.specs.Prelude.{◌≡◌, ◌⊎◌, ◌++◌, ℕ, List, [], ◌∷◌, codes, drop, Option, IfSome, Result, Ok, Err}
+use Rattle.std.specs.Prelude.{◌≡◌, ◌⊎◌, ◌++◌, ℕ, List, [], ◌∷◌, codes, drop, Bool, IsTrue, Option, IfSome}
+use Rattle.std.specs.Prelude.{Result, Ok, Err}
 use Rattle.std.specs.Io.KnownBytes.{Appends, Keeps}
 use Rattle.cluster_file.specs.File.{FileContents}
 use Rattle.node.specs.declared.node.Node.{Node}
@@ -64,6 +65,18 @@ EndsBy given found kept input words held keeps holds status =
     × IsNodeWord word number
     × RunsNode number (given file) (found folder) (kept folder) input held (keeps folder) holds result
     × (status ≡ status_of result))
+
+-- If the status is 3, the words ask for a node, and a call of the log in its folder failed. `failed` says of the log of
+-- which folders one has.
+abbrev pub EndsForLog : (failed : List ℕ → Bool) → List Word → (status : ℕ) → Type 0
+EndsForLog failed words status =
+    status ≡ 3 → (file word folder : Word) × (words ≡ file ∷ word ∷ folder ∷ []) × IsTrue (failed folder)
+
+-- the same of the words behind the name of the program; if it is known with which words it was called, these are they
+abbrev pub EndsForLogAsCalled : (words : Option (List Word)) → (failed : List ℕ → Bool) → (status : ℕ) → Type 0
+EndsForLogAsCalled words failed status = status ≡ 3 →
+    (all : List Word) × IfSome words (λ known. all ≡ known) × (file word folder : Word)
+    × (drop 1 all ≡ file ∷ word ∷ folder ∷ []) × IsTrue (failed folder)
 
 -- The program ended as the words behind its name say; if it is known with which words it was called, these are they. Or
 -- they could not be read, for a fault, and then nothing was written to the output, and each log keeps what it kept.

@@ -1,6 +1,6 @@
 -- The contracts that docs/trusted.md lists do not depend on this file; other contracts and proofs do.
 -- The exit status of each fault, and which faults come from where.
-use Rattle.std.specs.Prelude.{ℕ, Result, Ok, Err, ⊤}
+use Rattle.std.specs.Prelude.{◌≡◌, ◌⊎◌, ℕ, Bool, IsTrue, Result, Ok, Err, ⊤}
 use Rattle.cluster_file.specs.declared.error.FileError.TheVariants as files
 use Rattle.node_store.specs.declared.stop.ServeError.TheVariants as ends
 use Rattle.casd.specs.declared.fault.Fault.{Fault}
@@ -38,6 +38,10 @@ exit_status_of faults.NoMemory = 1
 abbrev pub status_of : {T : Type 0} → Result T Fault → ℕ
 status_of (Ok done) = 0
 status_of (Err fault) = exit_status_of fault
+
+-- a call of the log has failed if the status is 3; if it is another one, this is so only if one had failed before
+abbrev pub TellsFailedLog : (old new : Bool) → (status : ℕ) → Type 0
+TellsFailedLog old new status = (status ≡ 3 → IsTrue new) × (IsTrue new → IsTrue old ⊎ (status ≡ 3))
 
 -- why the words of the command line cannot be read: one is no text, or there is no memory
 abbrev pub IsWordsFault : Fault → Type 0

@@ -13,7 +13,7 @@ use std::io;
 
 /// The files and folders that the program is given names of.
 pub trait GivenFiles {
-    ghost use Rattle.std.specs.Prelude.{◌≡◌, ℕ, List, Option, None, Some, IsTrue, IfErr, IfOk};
+    ghost use Rattle.std.specs.Prelude.{◌≡◌, ℕ, List, Bool, true, Option, None, Some, IsTrue, IfErr, IfOk};
     ghost use Rattle.std.specs.Io.KnownBytes.{Keeps};
 
     // The bytes of the file of a name, where they are known.
@@ -25,6 +25,9 @@ pub trait GivenFiles {
     // The bytes that the log of a folder keeps after the machine stops, where they are known: those that it kept when
     // it was closed.
     ghost kept: { Self → (folder : List ℕ) → Option (List ℕ) } = { λ _ folder. None };
+
+    // Whether a call of the log of a folder failed. Files that say nothing of this may always have failed.
+    ghost failed: { Self → (folder : List ℕ) → Bool } = { λ _ folder. true };
 
     /// A folder that is locked.
     type Folder: DiskFolder + Drop;
@@ -39,9 +42,11 @@ pub trait GivenFiles {
         ensures sound { IfOk result (λ taken. IsTrue (Self.Folder.sound taken)) }
         ensures fault { IfErr result IsOpenFault };
 
-    /// Closes the log of a folder, and unlocks the folder. What this log keeps then, the folder keeps.
+    /// Closes the log of a folder, and unlocks the folder. What this log keeps then, the folder keeps. If a call of
+    /// this log failed, one of the folder's log did.
     fn close_log<L: Log + Drop>(&mut self, folder: &str, log: L)
-        ensures { Keeps (kept self.new folder.now) (L.kept log) };
+        ensures kept { Keeps (kept self.new folder.now) (L.kept log) }
+        ensures failure { IsTrue (L.failed log) → IsTrue (failed self.new folder.now) };
 }
 
 /// Reads the cluster file of this name. Fails with `NoNode` if it has no node of this number.

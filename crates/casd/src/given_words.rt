@@ -1,6 +1,6 @@
 //! The words that the program is given, and what it does with them.
 ghost use Rattle.std.specs.Prelude.{◌≡◌, drop};
-ghost use Rattle.casd.specs.Ending.{EndsAsCalled};
+ghost use Rattle.casd.specs.Ending.{EndsAsCalled, EndsForLogAsCalled};
 
 use crate::fault::Fault;
 use crate::files::GivenFiles;
@@ -31,8 +31,9 @@ pub fn run_given<W: GivenWords, G: GivenFiles, I: Read + Drop, O: Write, E: Writ
     output: &mut O,
     err: &mut E,
 ) -> u8
-    ensures { EndsAsCalled (W.words given.now) (G.given files.old) (G.found files.old) (G.kept files.old)
+    ensures ends { EndsAsCalled (W.words given.now) (G.given files.old) (G.found files.old) (G.kept files.old)
         (I.remaining input) (O.contents output.old) (G.kept files.new) (O.contents output.new) result }
+    ensures failure { EndsForLogAsCalled (W.words given.now) (G.failed files.new) result }
 {
     match given.all_words() {
         Ok(words) => run_words(alloc, files, behind_first(&words), input, output, err),

@@ -4,19 +4,19 @@ ghost use Rattle.deeds.specs.Kept.{FileOfNames};
 ghost use Rattle.node.specs.Anew.{AreAnew};
 ghost use Rattle.node.specs.declared.node.Node.{Node};
 ghost use Rattle.processes.specs.Events.{IsNewNode};
-ghost use Rattle.casd.specs.Fault.{IsReadFault, IsRefusal, IsStartFault};
+ghost use Rattle.casd.specs.Fault.{IsReadFault, IsRefusal, IsStartFault, TellsFailedLog, status_of};
 ghost use Rattle.casd.specs.Opening.{HasBegun, HasCut, HasReadForm, HasReadLog, HasStarted, HasWrittenAnew};
 ghost use Rattle.casd.specs.Opening.{IsFailedStart};
 
 use crate::fault::Fault;
 use crate::folder::unopened;
-use frames::read_full;
+use frames::{Gathered, read_full};
 use node::Node;
 use node_effects::NodeError;
 use node_log::{Entry, HEAD_LENGTH, is_old_head};
 use node_store::{
-    Log, LogEnd, RewritableLog, Rewriting, StoredLog, append_entries, is_worth_rewriting,
-    recover_machine, rewrite_log,
+    Log, LogEnd, RewritableLog, Rewriting, StoredLog, append_bytes, is_worth_rewriting,
+    push_entries, recover_machine, rewrite_log,
 };
 use std::alloc::Global;
 use std::fmt::Display;
@@ -32,7 +32,8 @@ const LOG_BUFFER: usize = 65_536;
 /// If the node has no more epoch, the log is cut and synced, and not written anew.
 ///
 /// If the log is damaged, has the form of before, or is not this node's, it is left as it is. The clause `fails` says
-/// what the log keeps after each fault. No sync of the log may have failed before.
+/// what the log keeps after each fault, and `failure` that it is `LogLost` or `NotExchanged` just if a call of the log
+/// failed. No sync of the log may have failed before.
 pub fn start_with<L: StoredLog, E: Write>(
     alloc: Global,
     log: &mut L,
@@ -49,6 +50,7 @@ pub fn start_with<L: StoredLog, E: Write>(
     ensures synced { OnOk result (L.kept log.new ≡ L.written log.new) }
     ensures sound { OnOk result (IsTrue (L.sound log.new)) }
     ensures fault { IfErr result IsStartFault }
+    ensures failure { TellsFailedLog (L.failed log.old) (L.failed log.new) (status_of result) }
 {
     refuse_old_form(log)?;
     let end = recover(alloc, log, node)?;
@@ -110,6 +112,7 @@ fn cut_behind<L: StoredLog, E: Write>(log: &mut L, length: u64, err: &mut E) -> 
     ensures sound { OnOk result (IsTrue (L.sound log.new)) }
     ensures kind { IfErr result (λ fault. IsRefusal fault → ⊥) }
     ensures fault { IfErr result IsStartFault }
+    ensures failure { TellsFailedLog (L.failed log.old) (L.failed log.new) (status_of result) }
 {
     let cut = match log.cut(length) {
         Ok(cut) => cut,
@@ -141,15 +144,20 @@ fn begin<L: Log>(alloc: Global, log: &mut L, node: &mut Node, end: LogEnd) -> Re
     ensures sound { OnOk result (IsTrue (L.sound log.new)) }
     ensures kind { IfErr result (λ fault. IsRefusal fault → ⊥) }
     ensures fault { IfErr result IsStartFault }
+    ensures failure { TellsFailedLog (L.failed log.old) (L.failed log.new) (status_of result) }
 {
     let mut end = end;
     let entries = match node.start() {
         Ok(entries) => entries,
         Err(error) => return Err(Fault::Stopped(error)),
     };
-    match append_entries(alloc, log, &mut end.chain, &entries) {
-        Ok(more) => {
-            end.length = end.length.saturating_add(more);
+    let mut bytes = Gathered::new(alloc);
+    if push_entries(&mut bytes, &mut end.chain, &entries).is_err() {
+        return Err(Fault::Stopped(NodeError::NoMemory));
+    }
+    match append_bytes(log, &bytes) {
+        Ok(()) => {
+            end.length = end.length.saturating_add(bytes.len() as u64);
             Ok(end)
         }
         Err(error) => Err(Fault::LogLost(error)),
@@ -176,6 +184,7 @@ pub fn write_anew<L: RewritableLog, E: Write>(
     ensures sound { OnOk result (IsTrue (L.sound log.new)) }
     ensures kind { IfErr result (λ fault. IsRefusal fault → ⊥) }
     ensures fault { IfErr result IsStartFault }
+    ensures failure { TellsFailedLog (L.failed log.old) (L.failed log.new) (status_of result) }
 {
     let _ = log.remove_second();
     if !is_worth_rewriting(end.length, node.needed_bytes()) {
@@ -208,6 +217,7 @@ fn exchange<L: RewritableLog, E: Write>(
     ensures sound { OnOk result (IsTrue (L.sound log.new)) }
     ensures kind { IfErr result (λ fault. IsRefusal fault → ⊥) }
     ensures fault { IfErr result IsStartFault }
+    ensures failure { TellsFailedLog (L.failed log.old) (L.failed log.new) (status_of result) }
 {
     match rewrite_log(alloc, log, entries) {
         Ok(Rewriting::Done(anew)) => Ok(anew),

@@ -5,8 +5,8 @@ ghost use Rattle.cluster_file.specs.File.{IsLawfulFile};
 ghost use Rattle.deeds.specs.Kept.{FileOfNames};
 ghost use Rattle.processes.specs.Events.{IsNewNode};
 ghost use Rattle.words.specs.Word.{Word};
-ghost use Rattle.casd.specs.Ending.{EndsBy, HasRunNode, Prints, RunsNode};
-ghost use Rattle.casd.specs.Fault.{status_of};
+ghost use Rattle.casd.specs.Ending.{EndsBy, EndsForLog, HasRunNode, Prints, RunsNode};
+ghost use Rattle.casd.specs.Fault.{TellsFailedLog, status_of};
 ghost use Rattle.casd.specs.Program.{HasRun, HasServed, HasServedOnce};
 ghost use Rattle.casd.specs.Request.{Spells};
 
@@ -46,8 +46,9 @@ pub fn run_words<G: GivenFiles, I: Read + Drop, O: Write, E: Write>(
     output: &mut O,
     err: &mut E,
 ) -> u8
-    ensures { EndsBy (G.given files.old) (G.found files.old) (G.kept files.old) (I.remaining input)
+    ensures ends { EndsBy (G.given files.old) (G.found files.old) (G.kept files.old) (I.remaining input)
         (map string_bytes words.now) (O.contents output.old) (G.kept files.new) (O.contents output.new) result }
+    ensures failure { EndsForLog (G.failed files.new) (map string_bytes words.now) result }
 {
     match read_request(words) {
         Ok(request) => carry_out(alloc, files, request, input, output, err),
@@ -64,9 +65,11 @@ fn carry_out<G: GivenFiles, I: Read + Drop, O: Write, E: Write>(
     output: &mut O,
     err: &mut E,
 ) -> u8
-    ensures { (words : List Word) → Spells words request.entry
+    ensures ends { (words : List Word) → Spells words request.entry
         → EndsBy (G.given files.old) (G.found files.old) (G.kept files.old) (I.remaining input) words
         (O.contents output.old) (G.kept files.new) (O.contents output.new) result }
+    ensures failure { (words : List Word) → Spells words request.entry
+        → EndsForLog (G.failed files.new) words result }
 {
     match request {
         Request::Help => print_line(output, err, HELP),
@@ -113,8 +116,10 @@ fn run_node<G: GivenFiles, I: Read + Drop, O: Write, E: Write>(
     output: &mut O,
     err: &mut E,
 ) -> Result<(), Fault>
-    ensures { RunsNode number (G.given files.old file.now) (G.found files.old folder.now) (G.kept files.old folder.now)
-        (I.remaining input) (O.contents output.old) (G.kept files.new folder.now) (O.contents output.new) result }
+    ensures runs { RunsNode number (G.given files.old file.now) (G.found files.old folder.now)
+        (G.kept files.old folder.now) (I.remaining input) (O.contents output.old) (G.kept files.new folder.now)
+        (O.contents output.new) result }
+    ensures failure { status_of result ≡ 3 → IsTrue (G.failed files.new folder.now) }
 {
     let file = match read_file(alloc, &*files, file, number) {
         Ok(file) => file,
@@ -140,8 +145,9 @@ fn run_log<L: StoredLog, I: Read + Drop, O: Write, E: Write>(
     err: &mut E,
 ) -> Result<(), Fault>
     requires { IsTrue (L.sound log.old) }
-    ensures { IsLawfulFile file → HasRunNode file number (L.written log.old) (L.kept log.old) (I.remaining input)
+    ensures runs { IsLawfulFile file → HasRunNode file number (L.written log.old) (L.kept log.old) (I.remaining input)
         (O.contents output.old) (L.kept log.new) (O.contents output.new) result }
+    ensures failure { TellsFailedLog (L.failed log.old) (L.failed log.new) (status_of result) }
 {
     let mut node = Node::new(alloc, file, number);
     start_and_serve(alloc, &mut node, log, input, output, err)
@@ -157,9 +163,10 @@ pub fn start_and_serve<L: StoredLog, I: Read + Drop, O: Write, E: Write>(
     err: &mut E,
 ) -> Result<(), Fault>
     requires { IsTrue (L.sound log.old) }
-    ensures { (names : FileOfNames) (number : ℕ) → IsNewNode names number node.old
+    ensures runs { (names : FileOfNames) (number : ℕ) → IsNewNode names number node.old
         → HasRun names number (L.written log.old) (L.kept log.old) (I.remaining input) (O.contents output.old)
         node.new (L.kept log.new) (O.contents output.new) result }
+    ensures failure { TellsFailedLog (L.failed log.old) (L.failed log.new) (status_of result) }
 {
     let end = match start_with(alloc, log, node, err) {
         Ok(end) => end,
@@ -184,7 +191,7 @@ fn serve<L: RewritableLog, I: Read + Drop, O: Write, E: Write>(
 ) -> Result<(), Fault>
     requires synced { L.kept log.old ≡ L.written log.old }
     requires sound { IsTrue (L.sound log.old) }
-    ensures { HasServed
+    ensures serves { HasServed
         (record {
           length = end.length;
           chain = end.chain.state;
@@ -194,6 +201,7 @@ fn serve<L: RewritableLog, I: Read + Drop, O: Write, E: Write>(
           held = O.contents output.old;
         })
         node.new (reader_remaining I.remaining input.new) (L.kept log.new) (O.contents output.new) result }
+    ensures failure { TellsFailedLog (L.failed log.old) (L.failed log.new) (status_of result) }
 {
     let mut end = end;
     for _ in 0..u64::MAX {
@@ -231,6 +239,7 @@ fn serve_once<L: RewritableLog, I: Read + Drop, O: Write, E: Write>(
         node.new (reader_remaining I.remaining input.new) (L.kept log.new) (O.contents output.new) result }
     ensures synced { OnOk result (L.kept log.new ≡ L.written log.new) }
     ensures sound { OnOk result (IsTrue (L.sound log.new)) }
+    ensures failure { TellsFailedLog (L.failed log.old) (L.failed log.new) (status_of result) }
 {
     match serve_frames(alloc, node, input, output, log, end, err) {
         Ok(Some(now)) => match write_anew(alloc, log, node, now, err) {

@@ -1,7 +1,7 @@
 //! The words and the files that the operating system gives.
 //!
 //! Each function makes the calls of the runtime for which it stands, and decides nothing.
-ghost use Rattle.std.specs.Prelude.{None};
+ghost use Rattle.std.specs.Prelude.{IsTrue, None, true};
 ghost use Rattle.std.specs.Io.KnownBytes.{Keeps};
 
 use crate::fault::Fault;
@@ -47,7 +47,8 @@ where
     }
 
     fn close_log<L: Log + Drop>(&mut self, _folder: &str, log: L)
-        ensures { Keeps None (L.kept log) }
+        ensures kept { Keeps None (L.kept log) }
+        ensures failure { IsTrue (L.failed log) → IsTrue true }
     {
         let _ = log;
     }

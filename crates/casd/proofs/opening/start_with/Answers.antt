@@ -1,7 +1,9 @@
+use Rattle.std.proofs.Common.{arith, refl}
 use Rattle.std.proofs.lemmas.Result.{err_from_is_err_and}
 use Rattle.node_effects.specs.declared.error.NodeError.TheVariants.{NoMoreIds}
 use Rattle.casd.specs.declared.fault.Fault.TheVariants.{Stopped}
 use Rattle.casd.proofs.FailedStartLemmas.{begun_fails, begun_starts, told, unasked, uncut, unexchanged, unread, unrecovered}
+use Rattle.casd.proofs.LogFaultLemmas.{read_other, told_going, told_same, told_since, told_then}
 use Rattle.casd.proofs.opening.start_with.Goals as goal
 
 pub returns-in_err-refuse_old_form-clause-fails : goal.returns-in_err-refuse_old_form-clause-fails
@@ -55,3 +57,34 @@ returns-clause-fails g c = λ names number is_new.
     c.in_ok-end-2.end c.in_ok-refuse_old_form.ensures.form c.begin.ensures.kind is_new c.in_ok-end.ensures.recovered
     c.in_ok-cut_behind.ensures.cut (c.has_more_epochs.ensures.0 c.if-not-has_more_epochs.false)
     c.in_ok-end-2.ensures.rewritten c.begin.ensures.begun
+
+pub returns-in_err-refuse_old_form-clause-failure : goal.returns-in_err-refuse_old_form-clause-failure
+returns-in_err-refuse_old_form-clause-failure g c =
+    let p = err_from_is_err_and c.from_residual.result c.from_residual.ensures.1 in
+    rw (p.1, p.2)
+    (told_same _ _ _ refl (read_other c.in_err-refuse_old_form.field-0.0 c.in_err-refuse_old_form.ensures.reads))
+
+pub returns-in_err-end-clause-failure : goal.returns-in_err-end-clause-failure
+returns-in_err-end-clause-failure g c =
+    let p = err_from_is_err_and c.from_residual-in_err-end.result c.from_residual-in_err-end.ensures.1 in
+    rw (p.1, p.2) (told_same _ _ _ refl (read_other c.in_err-end.field-0.0 c.in_err-end.ensures.reads))
+
+pub returns-in_err-cut_behind-clause-failure : goal.returns-in_err-cut_behind-clause-failure
+returns-in_err-cut_behind-clause-failure g c =
+    let p = err_from_is_err_and c.from_residual-in_err-cut_behind.result c.from_residual-in_err-cut_behind.ensures.1 in
+    rw (p.1, p.2) c.in_err-cut_behind.ensures.failure
+
+pub returns-then-not-has_more_epochs-clause-failure : goal.returns-then-not-has_more_epochs-clause-failure
+returns-then-not-has_more_epochs-clause-failure g c =
+    told_since _ _ _ (told_going _ _ c.in_ok-cut_behind.ensures.failure) (λ three. omega (arith, three))
+
+pub returns-in_err-end-2-clause-failure : goal.returns-in_err-end-2-clause-failure
+returns-in_err-end-2-clause-failure g c =
+    let p = err_from_is_err_and c.from_residual-in_err-end-2.result c.from_residual-in_err-end-2.ensures.1 in
+    rw (p.1, p.2)
+    (told_then _ _ _ _ (told_going _ _ c.in_ok-cut_behind.ensures.failure) c.in_err-end-2.ensures.failure)
+
+pub returns-clause-failure : goal.returns-clause-failure
+returns-clause-failure g c =
+    told_then _ _ _ _ (told_going _ _ c.in_ok-cut_behind.ensures.failure)
+    (told_then _ _ _ _ (told_going _ _ c.in_ok-end-2.ensures.failure) c.begin.ensures.failure)

@@ -2,10 +2,10 @@ use Rattle.std.proofs.Common.{refl}
 use Rattle.node_keeper.specs.Keeping.{names_of}
 use Rattle.casd.proofs.program.run_log.Goals as goal
 
-pub returns : goal.returns
-returns g c = λ lawful. (
+pub returns-clause-runs : goal.returns-clause-runs
+returns-clause-runs g c = λ lawful. (
   c.start_and_serve.new.node,
-  c.start_and_serve.ensures (names_of c.args.file) c.args.number
+  c.start_and_serve.ensures.runs (names_of c.args.file) c.args.number
       (record {
         file = c.args.file;
         lawful = lawful;

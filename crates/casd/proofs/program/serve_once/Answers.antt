@@ -1,5 +1,6 @@
-use Rattle.std.proofs.Common.{rules}
+use Rattle.std.proofs.Common.{arith, rules, sym, ◌∙◌}
 use Rattle.std.specs.Io.Buffered.{reader_remaining}
+use Rattle.casd.proofs.LogFaultLemmas.{told_ended, told_same, told_then}
 use Rattle.casd.proofs.SessionLemmas.{at, served_badly, served_half, served_last, served_on}
 use Rattle.casd.proofs.program.serve_once.Goals as goal
 
@@ -41,3 +42,17 @@ returns-in-Err-clause-serves g c =
     (g.O.Write.contents c.args.output.now))
     c.serve_frames.new.machine (known c.serve_frames.new.input) (g.L.Log.kept c.serve_frames.new.log)
     (g.O.Write.contents c.serve_frames.new.output) c.in-Err.error c.in-Err.ensures.rounds
+
+pub returns-in-Ok-clause-failure : goal.returns-in-Ok-clause-failure
+returns-in-Ok-clause-failure g c =
+    told_then _ _ _ _ (λ failed. sym c.in-Ok-Some.ensures.failure ∙ failed) c.in-Ok.ensures.failure
+
+pub returns-in-Err-write_anew-clause-failure : goal.returns-in-Err-write_anew-clause-failure
+returns-in-Err-write_anew-clause-failure g c =
+    told_then _ _ _ _ (λ failed. sym c.in-Ok-Some.ensures.failure ∙ failed) c.in-Err-write_anew.ensures.failure
+
+pub returns-in-Ok-None-clause-failure : goal.returns-in-Ok-None-clause-failure
+returns-in-Ok-None-clause-failure g c = told_same _ _ _ c.in-Ok-None.ensures.failure (λ three. omega (arith, three))
+
+pub returns-in-Err-clause-failure : goal.returns-in-Err-clause-failure
+returns-in-Err-clause-failure g c = told_ended _ _ _ c.in-Err.error c.in-Err.ensures.failure
