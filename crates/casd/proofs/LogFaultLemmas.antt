@@ -6,7 +6,6 @@ use Rattle.node_store.specs.Serving.{TellsLostLog}
 use Rattle.node_store.specs.declared.stop.ServeError.{ServeError}
 use Rattle.node_store.specs.declared.stop.ServeError.TheVariants as ends
 use Rattle.words.specs.Word.{Word}
-use Rattle.casd.specs.Ending.{Prints}
 use Rattle.casd.specs.Fault.{IsOpenFault, IsReadFault, IsWordsFault, TellsFailedLog, exit_status_of}
 use Rattle.casd.specs.Files.{HasReadFile}
 use Rattle.casd.specs.Request.{IsFaultOf}
@@ -146,7 +145,7 @@ file_other given number faults.BadNode is three = absurd is
 file_other given number (faults.Unread error) is three = omega (arith, three)
 file_other given number (faults.BadFile (files.Fault fault)) is three = omega (arith, three)
 file_other given number (faults.BadFile files.NoMemory) is three = omega (arith, three)
-file_other given number (faults.NoNode number) is three = omega (arith, three)
+file_other given number (faults.NoNode other) is three = omega (arith, three)
 file_other given number (faults.NoNull error) is three = absurd is
 file_other given number faults.NoFolder is three = absurd is
 file_other given number faults.InUse is three = absurd is
@@ -162,6 +161,6 @@ file_other given number (faults.OutputLost error) is three = absurd is
 file_other given number faults.NoMemory is three = absurd is
 
 -- a text was printed, or not
-pub printed_other : (text : List ℕ) (held holds : Option (List ℕ)) (status : ℕ) → Prints text held holds status → status ≡ 3 → ⊥
-printed_other text held holds status (inl done) three = let zero_is = done.0 in omega (arith, zero_is, three)
-printed_other text held holds status (inr one) three = omega (arith, one, three)
+pub printed_other : (Written : Type 0) (status : ℕ) → ((status ≡ 0) × Written) ⊎ (status ≡ 1) → status ≡ 3 → ⊥
+printed_other Written status (inl done) three = let zero_is = done.0 in omega (arith, zero_is, three)
+printed_other Written status (inr one) three = omega (arith, one, three)

@@ -11,6 +11,3 @@ returns-then-is_err-clause-failure g c = told_same _ _ _ refl (λ three. omega (
 pub returns-in-Ok-append_bytes-clause-failure : goal.returns-in-Ok-append_bytes-clause-failure
 returns-in-Ok-append_bytes-clause-failure g c =
     told_same _ _ _ c.in-Ok-append_bytes.ensures.failure (λ three. omega (arith, three))
-
-pub returns-in-Err-append_bytes-clause-failure : goal.returns-in-Err-append_bytes-clause-failure
-returns-in-Err-append_bytes-clause-failure g c = told_failed _ _ c.in-Err-append_bytes.ensures.failure

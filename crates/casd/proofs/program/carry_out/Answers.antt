@@ -24,11 +24,11 @@ returns-in-Run-clause-ends g c = λ words spells.
     )))
 
 pub returns-in-Help-clause-failure : goal.returns-in-Help-clause-failure
-returns-in-Help-clause-failure g c = λ words spells three. absurd (printed_other _ _ _ _ c.print_line.ensures three)
+returns-in-Help-clause-failure g c = λ words spells three. absurd (printed_other _ _ c.print_line.ensures three)
 
 pub returns-in-Version-clause-failure : goal.returns-in-Version-clause-failure
 returns-in-Version-clause-failure g c = λ words spells three.
-    absurd (printed_other _ _ _ _ c.print_line-in-Version.ensures three)
+    absurd (printed_other _ _ c.print_line-in-Version.ensures three)
 
 pub returns-in-Run-clause-failure : goal.returns-in-Run-clause-failure
 returns-in-Run-clause-failure g c = λ words spells three.

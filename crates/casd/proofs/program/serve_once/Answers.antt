@@ -1,5 +1,6 @@
-use Rattle.std.proofs.Common.{arith, rules, sym, ◌∙◌}
+use Rattle.std.proofs.Common.{Option, arith, rules, sym, ◌∙◌}
 use Rattle.std.specs.Io.Buffered.{reader_remaining}
+use Rattle.node_store.specs.declared.end.LogEnd.{LogEnd}
 use Rattle.casd.proofs.LogFaultLemmas.{told_ended, told_same, told_then}
 use Rattle.casd.proofs.SessionLemmas.{at, served_badly, served_half, served_last, served_on}
 use Rattle.casd.proofs.program.serve_once.Goals as goal
@@ -55,4 +56,4 @@ pub returns-in-Ok-None-clause-failure : goal.returns-in-Ok-None-clause-failure
 returns-in-Ok-None-clause-failure g c = told_same _ _ _ c.in-Ok-None.ensures.failure (λ three. omega (arith, three))
 
 pub returns-in-Err-clause-failure : goal.returns-in-Err-clause-failure
-returns-in-Err-clause-failure g c = told_ended _ _ _ c.in-Err.error c.in-Err.ensures.failure
+returns-in-Err-clause-failure g c = told_ended (Option LogEnd) _ _ c.in-Err.error c.in-Err.ensures.failure
