@@ -1,5 +1,5 @@
 -- The contracts that docs/trusted.md lists do not depend on this file; other contracts and proofs do.
--- Whether a call that reads the sequence of layouts goes on at the node's start, and which starts a node hears of.
+-- Whether a call that reads the sequence of layouts goes on at the node's start.
 use Rattle.std.specs.Prelude.{ℕ, ◌^◌, ◌&&◌, ◌==◌, not, Bool, true, false, is_some, if◌then◌else◌, nat_lt}
 use Rattle.std.specs.Prelude.{List, [], ◌∷◌, Option, None, Some}
 use Rattle.layout.specs.Layout.{Layout, quorum_of}
@@ -49,8 +49,3 @@ reads_on local (Some call) =
 -- before it
 abbrev pub read_on_events : LocalObject → (id : ℕ) → List LocalEvent
 read_on_events local id = if reads_on local (open_call local.calls id) then LocalEvent.ReadOn id ∷ [] else []
-
--- what a node does when it hears of a start with its layout: nothing if phases of calls that begin there would have
--- numbers of more than 32 bits
-abbrev pub hear_events : (start : ℕ) → Layout → List LocalEvent
-hear_events start layout = if nat_lt start (2 ^ 31) then LocalEvent.Hear start layout ∷ [] else []

@@ -88,7 +88,7 @@ fn is_unsettled(call: &Call) -> bool
     }
 }
 
-/// The call at an index begins a phase of this kind at this position. Returns its requests. Returns no letters, and
+/// The call at an index begins a phase of this kind at this position, at a node with this start. Returns its requests. Returns no letters, and
 /// changes nothing, if the node has not heard of the position, if there is no number for the phase, or if the value is
 /// too long to be encoded.
 ///
@@ -96,6 +96,7 @@ fn is_unsettled(call: &Call) -> bool
 pub(crate) fn advance(
     alloc: Global,
     places: &Places,
+    start: u32,
     calls: &mut Calls,
     index: usize,
     kind: Kind,
@@ -104,8 +105,8 @@ pub(crate) fn advance(
     requires within { index < length calls.old }
     requires limits { (call : Machine) → slice_get calls.old index ≡ Some call → IsWithinLimits call }
     ensures advanced { IfOk result (λ letters. (call : Machine) → slice_get calls.old index ≡ Some call
-        → IsAdvancedIf (can_begin places.now call kind position) places.now calls.old call index kind position
-        calls.new letters.items) }
+        → IsAdvancedIf (can_begin places.now call kind position) places.now start calls.old call index kind
+        position calls.new letters.items) }
 
     ensures refused { IfErr result (λ e. e ≡ NoMemory) }
 {
@@ -127,7 +128,7 @@ pub(crate) fn advance(
         kind,
     };
     let messages = coded_requests(alloc, ask, call, layout.layout())?;
-    let letters = letters_of(alloc, places, layout, messages)?;
+    let letters = letters_of(alloc, places, start, layout, messages)?;
     calls.begin_next(index, kind, position, layout.layout())?;
     Ok(letters)
 }

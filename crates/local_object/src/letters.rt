@@ -2,42 +2,45 @@
 
 ghost use Rattle.std.specs.Prelude.{◌≡◌, suc, map, IfOk, IfErr};
 ghost use Rattle.tag.specs.declared.refusal.Refusal.TheVariants.{NoMemory};
-ghost use Rattle.local_object.specs.Local.{layout_in, heard_place};
+ghost use Rattle.local_object.specs.Local.{layout_in, heard_place, told_start_in};
 ghost use Rattle.local_object.specs.Letters.{letter_in};
 ghost use Rattle.mail.specs.Message.{names_next, status_names_next};
 
 use crate::places::Places;
 use bank::{Answer, Request, Status};
-use letter::{Letter, SharedLayout};
+use letter::{Letter, SharedLayout, Start};
 use mail::{Body, Message};
 use std::alloc::Global;
 use tag::Refusal;
 
-/// Returns a letter for each message to or from members of a position with this layout. `NoMemory` is the only refusal.
+/// Returns a letter for each message to or from members of a position with this layout, from a node with this start.
+/// `NoMemory` is the only refusal.
 pub(crate) fn letters_of(
     alloc: Global,
     places: &Places,
+    start: u32,
     layout: &SharedLayout,
     messages: Vec<Message>,
 ) -> Result<Vec<Letter>, Refusal>
-    ensures letters { IfOk result (λ ls. ls.items ≡ map (letter_in places.now layout.now) messages.items) }
+    ensures letters { IfOk result (λ ls. ls.items ≡ map (letter_in places.now start layout.now) messages.items) }
     ensures refused { IfErr result (λ e. e ≡ NoMemory) }
 {
     let mut letters = Vec::with_capacity(alloc, messages.len())?;
     for message in messages {
-        letters.push(letter_of(places, layout.clone()?, message)?)?;
+        letters.push(letter_of(places, start, layout.clone()?, message)?)?;
     }
     Ok(letters)
 }
 
-/// The message as a letter: with the layout of its position, and that of the next position if the message says that
-/// there is one. `NoMemory` is the only refusal.
+/// The message as a letter: with the layout of its position, that of the next position if the message says that there
+/// is one, and the node's start. `NoMemory` is the only refusal.
 pub(crate) fn letter_of(
     places: &Places,
+    start: u32,
     layout: SharedLayout,
     message: Message,
 ) -> Result<Letter, Refusal>
-    ensures letter { IfOk result (λ l. l ≡ letter_in places.now layout message) }
+    ensures letter { IfOk result (λ l. l ≡ letter_in places.now start layout message) }
     ensures refused { IfErr result (λ e. e ≡ NoMemory) }
 {
     let next = if names_next(&message.body) {
@@ -48,8 +51,27 @@ pub(crate) fn letter_of(
     Ok(Letter {
         layout,
         next,
+        start: told_start(places, start)?,
         message,
     })
+}
+
+/// The start of which a node tells others: this one with its layout, unless it is position 0. `NoMemory` is the only
+/// refusal.
+pub(crate) fn told_start(places: &Places, start: u32) -> Result<Option<Start>, Refusal>
+    ensures start { IfOk result (λ s. s ≡ told_start_in places.now start) }
+    ensures refused { IfErr result (λ e. e ≡ NoMemory) }
+{
+    if start == 0 {
+        return Ok(None);
+    }
+    match places.shared_layout_of(u64::from(start)) {
+        Some(layout) => Ok(Some(Start {
+            position: start,
+            layout: layout.clone()?,
+        })),
+        None => Ok(None),
+    }
 }
 
 // The layout of the position after this one, if the node has heard of it.

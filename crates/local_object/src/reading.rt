@@ -62,7 +62,7 @@ pub(crate) fn begin_anew(
         }
         return read_at(alloc, places, calls, index, first_number(start), start);
     }
-    advance(alloc, places, calls, index, asked.0, asked.1)
+    advance(alloc, places, start, calls, index, asked.0, asked.1)
 }
 
 // Whether the call has reached the stage at which its first reading is to begin.
@@ -76,8 +76,8 @@ fn begins_reading(call: &Call) -> bool
     }
 }
 
-/// The call at an index, which has settled nothing, reads the sequence of layouts at a position of which the node has
-/// heard, in a phase whose number is higher by `more` than that of its phase now. Returns its requests. Returns no
+/// The call at an index, which has settled nothing, reads the sequence of layouts at the node's start, which is this
+/// position, in a phase whose number is higher by `more` than that of its phase now. Returns its requests. Returns no
 /// letters, and changes nothing, if there is no such number.
 ///
 /// `NoMemory` is the only refusal.
@@ -112,7 +112,7 @@ pub(crate) fn read_at(
         kind: Kind::Next,
     };
     let messages = requests(alloc, ask, layout.layout().n(), None)?;
-    let letters = letters_of(alloc, places, layout, messages)?;
+    let letters = letters_of(alloc, places, position, layout, messages)?;
     calls.read_at(index, ask, layout.layout())?;
     Ok(letters)
 }
