@@ -1,6 +1,6 @@
 //! What a node hears from letters: layouts of positions, and later starts.
 
-ghost use Rattle.std.specs.Prelude.{◌≡◌, ◌+◌, ◌<◌, ◌^◌, IfOk, IfErr, OnOk, option_to_list};
+ghost use Rattle.std.specs.Prelude.{◌≡◌, ◌+◌, ◌<◌, ◌^◌, false, IfOk, IfErr, OnOk, option_to_list};
 ghost use Rattle.tag.specs.declared.refusal.Refusal.TheVariants.{NoMemory};
 ghost use Rattle.local_object.specs.Doing.{IsOutcome, is_askable, is_earlier_start_if, is_served, serve_events};
 ghost use Rattle.local_object.specs.Local.{heard_start_if, is_later_start, is_later_start_if};
