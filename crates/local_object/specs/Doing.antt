@@ -1,6 +1,6 @@
 -- What the contracts of an object's functions at a node say: which events happen, and why a function is refused.
 use Rattle.std.specs.Prelude.{◌≡◌, ℕ, ◌+◌, ◌^◌, ◌&&◌, not, Bool, true, false, ◌==◌, is_some, if◌then◌else◌, nat_lt}
-use Rattle.std.specs.Prelude.{List, [], ◌∷◌, length, Option, Some, None, slice_get}
+use Rattle.std.specs.Prelude.{List, [], ◌∷◌, ◌++◌, length, Option, Some, None, slice_get}
 use Rattle.std.specs.List.{list_any}
 use Rattle.tag.specs.declared.limits.TheConstants.{LONGEST_VALUE}
 use Rattle.tag.specs.declared.refusal.Refusal.{Refusal}
@@ -15,7 +15,7 @@ use Rattle.letter.specs.declared.start.Start.{Start}
 use Rattle.local_object.specs.Events.{LocalEvent, all_done}
 use Rattle.local_object.specs.Outcomes.{learnt_from}
 use Rattle.local_object.specs.KeptBanks.{closing}
-use Rattle.local_object.specs.Local.{LocalObject, bank_in, heard_place, is_later_start_if, last_position, layout_here}
+use Rattle.local_object.specs.Local.{LocalObject, bank_in, heard_place, last_position, layout_here}
 use Rattle.local_object.specs.May.{MayAllHappen}
 
 -- these events may happen, and after them the node keeps this and has sent these letters
@@ -87,14 +87,18 @@ abbrev pub is_earlier_start_if : LocalObject → Option Start → Bool
 is_earlier_start_if local None = true
 is_earlier_start_if local (Some start) = nat_lt start.position local.start
 
--- what a node does with a request that it does not serve: if the letter tells of a later start than its own, it hears of
--- this; otherwise, if the request is at a position before its own start, and the letter tells of no start or of an
--- earlier one, it sends the letter back
+-- whether a request that the node does not serve is sent back: it is at a position before the node's start, and the
+-- letter tells of no start or of an earlier one
+abbrev pub is_sent_back : LocalObject → Letter → Bool
+is_sent_back local letter =
+    nat_lt letter.message.position local.start && is_earlier_start_if local letter.start
+
+-- what a node does with a request that it does not serve: if the letter tells of a start, the node hears of the letter;
+-- and it sends the letter back, if it has to
 abbrev pub stray_events : LocalObject → Letter → List LocalEvent
 stray_events local letter =
-    if is_later_start_if local letter.start then LocalEvent.Hear letter ∷ []
-    else (if nat_lt letter.message.position local.start && is_earlier_start_if local letter.start
-    then LocalEvent.Redirect letter ∷ [] else [])
+    (if is_some letter.start then LocalEvent.Hear letter ∷ [] else [])
+    ++ (if is_sent_back local letter then LocalEvent.Redirect letter ∷ [] else [])
 
 -- whether a letter is a request at a position that has a next one
 abbrev pub is_askable : Letter → Bool

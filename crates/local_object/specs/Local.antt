@@ -89,11 +89,12 @@ learnt_if local position (Some layout) = with_heard local position layout
 abbrev pub is_later_start : LocalObject → Start → Bool
 is_later_start local start = nat_lt local.start start.position && nat_lt start.position (2 ^ 31)
 
--- what the node keeps after it hears of a start: it then knows this start, if it is later than its own
+-- what the node keeps after it hears of a start: it has then heard of its position, and takes it for its own start if
+-- it is later
 abbrev pub heard_start : LocalObject → Start → LocalObject
-heard_start local start =
-    if is_later_start local start then record (with_heard local start.position start.layout) { start = start.position }
-    else local
+heard_start local start = record (with_heard local start.position start.layout) {
+  start = if is_later_start local start then start.position else local.start;
+}
 
 -- whether the node hears of a start, and it is later than its own
 abbrev pub is_later_start_if : LocalObject → Option Start → Bool

@@ -2,7 +2,8 @@
 
 ghost use Rattle.std.specs.Prelude.{◌≡◌, ◌+◌, ◌<◌, ◌^◌, false, IfOk, IfErr, OnOk, option_to_list};
 ghost use Rattle.tag.specs.declared.refusal.Refusal.TheVariants.{NoMemory};
-ghost use Rattle.local_object.specs.Doing.{IsOutcome, is_askable, is_earlier_start_if, is_served, serve_events};
+ghost use Rattle.local_object.specs.Doing.{IsOutcome, is_askable, is_earlier_start_if, is_sent_back, is_served};
+ghost use Rattle.local_object.specs.Doing.{serve_events};
 ghost use Rattle.local_object.specs.Local.{heard_start_if, is_later_start, is_later_start_if};
 ghost use Rattle.local_object.specs.Outcomes.{layouts_learnt, learnt_from};
 
@@ -28,11 +29,11 @@ impl LocalObject {
         if !is_askable(&letter) {
             return Ok(None);
         }
-        if self.is_later_start_if(&letter.start) {
+        let is_sent_back = self.is_sent_back(&letter);
+        if letter.start.is_some() {
             self.learn(&letter)?;
-            return Ok(None);
         }
-        if letter.message.position >= self.start || !self.is_earlier_start_if(&letter.start) {
+        if !is_sent_back {
             return Ok(None);
         }
         let Letter {
@@ -75,6 +76,13 @@ impl LocalObject {
         Ok(())
     }
 
+    // Whether a request that the node does not serve is sent back with the node's start.
+    fn is_sent_back(&self, letter: &Letter) -> bool
+        ensures { result ≡ is_sent_back self.now letter.now }
+    {
+        letter.message.position < self.start && self.is_earlier_start_if(&letter.start)
+    }
+
     // The node hears of a start, if there is one, and takes it for its own if it is later.
     fn hear_start(&mut self, start: &Option<Start>) -> Result<(), Refusal>
         ensures heard { OnOk result (self.new ≡ heard_start_if self.old start.now) }
@@ -83,11 +91,11 @@ impl LocalObject {
         let Some(start) = start else {
             return Ok(());
         };
-        if !self.is_later_start(start) {
-            return Ok(());
-        }
+        let is_later = self.is_later_start(start);
         self.places.learn(start.position, &start.layout)?;
-        self.start = start.position;
+        if is_later {
+            self.start = start.position;
+        }
         Ok(())
     }
 
