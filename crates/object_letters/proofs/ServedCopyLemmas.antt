@@ -21,8 +21,8 @@ use Rattle.local_object.specs.Distinct.{KnowsStart}
 use Rattle.local_object.specs.Doing.{is_askable, is_member, is_served, names_node, stray_events}
 use Rattle.local_object.specs.Events.{LocalEvent, all_done, served_here}
 use Rattle.local_object.specs.Outcomes.{layouts_learnt, learnt_from, next_in_request}
-use Rattle.local_object.specs.Local.{LocalObject, Place, bank_here, bank_in, heard_place, heard_start_if, layout_here, with_heard, learnt_if}
-use Rattle.local_object.specs.Local.{told_start, with_bank_here}
+use Rattle.local_object.specs.Local.{LocalObject, Place, bank_here, bank_in, heard_place, heard_start_if, layout_here, with_heard}
+use Rattle.local_object.specs.Local.{learnt_if, told_start, with_bank_here}
 use Rattle.local_object.proofs.UnchangedBankLemmas.{kept_served}
 use Rattle.local_object.proofs.HeardPlaceLemmas.{bank_learnt, bank_with_here, bank_with_there, layout_learnt, layout_new, layout_stays}
 use Rattle.local_object.proofs.HeardPlaceLemmas.{layout_with}

@@ -16,7 +16,8 @@ pub told_is : (local : LocalObject) (start : Start) → told_start local ≡ Som
     → (start.position ≡ local.start) × (layout_here local local.start ≡ Some start.layout)
 told_is local start e = go (layout_here local local.start) refl e
   where
-    with_layout : (layout : Layout) (b : Bool) → cond b None (Some (let s : Start = record { position = local.start; layout = layout } in s)) ≡ Some start
+    with_layout : (layout : Layout) (b : Bool)
+        → cond b None (Some (let s : Start = record { position = local.start; layout = layout } in s)) ≡ Some start
         → (start.position ≡ local.start) × (Some layout ≡ Some start.layout)
     with_layout layout true is = absurd (cc)
     with_layout layout false is =

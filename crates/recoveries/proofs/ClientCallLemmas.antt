@@ -23,7 +23,7 @@ use Rattle.local_object.specs.Taking.{AreSettling, GoesOn, IsReplyOutcome, begin
 use Rattle.local_object.specs.Taking.{can_begin_anew, going_events, is_read_begin, lead_events, machine_of, repeats, restart_events}
 use Rattle.local_object.specs.Taking.{step_events}
 use Rattle.local_object.proofs.HeardLayoutLemmas.{calls_heard}
-use Rattle.recoveries.proofs.KeptPlaceLemmas.{letter_alone}
+use Rattle.recoveries.proofs.HeardLetterLemmas.{letter_alone}
 use Rattle.recoveries.proofs.KeptCallLemmas.{IsObjectCopy, found_id, moves_call, with_client, without_client}
 use Rattle.recoveries.proofs.TwinLemmas.{advanced_is, found_new, settled_is, taken_is}
 use Rattle.recoveries.proofs.GrownStartLemmas.{grow_alone, grown, grown_found}

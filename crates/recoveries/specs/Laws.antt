@@ -50,7 +50,7 @@ ClosesAreLogged = (old new : KeptNode) (name : List ℕ) (position : ℕ) →
 abbrev pub SameNeedsNoRecord : Type 0
 SameNeedsNoRecord = (old new : KeptNode) → IsSame old new → IsLogged old [] new
 
--- a letter that is served and changes no bank
+-- a letter that is served and changes no bank, or that is not served: at most its layouts and its start are heard of
 abbrev pub UnchangedNeedsNoRecord : Type 0
 UnchangedNeedsNoRecord = (old new : KeptNode) (name : List ℕ) (letter : Letter) → IsHeeded old name letter →
     IsUnchangedBy (old.objects name) letter → IsNamedOutcome old name (serve_events (old.objects name) letter) new →

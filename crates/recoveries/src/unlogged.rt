@@ -7,7 +7,8 @@ pub fn same_needs_no_record()
     ensures { SameNeedsNoRecord }
 {}
 
-/// A law: no record is needed for a letter that the node serves, if it changes no bank.
+/// A law: no record is needed for a letter that the node serves, if it changes no bank, nor for one that it does not
+/// serve.
 pub fn unchanged_needs_no_record()
     ensures { UnchangedNeedsNoRecord }
 {}
