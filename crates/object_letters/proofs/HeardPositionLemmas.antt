@@ -60,6 +60,6 @@ start_rebuildable local (Some start) lawful is =
 pub letter_rebuildable : (local : LocalObject) (letter : Letter) → HasLawfulLayouts letter → IsRebuildable local
     → IsRebuildable (learnt_from local letter)
 letter_rebuildable local letter lawful is =
-    start_rebuildable (layouts_learnt local letter) letter.start lawful.1.1
-    (heard_if (with_heard local letter.message.position letter.layout) (suc letter.message.position) letter.next lawful.1.0
+    start_rebuildable (layouts_learnt local letter) letter.start lawful.2
+    (heard_if (with_heard local letter.message.position letter.layout) (suc letter.message.position) letter.next lawful.1
     (heard_rebuildable local letter.message.position letter.layout lawful.0 is))

@@ -74,13 +74,13 @@ pub next_fits : (local : LocalObject) (letter : Letter) → agrees local letter 
     Fits local (suc letter.message.position) next
 next_fits local letter e next is =
     let o = layout_here local (suc letter.message.position) in
-    fits_by o next (there_by (is_not_another o) letter.next next (agree_by local letter e).1.0 is)
+    fits_by o next (there_by (is_not_another o) letter.next next (agree_by local letter e).1 is)
 
 pub start_fits : (local : LocalObject) (letter : Letter) → agrees local letter ≡ true → (start : Start) → letter.start ≡ Some start →
     Fits local start.position start.layout
 start_fits local letter e start is =
     fits_by (layout_here local start.position) start.layout
-    (passes_by is_not_another local letter.start start (agree_by local letter e).1.1 is)
+    (passes_by is_not_another local letter.start start (agree_by local letter e).2 is)
 
 know_by : (local : LocalObject) (letter : Letter) → knows_all_of local letter ≡ true →
     (is_heard (layout_here local letter.message.position) letter.layout ≡ true)
@@ -100,13 +100,13 @@ pub next_heard : (local : LocalObject) (letter : Letter) → knows_all_of local 
     layout_here local (suc letter.message.position) ≡ Some next
 next_heard local letter e next is =
     let o = layout_here local (suc letter.message.position) in
-    heard_by o next (there_by (is_heard o) letter.next next (know_by local letter e).1.0 is)
+    heard_by o next (there_by (is_heard o) letter.next next (know_by local letter e).1 is)
 
 pub start_heard : (local : LocalObject) (letter : Letter) → knows_all_of local letter ≡ true → (start : Start) →
     letter.start ≡ Some start → layout_here local start.position ≡ Some start.layout
 start_heard local letter e start is =
     heard_by (layout_here local start.position) start.layout
-    (passes_by is_heard local letter.start start (know_by local letter e).1.1 is)
+    (passes_by is_heard local letter.start start (know_by local letter e).2 is)
 
 -- the layout of a position after the node hears of one
 abbrev pub or_heard : Option Layout → Bool → Layout → Option Layout

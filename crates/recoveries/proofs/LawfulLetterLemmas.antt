@@ -163,7 +163,7 @@ event_lawful local (LocalEvent.GiveUp id) is may fit = tt
 event_lawful local (LocalEvent.Close position) is may fit = tt
 event_lawful local (LocalEvent.Grow id) is may fit = tt
 event_lawful local (LocalEvent.Hear letter) is may fit = tt
-event_lawful local (LocalEvent.Redirect letter) is may fit = ((fit.0, fit.1.0, told_lawful local is), tt)
+event_lawful local (LocalEvent.Redirect letter) is may fit = ((fit.0, fit.1, told_lawful local is), tt)
 event_lawful local (LocalEvent.ReadOn id) is may fit =
     reading_lawful local (open_call local.calls id) (λ call. number_at call local.start) is
 event_lawful local (LocalEvent.BeginAnew id) is may fit =

@@ -32,7 +32,7 @@ serve_fit local letter lawful = go (is_served local letter) (is_askable letter)
   where
     stray : (told back : Bool) →
         AllByRecursion IsFit (cond told (LocalEvent.Hear letter ∷ []) [] ++ cond back (LocalEvent.Redirect letter ∷ []) [])
-    stray true true = (lawful, lawful, tt)
+    stray true true = (lawful, (lawful, tt))
     stray true false = (lawful, tt)
     stray false true = (lawful, tt)
     stray false false = tt
