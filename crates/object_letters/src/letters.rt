@@ -16,8 +16,8 @@ use std::alloc::Global;
 use tag::Refusal;
 
 /// The letters that lead a new object of a node to this one, if the node serves them in their order, and then closes
-/// the banks that this object has closed: the banks are then the same. Each letter tells the object's start. `number` is
-/// that of the object's node. The object's calls are in no letter, nor are positions without a bank.
+/// the banks that this object has closed: the banks are then the same. Each letter tells the object's start. `number`
+/// is that of the object's node. The object's calls are in no letter, nor are positions without a bank.
 ///
 /// The pieces in the letters share their bytes with those of the banks. `NoMemory` is the only refusal.
 pub fn letters_of(alloc: Global, number: u8, local: &LocalObject) -> Result<Vec<Letter>, Refusal>
