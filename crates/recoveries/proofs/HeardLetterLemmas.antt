@@ -1,6 +1,6 @@
 -- What a restart keeps of the positions of one object, where the node hears of a letter: of its layouts, and of the start
 -- that it tells.
-use Rattle.std.proofs.Common.{◌≡◌, ◌≤◌, ◌<◌, ◌^◌, ℕ, suc, Bool, true, false, ◌&&◌, cond, nat_lt, ltb-true, Option, Some, None}
+use Rattle.std.proofs.Common.{◌≡◌, ◌≤◌, ◌^◌, ℕ, suc, Bool, true, false, ◌&&◌, cond, nat_lt, ltb-true, Option, Some, None}
 use Rattle.std.proofs.Common.{refl, arith}
 use Rattle.std.proofs.lemmas.Bool.{ltb-false}
 use Rattle.layout.specs.Layout.{Layout}
