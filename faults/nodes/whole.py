@@ -51,7 +51,7 @@ class WholeBank:
 
     def reply_to(self, asked, next_layout):
         """The reply to a request. `next_layout` is that of the next position, if the bank has heard of one."""
-        made = replace(asked, is_reply=True, piece=None, next=b"", step=0)
+        made = replace(asked, is_reply=True, piece=None, next=b"", step=0, start=None)
         if asked.kind == b"next":
             return replace(made, status=messages.STATUSES[self.status], next=next_layout if self.status else b"")
         if asked.kind == b"query":
@@ -94,7 +94,7 @@ class WholeBanks:
 
     def hear(self, it):
         """All nodes have one layout for each position of a name."""
-        for position, layout in ((it.position, it.layout), (it.position + 1, it.next)):
+        for position, layout in ((it.position, it.layout), (it.position + 1, it.next), it.start or (0, b"")):
             if layout and self.layouts.setdefault((it.name, position), layout) != layout:
                 self.fault(f"{it.name.decode()} has two layouts at position {position}")
 
@@ -138,7 +138,7 @@ class WholeBanks:
             replies += 1
             if expected is None or replies > 1 or address != came[0]:
                 self.fault(f"node {node} replies to no request: {said(made)}")
-            elif made != expected:
+            elif replace(made, start=None) != expected:
                 what = f"{asked.kind.decode()}{f' {asked.tag}' if asked.kind in WITH_TAG else ''}"
                 self.fault(f"node {node} replies to {what} of {asked.name.decode()} at position {asked.position}: "
                            f"{said(made)}; its whole bank replies: {said(expected)}")
