@@ -10,8 +10,7 @@ pub(crate) const SET: &[u8] =
     b"\x04\x00\x00\x00\x00\x00\x00#\xbde\x19o\x12\xe6<\xbb*3\r\n$3\r\nSET\r\n$5\r\nphoto\r\n$5\r\nhello\r\n";
 
 /// The head of that entry in form 3.
-pub(crate) const FORM_3_HEAD: [u8; 16] =
-    *b"\x03\x00\x00\x00\x00\x00\x00#\xbde\x19o\x84\xb3\x10+";
+pub(crate) const FORM_3_HEAD: [u8; 16] = *b"\x03\x00\x00\x00\x00\x00\x00#\xbde\x19o\x84\xb3\x10+";
 
 /// The head of that entry in form 2.
 pub(crate) const FORM_2_HEAD: [u8; 16] =
