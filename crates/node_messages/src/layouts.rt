@@ -1,13 +1,12 @@
 //! The layouts at the end of a head, and the start.
-ghost use Rattle.std.specs.Prelude.{◌≡◌};
-ghost use Rattle.std.specs.Int.{w32, to_be_bytes};
+ghost use Rattle.std.specs.Prelude.{◌≡◌, ◌%◌, ◌^◌};
+ghost use Rattle.std.specs.Int.{w32, from_be_bytes, to_be_bytes};
 ghost use Rattle.node_messages.specs.Gives.{Agrees, AgreesAtBytes, AgreesBefore};
 ghost use Rattle.node_messages.specs.Layouts.{
   first_byte,
   first_layout,
   first_members,
   first_next,
-  first_number,
   first_position,
   first_start,
   last_start,
@@ -90,7 +89,7 @@ fn next_of(
 
 // The number that four bytes write, high byte first.
 fn number_of(bytes: &[u8; 4]) -> u32
-    ensures value { result ≡ first_number bytes.now }
+    ensures value { result ≡ from_be_bytes w32 bytes.now % 2 ^ 32 }
     ensures bytes { to_be_bytes w32 result ≡ bytes.now }
 {
     u32::from_be_bytes(*bytes)

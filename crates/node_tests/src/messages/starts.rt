@@ -14,8 +14,8 @@ use std::process::Abort;
 ///
 /// - the form 4; the call 258, which is 1 * 256 + 2; the phase 3; the position 66052, which is
 ///   1 * 65536 + 2 * 256 + 4; and the member 1;
-/// - 0 for a request, 1 for Spread, and 1 for pending; and 30 places that are not used, for a tag (16), a step (8) and a
-///   piece (6);
+/// - 0 for a request, 1 for Spread, and 1 for pending; and 30 places that are not used, for a tag (16), a step (8) and
+///   a piece (6);
 /// - the digest, `abcdefghijklmnop`;
 /// - the layout: two members, k = 1, and the members 20 and 10;
 /// - the next layout: one member, k = 1, and the member 30;
