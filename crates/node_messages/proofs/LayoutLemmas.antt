@@ -1,13 +1,13 @@
 -- The layouts and the start that are read are those that were written, and what was written is read again.
-use Rattle.std.proofs.Common.{◌≡◌, ℕ, ◌<◌, ◌≤◌, ◌^◌, Bool, true, false, ltb, cond, List, [], ◌∷◌, ◌++◌, length, take, drop}
-use Rattle.std.proofs.Common.{Option, Some, None, Ok, Err, refl, sym, ap, ap₂, subst, ◌∙◌, arith, drop_at, length-append, take_all}
+use Rattle.std.proofs.Common.{◌≡◌, ℕ, ◌<◌, ◌≤◌, ◌^◌, Bool, true, false, ltb, List, [], ◌∷◌, ◌++◌, length, take, drop}
+use Rattle.std.proofs.Common.{Option, Some, None, Ok, refl, sym, ap, ap₂, subst, ◌∙◌, arith, drop_at, length-append, take_all}
 use Rattle.std.proofs.Common.{take-append-drop}
 use Rattle.std.specs.Prelude.{IfSome, is_some}
 use Rattle.std.specs.Int.{w32, to_be_bytes, from_be_bytes}
 use Rattle.std.specs.Str.{bytes_eq}
 use Rattle.std.proofs.lemmas.Bool.{ltb-false, le-ltb}
 use Rattle.std.proofs.lemmas.Slice.Eq.{bytes_eq-Decides}
-use Rattle.std.proofs.lemmas.List.{append-nil, length-take, length-take-le, take-append-le}
+use Rattle.std.proofs.lemmas.List.{append-nil, length-take-le, take-append-le}
 use Rattle.layout.specs.Layout.{Layout, IsLawful}
 use Rattle.letter.specs.declared.start.Start.{Start}
 use Rattle.words.specs.Parts.{and_then}
@@ -104,7 +104,7 @@ position_ok bytes x e =
     sym (take-append-drop 4 bytes) ∙ ap (λ (b : List ℕ). b ++ drop 4 bytes) (sym same) in
     subst (IsPositionFront bytes) (ok_is (n, drop 4 bytes) x g.1) (whole, short_below (from_be_bytes w32 (take 4 bytes)))
 
-pub position_by : (bytes rest : List ℕ) (n : ℕ) → first_number bytes ≡ n → take 4 bytes ≡ to_be_bytes w32 n → drop 4 bytes ≡ rest
+position_by : (bytes rest : List ℕ) (n : ℕ) → first_number bytes ≡ n → take 4 bytes ≡ to_be_bytes w32 n → drop 4 bytes ≡ rest
     → first_position bytes ≡ Ok (n, rest)
 unfolding first_position
 position_by bytes rest n is_number is_front is_rest =
@@ -112,20 +112,6 @@ position_by bytes rest n is_number is_front is_rest =
 
 position_again : (n : ℕ) (rest : List ℕ) → n < 2 ^ 32 → first_position (to_be_bytes w32 n ++ rest) ≡ Ok (n, rest)
 position_again n rest small = position_by (to_be_bytes w32 n ++ rest) rest n (short_again n small) refl refl
-
-refused : {A : Type 0} (b : Bool) (x : A) → (b ≡ true → ⊥) → cond b (Ok x) (Err BadLayout) ≡ Err BadLayout
-refused true x no = absurd (no refl)
-refused false x no = refl
-
-pub no_position : (bytes : List ℕ) → length bytes < 4 → first_position bytes ≡ Err BadLayout
-unfolding first_position
-no_position bytes few =
-    let n = first_number bytes in
-    refused (bytes_eq (to_be_bytes w32 n) (take 4 bytes)) (n, drop 4 bytes) (λ e.
-    let same : to_be_bytes w32 n ≡ take 4 bytes = (bytes_eq-Decides (to_be_bytes w32 n) (take 4 bytes)).0 e in
-    let four : length (to_be_bytes w32 n) ≡ 4 = refl in
-    let equal : length (to_be_bytes w32 n) ≡ length (take 4 bytes) = ap length same in
-    omega (arith, four, equal, length-take 4 bytes, few))
 
 -- these are the bytes of a start, and others after them
 abbrev IsStartFront : List ℕ → Start × List ℕ → Type 0
