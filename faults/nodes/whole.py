@@ -65,6 +65,11 @@ def is_message(strings):
     return len(strings) > 1 and strings[0][:1] == bytes([messages.FORM])
 
 
+def is_for(node, asked):
+    """Whether the node is the member that a request names. A node replies to no other request; it sends it back."""
+    return asked.layout[1 + asked.member] == node
+
+
 def said(it):
     """What a reply says, in words."""
     piece = "none" if it.piece is None else f"the piece of point {it.piece[0]} and {len(it.piece[2])} bytes"
@@ -94,9 +99,17 @@ class WholeBanks:
 
     def hear(self, it):
         """All nodes have one layout for each position of a name."""
-        for position, layout in ((it.position, it.layout), (it.position + 1, it.next), it.start or (0, b"")):
-            if layout and self.layouts.setdefault((it.name, position), layout) != layout:
-                self.fault(f"{it.name.decode()} has two layouts at position {position}")
+        self.learn(it.name, it.position, it.layout)
+        self.learn(it.name, it.position + 1, it.next)
+        self.hear_start(it)
+
+    def hear_start(self, it):
+        """A message may tell a start, which has the layout of its position."""
+        self.learn(it.name, *(it.start or (0, b"")))
+
+    def learn(self, name, position, layout):
+        if layout and self.layouts.setdefault((name, position), layout) != layout:
+            self.fault(f"{name.decode()} has two layouts at position {position}")
 
     def serve(self, node, asked):
         self.hear(asked)
@@ -123,7 +136,7 @@ class WholeBanks:
         to the request that came."""
         asked = messages.read(came[1:]) if came[0].startswith(b"node ") and is_message(came[1:]) else None
         expected = None
-        if asked is not None and not asked.is_reply:
+        if asked is not None and not asked.is_reply and is_for(node, asked):
             bank = self.bank(node, asked)
             is_late = bank.forgets(asked)
             expected = bank.reply_to(asked, self.layouts.get((asked.name, asked.position + 1), b""))
@@ -142,6 +155,8 @@ class WholeBanks:
                 what = f"{asked.kind.decode()}{f' {asked.tag}' if asked.kind in WITH_TAG else ''}"
                 self.fault(f"node {node} replies to {what} of {asked.name.decode()} at position {asked.position}: "
                            f"{said(made)}; its whole bank replies: {said(expected)}")
+            else:
+                self.hear_start(made)
         if expected is not None and replies == 0:
             self.counts["requests without a reply"] += is_whole
         elif expected is not None:

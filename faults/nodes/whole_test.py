@@ -105,7 +105,8 @@ class Answers(unittest.TestCase):
                 made = replace(made, next=NEXT)
             banks.compare(2, frame(3, it), [frame(3, made)])
         self.assertEqual(banks.faults, [])
-        banks.compare(2, frame(3, asked("N")), [frame(3, answer(asked("N"), status=b"pending"))])
+        fallen = replace(answer(asked("N"), status=b"pending"), next=NEXT)
+        banks.compare(2, frame(3, asked("N")), [frame(3, fallen)])
         self.assertIn("its whole bank replies: final", banks.faults[0])
 
     def test_what_came_late_is_counted(self):
@@ -144,16 +145,36 @@ class Frames(unittest.TestCase):
     def test_nodes_names_and_positions_have_banks_of_their_own(self):
         banks = WholeBanks(0)
         banks.compare(2, frame(3, asked("Fa")), [frame(3, answer(asked("Fa")))])
-        for node, it in ((1, asked("Q")), (2, replace(asked("Q"), name=b"y")), (2, replace(asked("Q"), position=1))):
+        for node, it in ((1, replace(asked("Q"), member=0)), (2, replace(asked("Q"), name=b"y")), (2, replace(asked("Q"), position=1))):
             banks.compare(node, frame(3, it), [frame(3, answer(it, "0"))])
         self.assertEqual(banks.faults, [])
         banks.compare(2, frame(3, asked("Q")), [frame(3, answer(asked("Q"), "0"))])
         self.assertEqual(len(banks.faults), 1)
 
+    def test_requests_for_another_node(self):
+        """A node replies to none, and sends it back. Its whole bank does not serve it."""
+        banks = WholeBanks(0)
+        other = replace(asked("Fa"), member=2)
+        banks.compare(2, frame(3, other), [frame(3, replace(other, start=(0, LAYOUT)))])
+        banks.compare(2, frame(3, asked("Q")), [frame(3, answer(asked("Q"), "0"))])
+        self.assertEqual((banks.faults, banks.counts["requests without a reply"]), ([], 0))
+        banks.compare(2, frame(3, other), [frame(3, answer(other))])
+        self.assertEqual(banks.faults, ["node 2 replies to no request: done, for the tag (1, 10)"])
+
+    def test_starts(self):
+        """A reply may tell another start than the request; but all nodes have one layout for its position."""
+        banks = WholeBanks(0)
+        it = replace(asked("Q"), position=3)
+        for start in (None, (1, NEXT), (2, LAYOUT)):
+            banks.compare(2, frame(3, it), [frame(3, replace(answer(it, "0"), start=start))])
+        self.assertEqual(banks.faults, [])
+        banks.compare(2, frame(3, it), [frame(3, replace(answer(it, "0"), start=(2, NEXT)))])
+        self.assertEqual(banks.faults, ["x has two layouts at position 2"])
+
     def test_two_layouts_of_a_position(self):
         banks = WholeBanks(0)
         banks.compare(2, frame(3, asked("Q")), [frame(3, answer(asked("Q"), "0"))])
-        other = replace(asked("Q"), layout=NEXT)
+        other = replace(asked("Q"), layout=bytes([1, 1, 2]))
         banks.compare(2, frame(3, other), [frame(3, answer(other, "0"))])
         self.assertEqual(banks.faults, ["x has two layouts at position 0"])
 
