@@ -129,7 +129,7 @@ start_ok bytes x e =
     let position = position_ok bytes p.0 p.1 in
     let layout = layout_ok p.0.1 l.0 l.1 in
     subst (IsStartFront bytes) (ok_is (start_of p.0.0 l.0.0, l.0.1) x l.2)
-    (position.0 ∙ ap (λ (b : List ℕ). to_be_bytes w32 p.0.0 ++ b) layout.0, position.1, layout.1)
+    (position.0 ∙ ap (λ (b : List ℕ). to_be_bytes w32 p.0.0 ++ b) layout.0, (position.1, layout.1))
 
 start_again : (start : Start) (rest : List ℕ) → IsStart start
     → first_start (to_be_bytes w32 start.position ++ (layout_bytes start.layout ++ rest)) ≡ Ok (start, rest)
