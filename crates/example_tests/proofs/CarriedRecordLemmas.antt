@@ -74,7 +74,7 @@ records_carried (it ∷ records) plain old new recovers objects same name =
 -- What the entries record
 
 abbrev pub letter_with : Message → Letter
-letter_with message = record { layout = three_nodes; next = None; message = message }
+letter_with message = record { layout = three_nodes; next = None; start = None; message = message }
 
 abbrev pub named_message : (name : List ℕ) → Message → NodeMessage
 named_message name message =

@@ -40,9 +40,10 @@ Asks letter = is_request letter.message.body ≡ true
 abbrev pub Replies : Letter → Type 0
 Replies letter = is_request letter.message.body ≡ false
 
--- the event serves no request
+-- the event serves no request, and sends none back
 abbrev pub ServesNone : LocalEvent → Type 0
 ServesNone (LocalEvent.Serve letter) = ⊥
+ServesNone (LocalEvent.Redirect letter) = ⊥
 ServesNone event = Unit {0}
 
 requests_ask : (local : LocalObject) (layout : Layout) (call number : ℕ) (kind : Kind) (position : ℕ) (members : List ℕ)
@@ -97,7 +98,7 @@ silent_asks : (local : LocalObject) (call : Option NodeCall) (change : NodeCall 
 silent_asks local None change = tt
 silent_asks local (Some call) change = tt
 
--- all letters of an event that serves no request are requests
+-- all letters of an event that serves no request, and sends none back, are requests
 event_asks : (local : LocalObject) (event : LocalEvent) → ServesNone event →
     AllByRecursion Asks (done_here fragment local event).sent
 event_asks local (LocalEvent.BeginRead id) none =
@@ -117,7 +118,8 @@ event_asks local (LocalEvent.Answer id) none = tt
 event_asks local (LocalEvent.GiveUp id) none = tt
 event_asks local (LocalEvent.Close position) none = tt
 event_asks local (LocalEvent.Grow id) none = tt
-event_asks local (LocalEvent.Hear start layout) none = tt
+event_asks local (LocalEvent.Hear letter) none = tt
+event_asks local (LocalEvent.Redirect letter) none = absurd none
 event_asks local (LocalEvent.ReadOn id) none =
     reading_asks local (λ call. number_at call local.start) (open_call local.calls id)
 event_asks local (LocalEvent.BeginAnew id) none =
@@ -136,7 +138,7 @@ pub done_asks : (old new : LocalObject) (events : List LocalEvent) (letters : Li
 done_asks old new events letters done none =
     subst (λ (ls : List Letter). AllByRecursion Asks ls) (sym done.letters) (all_ask old events none)
 
--- an event that begins a call serves no request
+-- an event that begins a call serves no request, and sends none back
 pub begins_serve_none : (event : LocalEvent) (id : ℕ) → begun_id event ≡ Some id → ServesNone event
 begins_serve_none (LocalEvent.BeginRead id) other is = tt
 begins_serve_none (LocalEvent.BeginWrite id value) other is = tt
@@ -149,7 +151,8 @@ begins_serve_none (LocalEvent.Answer id) other is = tt
 begins_serve_none (LocalEvent.GiveUp id) other is = tt
 begins_serve_none (LocalEvent.Close position) other is = tt
 begins_serve_none (LocalEvent.Grow id) other is = tt
-begins_serve_none (LocalEvent.Hear start layout) other is = tt
+begins_serve_none (LocalEvent.Hear letter) other is = tt
+begins_serve_none (LocalEvent.Redirect letter) other is = absurd (cc)
 begins_serve_none (LocalEvent.ReadOn id) other is = tt
 begins_serve_none (LocalEvent.BeginAnew id) other is = tt
 
