@@ -67,14 +67,15 @@ part_at world local start part starts = record {
 
 part_heard : (world : World) (local : LocalObject) (start : Start) → IsOneFile world.files → IsPartOf world local →
     IsStartOf world start → IsPartOf world (heard_start local start)
-part_heard world local start one part is = go (is_later_start local start)
+part_heard world local start one part is =
+    let later = is_later_start local start in
+    part_at world (with_heard local start.position start.layout) (cond later start.position local.start)
+    (part_learnt world local start.position start.layout part (known_to_all world one local.node start.position start.layout is.layout))
+    (go later)
   where
-    go : (later : Bool) →
-        IsPartOf world (cond later (record (with_heard local start.position start.layout) { start = start.position }) local)
-    go true = part_at world (with_heard local start.position start.layout) start.position
-        (part_learnt world local start.position start.layout part
-        (known_to_all world one local.node start.position start.layout is.layout)) is.starts
-    go false = part
+    go : (later : Bool) → IsStart world (cond later start.position local.start)
+    go true = is.starts
+    go false = part.start
 
 part_heard_if : (world : World) (local : LocalObject) (o : Option Start) → IsOneFile world.files → IsPartOf world local →
     ((start : Start) → o ≡ Some start → IsStartOf world start) → IsPartOf world (heard_start_if local o)
