@@ -27,7 +27,7 @@ use Rattle.refinement.specs.Parts.{IsKeptOf, IsPartOf, WasSentAs}
 use Rattle.refinement.specs.Refined.{IsRefined, if_replied, served_events}
 use Rattle.refinement.specs.WellFormed.{HasAsked, IsWellFormed}
 use Rattle.starts.proofs.BankRowLemmas.{bank_set_here, bank_set_there, counts_set, has_bank, with_served}
-use Rattle.starts.proofs.FinalPointerLemmas.{Keeps, kept_served}
+use Rattle.starts.proofs.FinalPointerLemmas.{Keeps, kept_served as final_served}
 use Rattle.local_object.proofs.OneMemberLemmas.{one_member}
 use Rattle.refinement.proofs.BegunCallLemmas.{ticked}
 use Rattle.refinement.proofs.KeptBankLemmas.{kept_as, kept_declined, kept_on, same_as_whole}
@@ -92,7 +92,7 @@ module _ (fragment : Code) (world : World) (local : LocalObject) (letter : Lette
 
   -- final pointers stay
   still_final : Keeps world (served_to whole)
-  still_final = kept_served world letter.message (body.Request asked)
+  still_final = final_served world letter.message (body.Request asked)
 
   kept_of_whole : IsKeptOf whole bank
   kept_of_whole =

@@ -1,5 +1,5 @@
 -- A node hears of a letter that it neither serves nor takes, or sends it back. The world has no event then.
-use Rattle.std.proofs.Common.{◌≡◌, ℕ, ◌+◌, [], ◌∷◌, refl, arith}
+use Rattle.std.proofs.Common.{◌≡◌, ◌+◌, [], refl, arith}
 use Rattle.record.specs.Fragments.{Code}
 use Rattle.network.specs.Worlds.{World}
 use Rattle.letter.specs.declared.letter.Letter.{Letter}
