@@ -38,12 +38,12 @@ module _ (places : List Place) (call : Machine) (kind : Kind) (position : ℕ) w
   begin_can layout is number sendable =
       ap (λ o. is_some o && (numbered && is_sendable kind call)) is ∙ ap (λ b. b && is_sendable kind call) number ∙ sendable
 
-  module _ (old new : List Machine) (index : ℕ) (letters : List Letter) where
+  module _ (start : ℕ) (old new : List Machine) (index : ℕ) (letters : List Letter) where
     pub not_advanced : can_begin places call kind position ≡ false → new ≡ old → letters ≡ []
-        → IsAdvancedIf (can_begin places call kind position) places old call index kind position new letters
+        → IsAdvancedIf (can_begin places call kind position) places start old call index kind position new letters
     not_advanced can same none =
-        subst (λ b. IsAdvancedIf b places old call index kind position new letters) (sym can) (same, none)
+        subst (λ b. IsAdvancedIf b places start old call index kind position new letters) (sym can) (same, none)
 
-    pub is_advanced : can_begin places call kind position ≡ true → IsAdvanced places old call index kind position new letters
-        → IsAdvancedIf (can_begin places call kind position) places old call index kind position new letters
-    is_advanced can advanced = subst (λ b. IsAdvancedIf b places old call index kind position new letters) (sym can) advanced
+    pub is_advanced : can_begin places call kind position ≡ true → IsAdvanced places start old call index kind position new letters
+        → IsAdvancedIf (can_begin places call kind position) places start old call index kind position new letters
+    is_advanced can advanced = subst (λ b. IsAdvancedIf b places start old call index kind position new letters) (sym can) advanced

@@ -5,9 +5,11 @@ pub mod HeardPlaceLemmas
 pub mod LastPositionLemmas
 pub mod OneMemberLemmas
 pub mod PieceLemmas
+pub mod HeardStartLemmas
 pub mod LearntLemmas
 pub mod ServeLemmas
 pub mod BeginLemmas
+pub mod StrayLemmas
 pub mod SentLemmas
 pub mod DoneLemmas
 pub mod NextLemmas

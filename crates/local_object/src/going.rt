@@ -88,9 +88,9 @@ fn is_unsettled(call: &Call) -> bool
     }
 }
 
-/// The call at an index begins a phase of this kind at this position, at a node with this start. Returns its requests. Returns no letters, and
-/// changes nothing, if the node has not heard of the position, if there is no number for the phase, or if the value is
-/// too long to be encoded.
+/// The call at an index begins a phase of this kind at this position, at a node with this start. Returns its requests.
+/// Returns no letters, and changes nothing, if the node has not heard of the position, if there is no number for the
+/// phase, or if the value is too long to be encoded.
 ///
 /// `NoMemory` is the only refusal.
 pub(crate) fn advance(

@@ -14,7 +14,8 @@ use std::alloc::Global;
 use tag::Refusal;
 
 /// The requests of the call's current phase to the members of this layout whose replies are not recorded, in the order
-/// of the members, from a node with this start. If the phase is a complete fetch that lacks pieces, they are those to all members.
+/// of the members, from a node with this start. If the phase is a complete fetch that lacks pieces, they are those to all
+/// members.
 ///
 /// `NoMemory` is the only refusal.
 pub(crate) fn missing(

@@ -98,9 +98,8 @@ impl LocalObject {
     /// Whether serving a letter may change more than what the node has heard of: the node serves the letter, and its
     /// request raises a pointer, brings a piece, or finalizes a tag that is not the greatest finalized one, or the letter
     /// tells of a later start. If it is false, the node hears at most of the layouts in the letter and of its start, and
-    /// nothing else changes. It
-    /// is also true of some requests that change nothing: a pre-write whose piece came before, and a request that
-    /// finalizes a tag which is finalized already and not the greatest one.
+    /// nothing else changes. It is also true of some requests that change nothing: a pre-write whose piece came before,
+    /// and a request that finalizes a tag which is finalized already and not the greatest one.
     ///
     /// So a log need not have a letter for which this is false. A bank that is not there counts as a newly opened one.
     /// A node that has forgotten layouts hears of them again from other letters. Only the node that moves objects must
