@@ -145,6 +145,11 @@ unserved local letter e =
     (cond b (LocalEvent.Serve letter ∷ []) (cond (is_askable letter) (stray_events local letter) []))).local) (sym e)
     (unserved_heard local letter)
 
+pub unserved_is : (local : LocalObject) (letter : Letter) → is_served local letter ≡ false → false ≡ is_changed_by local letter
+unserved_is local letter e =
+    sym (ap (λ b. b && (changes_in_body (bank_here local letter.message.position letter.message.member) letter.message.body
+    || is_later_start_if local letter.start)) e)
+
 -- whether a letter that is served changes the object
 pub changed_is : (o local : LocalObject) → o ≡ local → (letter : Letter) (r : Bool) → is_served local letter ≡ true
     → r ≡ (changes_in_body (bank_here o letter.message.position letter.message.member) letter.message.body

@@ -63,19 +63,3 @@ module _ (old : LocalObject) (letter : Letter) (unserved : is_served old letter 
       dropped is new same =
           subst (λ events. IsOutcome old events new []) (sym (rest_events false is))
           (record { may = tt; local = same; letters = refl })
-
-      -- it is at no position before the start
-      pub not_before : ltb letter.message.position old.start ≡ false → is_redirected ≡ false
-      not_before e = ap (λ b. b && is_earlier_start_if old letter.start) e
-
-      -- it tells the node's own start
-      pub not_earlier : is_earlier_start_if old letter.start ≡ false → is_redirected ≡ false
-      not_earlier e = ap (λ b. ltb letter.message.position old.start && b) e ∙ neither (ltb letter.message.position old.start)
-        where
-          neither : (b : Bool) → (b && false) ≡ false
-          neither true = refl
-          neither false = refl
-
-      pub before_earlier : ltb letter.message.position old.start ≡ true → is_earlier_start_if old letter.start ≡ true
-          → is_redirected ≡ true
-      before_earlier before e = ap (λ b. b && is_earlier_start_if old letter.start) before ∙ e
