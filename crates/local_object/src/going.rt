@@ -17,7 +17,7 @@ ghost use Rattle.local_object.specs.Taking.{can_begin};
 use crate::Ended;
 use crate::calls::Calls;
 use crate::coding::{coded_for, is_sendable};
-use crate::letters::letters_of;
+use crate::letters::{knows_next, letters_of};
 use crate::pieces::first_pieces;
 use crate::places::Places;
 use bank::Kind;
@@ -89,8 +89,8 @@ fn is_unsettled(call: &Call) -> bool
 }
 
 /// The call at an index begins a phase of this kind at this position, at a node with this start. Returns its requests.
-/// Returns no letters, and changes nothing, if the node has not heard of the position, if there is no number for the
-/// phase, or if the value is too long to be encoded.
+/// Returns no letters, and changes nothing, if the node has not heard of the position, or not of the next one of which
+/// the phase says that it is there, if there is no number for the phase, or if the value is too long to be encoded.
 ///
 /// `NoMemory` is the only refusal.
 pub(crate) fn advance(
@@ -119,6 +119,9 @@ pub(crate) fn advance(
         return Ok(Vec::new(alloc));
     }
     if !is_sendable(kind, call) {
+        return Ok(Vec::new(alloc));
+    }
+    if !knows_next(places, kind, position) {
         return Ok(Vec::new(alloc));
     }
     let ask = Ask {

@@ -1,17 +1,36 @@
 //! Messages as letters, with the layouts that their receivers may not have heard of.
 
-ghost use Rattle.std.specs.Prelude.{◌≡◌, suc, map, IfOk, IfErr};
+ghost use Rattle.std.specs.Prelude.{◌≡◌, suc, map, is_some, IfOk, IfErr};
 ghost use Rattle.tag.specs.declared.refusal.Refusal.TheVariants.{NoMemory};
 ghost use Rattle.local_object.specs.Local.{layout_in, heard_place, told_start_in};
 ghost use Rattle.local_object.specs.Letters.{letter_in};
+ghost use Rattle.local_object.specs.Taking.{knows_next};
 ghost use Rattle.mail.specs.Message.{names_next, status_names_next};
 
 use crate::places::Places;
-use bank::{Answer, Request, Status};
+use bank::{Answer, Kind, Request, Status};
 use letter::{Letter, SharedLayout, Start};
 use mail::{Body, Message};
 use std::alloc::Global;
 use tag::Refusal;
+
+/// Returns whether a phase of this kind does not say that there is a next position, or the node has heard of that
+/// position.
+pub(crate) fn knows_next(places: &Places, kind: Kind, position: u32) -> bool
+    ensures { result ≡ knows_next places.now kind position }
+{
+    match kind {
+        Kind::Spread(status) => !status_names_next(status) || is_known_after(places, position),
+        _ => true,
+    }
+}
+
+// Whether the node has heard of the position after this one.
+fn is_known_after(places: &Places, position: u32) -> bool
+    ensures { result ≡ is_some (layout_in (heard_place places.now (suc position))) }
+{
+    places.layout_of(u64::from(position) + 1).is_some()
+}
 
 /// Returns a letter for each message to or from members of a position with this layout, from a node with this start.
 /// `NoMemory` is the only refusal.

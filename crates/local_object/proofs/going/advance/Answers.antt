@@ -11,7 +11,8 @@ use Rattle.local_object.specs.Going.{IsAdvancedIf}
 use Rattle.local_object.specs.Letters.{letter_in}
 use Rattle.local_object.specs.Local.{layout_in, heard_place}
 use Rattle.local_object.specs.Taking.{can_begin}
-use Rattle.local_object.proofs.AdvanceLemmas.{begin_can, begin_long, begin_unknown, begin_unnumbered, is_advanced, not_advanced}
+use Rattle.local_object.proofs.AdvanceLemmas.{begin_can, begin_long, begin_unknown, begin_unnamed, begin_unnumbered, is_advanced}
+use Rattle.local_object.proofs.AdvanceLemmas.{not_advanced}
 use Rattle.local_object.proofs.CarriedCallLemmas.{same_call}
 use Rattle.local_object.proofs.going.advance.Goals as goal
 
@@ -47,6 +48,19 @@ returns-then-not-is_sendable-clause-advanced c = λ call at.
     (begin_long places read c.args.kind c.args.position (sym c.is_sendable.ensures ∙ c.if-not-is_sendable.true))
     refl c.new-then-not-is_sendable.ensures.items)
 
+pub returns-then-not-knows_next-clause-advanced : goal.returns-then-not-knows_next-clause-advanced
+returns-then-not-knows_next-clause-advanced c = λ call at.
+    let places = c.args.places.now in
+    let calls = c.args.calls.now in
+    let read = c.at-call.result.now in
+    let items = c.new-then-not-knows_next.result.items in
+    subst (λ (m : Machine). IsAdvancedIf (can_begin places m c.args.kind c.args.position) places calls m c.args.index c.args.kind
+    c.args.position calls items) (same_call read call (sym c.at-call.ensures ∙ at))
+    (not_advanced places read c.args.kind c.args.position calls calls c.args.index items
+    (begin_unnamed places read c.args.kind c.args.position (sym c.is_sendable.ensures ∙ c.if-not-is_sendable.false)
+    (sym c.knows_next.ensures ∙ c.if-not-knows_next.true))
+    refl c.new-then-not-knows_next.ensures.items)
+
 pub returns-clause-advanced : goal.returns-clause-advanced
 returns-clause-advanced c = λ call at.
     let places = c.args.places.now in
@@ -66,7 +80,7 @@ returns-clause-advanced c = λ call at.
     (is_advanced places read kind position c.args.start calls new c.args.index items
     (begin_can places read kind position layout known
     (lt-ltb (read.phase.number + 1) (2 ^ 32) (omega (arith, number, c.if-number-ge4294967295.false)))
-    (sym c.is_sendable.ensures ∙ c.if-not-is_sendable.false))
+    (sym c.is_sendable.ensures ∙ c.if-not-is_sendable.false) (sym c.knows_next.ensures ∙ c.if-not-knows_next.false))
     (record {
       layout = layout;
       known = known;
