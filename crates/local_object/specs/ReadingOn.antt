@@ -6,6 +6,7 @@ use Rattle.layout.specs.Layout.{Layout, quorum_of}
 use Rattle.bank.specs.declared.kind.Kind.{Kind}
 use Rattle.bank.specs.declared.kind.Kind.TheVariants.{Next}
 use Rattle.record.specs.declared.stage.Stage.{Stage}
+use Rattle.record.specs.Legal.{is_move}
 use Rattle.record.specs.declared.stage.Stage.TheVariants.{ReadNext}
 use Rattle.call.specs.Call.{OpenCall as Machine}
 use Rattle.open_calls.specs.OpenCalls.{NodeCall, open_call}
@@ -29,13 +30,13 @@ abbrev pub has_quorum : Option Layout → (quorum : ℕ) → Bool
 has_quorum None quorum = false
 has_quorum (Some layout) quorum = quorum == quorum_of layout
 
--- whether the call has settled nothing, and its current phase reads the sequence of layouts at a position of which the
--- node has heard, and still lacks a quorum of replies
+-- whether the call is no move, has settled nothing, and its current phase reads the sequence of layouts at a position of
+-- which the node has heard, and still lacks a quorum of replies
 abbrev pub is_reading : List Place → Machine → Bool
 is_reading places call =
-    not (is_some call.phase.end) && (not (is_some call.settled)
+    not (is_move call.kind) && (not (is_some call.phase.end) && (not (is_some call.settled)
     && (is_reading_at call.stage call.phase.position && (is_next call.phase.kind
-    && has_quorum (layout_in (heard_place places call.phase.position)) call.phase.quorum)))
+    && has_quorum (layout_in (heard_place places call.phase.position)) call.phase.quorum))))
 
 -- whether there is a call, it reads at a position before the node's start, and there is a number for the phase in which
 -- it goes on at the start

@@ -117,8 +117,8 @@ pub(crate) fn read_at(
     Ok(letters)
 }
 
-/// Returns whether the call has settled nothing, and its phase reads the sequence of layouts at a position of which the
-/// node has heard, and still lacks a quorum of replies.
+/// Returns whether the call is no move and has settled nothing, and its phase reads the sequence of layouts at a position
+/// of which the node has heard, and still lacks a quorum of replies.
 pub(crate) fn is_reading(places: &Places, call: &Call) -> bool
     ensures value { result ≡ is_reading places.now call.now }
     ensures named { call.now.phase.call ≡ call.now.id }
@@ -127,7 +127,8 @@ pub(crate) fn is_reading(places: &Places, call: &Call) -> bool
 {
     let phase = call.phase();
     let complete = phase.complete();
-    !complete
+    !is_move(call)
+        && !complete
         && !call.is_settled()
         && is_reading_at(call.stage(), phase.position())
         && is_next(phase.kind())

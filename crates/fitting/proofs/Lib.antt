@@ -1,0 +1,14 @@
+pub mod ListLemmas
+pub mod BankLemmas
+pub mod PlaceLemmas
+pub mod StageLemmas
+pub mod RequestLemmas
+pub mod CallLemmas
+pub mod ServingLemmas
+pub mod ClosingLemmas
+pub mod EventLemmas
+pub mod MessageLemmas
+pub mod ReadLemmas
+pub mod GoingLemmas
+pub mod TakingLemmas
+pub mod OutcomeLemmas
