@@ -1,0 +1,4 @@
+pub mod SendableLemmas
+pub mod KeeperLemmas
+pub mod DeliveryLemmas
+pub mod StartingLemmas

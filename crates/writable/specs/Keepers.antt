@@ -1,0 +1,27 @@
+-- What a node keeps if it can write all letters and records that it has to.
+use Rattle.std.specs.Prelude.{◌≡◌, ◌<◌, ◌≤◌, ◌^◌, ℕ, List, length}
+use Rattle.cluster_file.specs.declared.file.TheConstants.{DIGEST_LENGTH}
+use Rattle.deeds.specs.CallId.{HasRanges}
+use Rattle.fitting.specs.Letters.{IsFitLetter}
+use Rattle.fitting.specs.Objects.{IsFitObject}
+use Rattle.letter.specs.declared.letter.NamedLetter.{NamedLetter}
+use Rattle.node_keeper.specs.Objects.{objects_of}
+use Rattle.node_keeper.specs.declared.keeper.Keeper.{Keeper}
+use Rattle.tag.specs.declared.limits.TheConstants.{LONGEST_NAME}
+
+-- a name is not too long
+abbrev pub IsShortName : List ℕ → Type 0
+IsShortName name = length name ≤ LONGEST_NAME
+
+-- a letter with the name of its object is one that a message can carry
+pub record IsFitNamed (it : NamedLetter) : Type 0 where
+  pub name : IsShortName it.name
+  pub letter : IsFitLetter it.letter
+
+-- what a node keeps is fit: the node's number is a byte, its ids are within their ranges, the digest of its cluster
+-- file has the length of one, and each object is fit
+pub record IsFitKeeper (keeper : Keeper) : Type 0 where
+  pub node : keeper.ids.node < 2 ^ 8
+  pub ids : HasRanges keeper.ids
+  pub digest : length keeper.digest ≡ DIGEST_LENGTH
+  pub objects : (name : List ℕ) → IsFitObject (objects_of keeper.objects name)

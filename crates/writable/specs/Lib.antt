@@ -1,0 +1,3 @@
+pub mod Keepers
+pub mod Laws
+pub mod Starting
