@@ -12,7 +12,7 @@ ghost use Rattle.node_effects.specs.declared.work.Work.{Work as Todo};
 ghost use Rattle.node_keeper.specs.Acts.{Acts, GivesId};
 ghost use Rattle.node_keeper.specs.Beginning.{BeginsCall, IsNotBegun};
 ghost use Rattle.node_keeper.specs.NextIds.{IsNoEpoch, IsNoId, next_id_of};
-ghost use Rattle.node_keeper.specs.Resending.{CanResend, sendings_again};
+ghost use Rattle.node_keeper.specs.Resending.{CanResend, IsAskedAgain, sendings_again};
 ghost use Rattle.node_keeper.specs.Sendings.{sent_growth};
 ghost use Rattle.node_keeper.specs.Beginning.{moving_call, opened_growth, reading_call, writing_call};
 ghost use Rattle.node_effects.specs.declared.notice.Notice.TheVariants as notice;
@@ -150,18 +150,20 @@ impl Keeper {
         work.note(Notice::Moves { name, id, layout })
     }
 
-    /// Sends the requests of a call's current phase again to the members that have not replied, if the call with this
-    /// id is open at the object of this name.
+    /// Has the call with this id at the object of this name ask again, if it is open there. If it reads the sequence of
+    /// layouts at a position before the object's start, it goes on at the start. Otherwise it sends the requests of its
+    /// current phase again to the members that have not replied.
     ///
     /// Fails with `Unwritable` if a request is no message, or with `NoMemory`.
-    pub fn resend(&self, name: &Bytes, id: CallId, work: &mut Work) -> Result<(), NodeError>
-        ensures acts { OnOk result ((asker : ℕ) → Acts asker [] self.now work.old self.now work.new) }
+    pub fn ask_again(&mut self, name: &Bytes, id: CallId, work: &mut Work) -> Result<(), NodeError>
+        ensures acts { OnOk result ((asker : ℕ) → Acts asker [] self.old work.old self.new work.new) }
+        ensures asked { OnOk result (IsAskedAgain self.old name.now id self.new) }
         ensures sends { OnOk result (IsGrown work.old work.new
-            (sent_growth self.now.ids.node self.now.digest (sendings_again name.now id self.now))) }
+            (sent_growth self.old.ids.node self.old.digest (sendings_again name.now id self.old))) }
 
-        ensures writes { WritesOrFails (CanResend name.now id self.now) result }
+        ensures writes { WritesOrFails (CanResend name.now id self.old) result }
     {
-        let letters = self.objects.resend(name, id)?;
+        let letters = self.objects.ask_again(name, id)?;
         self.post(name, letters, work)
     }
 

@@ -8,7 +8,7 @@ use Rattle.node_keeper.specs.Fitting.{IsSendable}
 use Rattle.node_keeper.specs.Sendings.{asked, sent_growth}
 use Rattle.node_keeper.proofs.BegunLemmas.{resent_acts}
 use Rattle.node_keeper.proofs.ResultLemmas.{ok_fits}
-use Rattle.node_keeper.proofs.keeper.Keeper.resend.Goals as goal
+use Rattle.node_keeper.proofs.keeper.Keeper.ask_again.Goals as goal
 
 pub returns-clause-acts : goal.returns-clause-acts
 returns-clause-acts c =
