@@ -71,7 +71,7 @@ next_acts asker old new before noted after name event id letters records notice 
       sent = subst (λ d. AllByRecursion (IsSendable n d) (asked n name letters)) digest
           (subst (λ m. AllByRecursion (IsSendable m new.digest) (asked m name letters)) node fits);
       own = ap (λ m. to_itself m (asked m name letters)) node;
-      addressed = asked_addressed n asker name letters
+      addressed = asked_addressed n asker [] name letters
           (done_asks (objects_of old.objects name) done.local (event ∷ []) letters done.done (begins_serve_none event id begins, tt));
       ids = subst (HaveLoggedIds old.ids records) (sym given) (tells old.ids next);
       handled = λ within. safe_as (kept_of old) [] (logged_first records (with_names name letters))
@@ -133,7 +133,7 @@ resent_acts asker keeper before after name letters resent sent fits =
       read = tt;
       sent = fits;
       own = refl;
-      addressed = asked_addressed n asker name letters (resent_ask (objects_of keeper.objects name) letters resent);
+      addressed = asked_addressed n asker [] name letters (resent_ask (objects_of keeper.objects name) letters resent);
       ids = same_epoch keeper.ids keeper.ids refl;
       handled = λ within.
           let node = kept_of keeper in

@@ -84,7 +84,7 @@ module _ (asker : ℕ) (it : NamedLetter) (old new : Keeper) (before after : Wor
         idless = idless_if (LogRecord.Serves it.name it.letter) (refl, refl) changes;
         sent = serves.fits.sent;
         own = refl;
-        addressed = replied_addressed old.ids.node asker it.name serves.replies
+        addressed = replied_addressed old.ids.node asker it.name it.letter serves.replies
             (all_reply local serves.done.local it.letter serves.replies serves.done.done);
         those = going_letters (λ letter. asker) it.name serves.replies;
         told = sym (ap (map (Seen.Tells it.name)) (serve_told it.name it.letter local));
@@ -129,7 +129,7 @@ module _ (it : NamedLetter) (old new : Keeper) (before after : Work) (ended : Op
         idless = idless_if (LogRecord.Takes it.name it.letter) (refl, refl) moves;
         sent = takes.fits.sent;
         own = append-nil sending.own;
-        addressed = asked_addressed old.ids.node asker it.name takes.letters
+        addressed = asked_addressed old.ids.node asker (named_of it ∷ []) it.name takes.letters
             (done_asks local takes.done.local quiet.events takes.letters quiet.done quiet.asks);
         those = going_letters (member_or old.ids.node) it.name takes.letters;
         told = told_seen it.name ended ∙ ap (map (Seen.Tells it.name)) quiet.told;

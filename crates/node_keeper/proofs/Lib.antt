@@ -1,6 +1,7 @@
 pub mod ActLemmas
 pub mod AnewLemmas
 pub mod AnewReadLemmas
+pub mod AskedAgainLemmas
 pub mod BegunLemmas
 pub mod CallLemmas
 pub mod CauseLemmas

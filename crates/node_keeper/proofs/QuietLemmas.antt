@@ -1,6 +1,6 @@
 -- Letters that are served and taken, and calls that are given up, as what a node does.
 use Rattle.std.proofs.Common.{◌≡◌, inl, inr, ℕ, Bool, true, false, cond, List, [], ◌∷◌, ◌++◌, map}
-use Rattle.std.proofs.Common.{Option, None, Some, refl, sym, subst, ap}
+use Rattle.std.proofs.Common.{Option, None, Some, is_some, refl, sym, subst, ap}
 use Rattle.std.specs.List.{AllByRecursion}
 use Rattle.bank.specs.declared.kind.Kind.{Kind}
 use Rattle.encoder.specs.Fragment.{fragment}
@@ -11,11 +11,13 @@ use Rattle.deeds.specs.CallId.{CallIds}
 use Rattle.open_calls.specs.OpenCalls.{NodeCall, open_call}
 use Rattle.letter.specs.declared.letter.Letter.{Letter}
 use Rattle.local_object.specs.declared.progress.Ended.{Ended}
-use Rattle.local_object.specs.Doing.{IsOutcome, can_close, close_events, give_up_events, gives_up, is_served, serve_events}
+use Rattle.local_object.specs.Doing.{IsOutcome, can_close, close_events, give_up_events, gives_up, is_askable, is_sent_back}
+use Rattle.local_object.specs.Doing.{is_served, serve_events, stray_events}
 use Rattle.local_object.specs.Ended.{all_told}
 use Rattle.local_object.specs.Events.{LocalEvent, all_done}
 use Rattle.local_object.specs.Going.{next_if}
 use Rattle.local_object.specs.Local.{LocalObject, Place}
+use Rattle.local_object.specs.ReadingOn.{read_on_events, reads_on}
 use Rattle.local_object.specs.Taking.{AreSettling, IsOutcomeWithAnswers, IsReplyOutcome, begin_anew_events, begin_events}
 use Rattle.local_object.specs.Taking.{call_events, can_begin, can_begin_anew, going_events, grow_events, grows_by, is_read_begin}
 use Rattle.local_object.specs.Taking.{lead_events, machine_of, repeats, restart_events, step_events}
@@ -45,7 +47,7 @@ use Rattle.node_keeper.proofs.DoneLemmas.{file_same}
 use Rattle.node_keeper.proofs.RequestLemmas.{ServesNone}
 
 -- the parts of what a node does that say what goes out, what the log gets, and what clients see
-pub record GoesOut (asker : ℕ) (keeper : Keeper) (before after : Work) (records : List LogRecord) (letters : List Named)
+pub record GoesOut (asker : ℕ) (got : List Named) (keeper : Keeper) (before after : Work) (records : List LogRecord) (letters : List Named)
     (seen : List Seen) : Type 0 where
   pub sends : List Sending
   pub growth : Growth
@@ -56,7 +58,7 @@ pub record GoesOut (asker : ℕ) (keeper : Keeper) (before after : Work) (record
   pub idless : AllByRecursion TellsNoId records
   pub sent : AllByRecursion (IsSendable keeper.ids.node keeper.digest) sends
   pub own : growth.own ≡ to_itself keeper.ids.node sends
-  pub addressed : AllByRecursion (IsDirected keeper.ids.node asker) sends
+  pub addressed : AllByRecursion (IsDirected keeper.ids.node asker got) sends
   pub those : letters_of sends ≡ letters
   pub told : all_seen growth.notices ≡ seen
 
@@ -66,7 +68,7 @@ pub quiet_acts : (asker : ℕ) (got : List Named) (old new : Keeper) (before aft
     new.file ≡ old.file → new.digest ≡ old.digest → new.ids ≡ old.ids →
     IsOutcome (objects_of old.objects name) events local letters → IsChangedAt old.objects name local new.objects →
     AllByRecursion (IsEventLetterKnown got name) events → AllByRecursion BeginsNone events → AreFew records →
-    IsLogged (kept_of old) records (kept_of new) → GoesOut asker old before after records (with_names name letters)
+    IsLogged (kept_of old) records (kept_of new) → GoesOut asker got old before after records (with_names name letters)
     (map (Seen.Tells name) (all_told fragment (objects_of old.objects name) events)) → Acts asker got old before new after
 quiet_acts asker got old new before after name events local letters records file digest ids done changed fed none few logged out =
     let tells = map (Seen.Tells name) (all_told fragment (objects_of old.objects name) events) in
@@ -104,14 +106,42 @@ module _ (name : List ℕ) (letter : Letter) (local : LocalObject) where
   abbrev got : List Named
   got = record { name = name; letter = letter } ∷ []
 
+  -- what is true of serving the letter, of hearing of it and of sending it back
+  served_all : (P : LocalEvent → Type 0) → P (LocalEvent.Serve letter) → P (LocalEvent.Hear letter) →
+      P (LocalEvent.Redirect letter) → AllByRecursion P (serve_events local letter)
+  served_all P serves hears back = go (is_served local letter) (is_askable letter)
+    where
+      go : (served askable : Bool) →
+          AllByRecursion P (cond served (LocalEvent.Serve letter ∷ []) (cond askable (stray_events local letter) []))
+      go true askable = (serves, tt)
+      go false true =
+          all_append P (cond (is_some letter.start) (LocalEvent.Hear letter ∷ []) [])
+          (cond (is_sent_back local letter) (LocalEvent.Redirect letter ∷ []) [])
+          (if_all P (LocalEvent.Hear letter) (is_some letter.start) hears)
+          (if_all P (LocalEvent.Redirect letter) (is_sent_back local letter) back)
+      go false false = tt
+
   pub serve_fed : AllByRecursion (IsEventLetterKnown got name) (serve_events local letter)
-  serve_fed = if_all (IsEventLetterKnown got name) (LocalEvent.Serve letter) (is_served local letter) (0, refl)
+  serve_fed = served_all (IsEventLetterKnown got name) (0, refl) (0, refl) (0, refl)
 
   pub serve_none : AllByRecursion BeginsNone (serve_events local letter)
-  serve_none = if_all BeginsNone (LocalEvent.Serve letter) (is_served local letter) refl
+  serve_none = served_all BeginsNone refl refl refl
+
+  stray_told : (hears back : Bool) → all_told fragment local
+      (cond hears (LocalEvent.Hear letter ∷ []) [] ++ cond back (LocalEvent.Redirect letter ∷ []) []) ≡ []
+  stray_told true true = refl
+  stray_told true false = refl
+  stray_told false true = refl
+  stray_told false false = refl
 
   pub serve_told : all_told fragment local (serve_events local letter) ≡ []
-  serve_told = untold_if local (LocalEvent.Serve letter) refl (is_served local letter)
+  serve_told = go (is_served local letter) (is_askable letter)
+    where
+      go : (served askable : Bool) → all_told fragment local
+          (cond served (LocalEvent.Serve letter ∷ []) (cond askable (stray_events local letter) [])) ≡ []
+      go true askable = refl
+      go false true = stray_told (is_some letter.start) (is_sent_back local letter)
+      go false false = refl
 
 -- Taking
 
@@ -216,6 +246,21 @@ module _ (got : List Named) (name : List ℕ) (id : ℕ) (local : LocalObject) w
 
   pub give_up_told : all_told fragment local (give_up_events local id) ≡ []
   give_up_told = untold_if local (LocalEvent.GiveUp id) refl (gives_up local id)
+
+-- Going on at the object's start
+
+module _ (got : List Named) (name : List ℕ) (id : ℕ) (local : LocalObject) where
+  pub read_on_fed : AllByRecursion (IsEventLetterKnown got name) (read_on_events local id)
+  read_on_fed = if_all (IsEventLetterKnown got name) (LocalEvent.ReadOn id) (reads_on local (open_call local.calls id)) tt
+
+  pub read_on_none : AllByRecursion BeginsNone (read_on_events local id)
+  read_on_none = if_all BeginsNone (LocalEvent.ReadOn id) (reads_on local (open_call local.calls id)) refl
+
+  pub read_on_serves_none : AllByRecursion ServesNone (read_on_events local id)
+  read_on_serves_none = if_all ServesNone (LocalEvent.ReadOn id) (reads_on local (open_call local.calls id)) tt
+
+  pub read_on_told : all_told fragment local (read_on_events local id) ≡ []
+  read_on_told = untold_if local (LocalEvent.ReadOn id) refl (reads_on local (open_call local.calls id))
 
 -- Closing
 

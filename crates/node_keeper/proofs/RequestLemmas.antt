@@ -1,6 +1,6 @@
 -- Which letters are requests, and which are replies.
-use Rattle.std.proofs.Common.{◌≡◌, ℕ, suc, Bool, true, false, cond, List, [], ◌∷◌, ◌++◌, map, Option, None, Some}
-use Rattle.std.proofs.Common.{zero, slice_get, refl, sym, subst}
+use Rattle.std.proofs.Common.{◌≡◌, ◌⊎◌, inl, inr, ℕ, suc, Bool, true, false, cond, List, [], ◌∷◌, ◌++◌, map, Option, None, Some}
+use Rattle.std.proofs.Common.{zero, is_some, slice_get, refl, sym, subst}
 use Rattle.std.specs.List.{AllByRecursion}
 use Rattle.bank.specs.Bank.{empty_piece}
 use Rattle.bank.specs.declared.kind.Kind.{Kind}
@@ -20,8 +20,9 @@ use Rattle.record.specs.declared.stage.Stage.TheVariants.{ReadNext}
 use Rattle.record.specs.Legal.{first_stage}
 use Rattle.record.specs.Sending.{requests}
 use Rattle.letter.specs.declared.letter.Letter.{Letter}
+use Rattle.letter.specs.declared.start.Start.{Start}
 use Rattle.mail.specs.Message.{is_request}
-use Rattle.local_object.specs.Doing.{IsOutcome, is_served, serve_events}
+use Rattle.local_object.specs.Doing.{IsOutcome, is_askable, is_sent_back, is_served, serve_events, stray_events}
 use Rattle.local_object.specs.Events.{LocalEvent, advanced_at, advanced_here, all_done, called_here, done_here}
 use Rattle.local_object.specs.Events.{pieces_here, reply_letters, served_here}
 use Rattle.local_object.specs.Outcomes.{begun_here, learnt_from, letter_of, on_open_call, silent}
@@ -125,7 +126,7 @@ event_asks local (LocalEvent.ReadOn id) none =
 event_asks local (LocalEvent.BeginAnew id) none =
     reading_asks local (λ call. anew_number call local.start) (open_call local.calls id)
 
-all_ask : (local : LocalObject) (events : List LocalEvent) → AllByRecursion ServesNone events →
+pub all_ask : (local : LocalObject) (events : List LocalEvent) → AllByRecursion ServesNone events →
     AllByRecursion Asks (all_done fragment local events).sent
 all_ask local [] none = tt
 all_ask local (event ∷ events) none =
@@ -173,23 +174,37 @@ resent_ask local letters resent =
     is.layout.members 0 (pieces_here fragment is.layout is.call))
     is.place letter is.at) letters resent
 
--- Replies
+-- Replies, and requests that are sent back
+
+-- the letter is a reply, or it is the request that came, but for the start that it tells
+abbrev pub RepliesTo : (came : Letter) → Letter → Type 0
+RepliesTo came letter = Replies letter ⊎ ((start : Option Start) × (came ≡ record letter { start = start }))
 
 served_replies : (local : LocalObject) (letter : Letter) (message : Body) →
-    AllByRecursion Replies ((served_here local letter message).sent ++ [])
+    AllByRecursion (RepliesTo letter) ((served_here local letter message).sent ++ [])
 served_replies local letter (body.Request asked) =
     go (kept_reply (bank_here local letter.message.position letter.message.member) asked)
   where
-    go : (made : Option Reply) → AllByRecursion Replies (reply_letters local letter made ++ [])
+    go : (made : Option Reply) → AllByRecursion (RepliesTo letter) (reply_letters local letter made ++ [])
     go None = tt
-    go (Some made) = (refl, tt)
+    go (Some made) = (inl refl, tt)
 served_replies local letter (body.Reply kind made) = tt
 
+stray_replies : (local : LocalObject) (letter : Letter) (hears back : Bool) → AllByRecursion (RepliesTo letter)
+    (all_done fragment local (cond hears (LocalEvent.Hear letter ∷ []) [] ++ cond back (LocalEvent.Redirect letter ∷ []) [])).sent
+stray_replies local letter true true = (inr (letter.start, refl), tt)
+stray_replies local letter true false = tt
+stray_replies local letter false true = (inr (letter.start, refl), tt)
+stray_replies local letter false false = tt
+
 pub all_reply : (local new : LocalObject) (letter : Letter) (replies : List Letter) →
-    IsOutcome local (serve_events local letter) new replies → AllByRecursion Replies replies
+    IsOutcome local (serve_events local letter) new replies → AllByRecursion (RepliesTo letter) replies
 all_reply local new letter replies done =
-    subst (λ (ls : List Letter). AllByRecursion Replies ls) (sym done.letters) (go (is_served local letter))
+    subst (λ (ls : List Letter). AllByRecursion (RepliesTo letter) ls) (sym done.letters)
+    (go (is_served local letter) (is_askable letter))
   where
-    go : (b : Bool) → AllByRecursion Replies (all_done fragment local (cond b (LocalEvent.Serve letter ∷ []) [])).sent
-    go true = served_replies (learnt_from local letter) letter letter.message.body
-    go false = tt
+    go : (served askable : Bool) → AllByRecursion (RepliesTo letter) (all_done fragment local
+        (cond served (LocalEvent.Serve letter ∷ []) (cond askable (stray_events local letter) []))).sent
+    go true askable = served_replies (learnt_from local letter) letter letter.message.body
+    go false true = stray_replies local letter (is_some letter.start) (is_sent_back local letter)
+    go false false = tt

@@ -1,7 +1,8 @@
 -- Letters that go out, and where they go.
-use Rattle.std.specs.Prelude.{◌≡◌, ℕ, ◌==◌, if◌then◌else◌, List, [], ◌∷◌, map, Option, None, Some, slice_get}
-use Rattle.deeds.specs.Named.{NamedLetter as Named}
+use Rattle.std.specs.Prelude.{◌≡◌, ◌⊎◌, ℕ, ◌==◌, if◌then◌else◌, List, [], ◌∷◌, map, Option, None, Some, slice_get}
+use Rattle.deeds.specs.Named.{NamedLetter as Named, IsOneOf}
 use Rattle.letter.specs.declared.letter.Letter.{Letter}
+use Rattle.letter.specs.declared.start.Start.{Start}
 use Rattle.mail.specs.Message.{is_request}
 use Rattle.node_messages.specs.Message.{IsMessage}
 use Rattle.node_messages.specs.Strings.{strings_of}
@@ -75,7 +76,7 @@ going to name letters = map (λ letter. sending (to letter) (record { name = nam
 abbrev pub asked : (number : ℕ) → (name : List ℕ) → List Letter → List Sending
 asked number name letters = going (member_or number) name letters
 
--- replies about the object of a name, to the node that asked
+-- letters about the object of a name, to the node that asked
 abbrev pub reply_sendings : (asker : ℕ) → (name : List ℕ) → List Letter → List Sending
 reply_sendings asker name letters = going (λ letter. asker) name letters
 
@@ -83,6 +84,14 @@ reply_sendings asker name letters = going (λ letter. asker) name letters
 abbrev pub addressee : (number asker : ℕ) → Letter → ℕ
 addressee number asker letter = if is_request letter.message.body then member_or number letter else asker
 
--- the letter goes to the node to which it has to go
-abbrev pub IsDirected : (number asker : ℕ) → Sending → Type 0
-IsDirected number asker send = send.to ≡ addressee number asker send.it.letter
+-- the letter is one of these, but for the start that it tells
+abbrev pub IsOneButStart : (got : List Named) → NamedLetter → Type 0
+IsOneButStart got it =
+    (start : Option Start)
+    × IsOneOf got (record { name = it.name; letter = record it.letter { start = start } })
+
+-- the letter goes to the node to which it has to go; or it is one of these letters, which had come, but for the start
+-- that it tells, and goes back to the node that asked
+abbrev pub IsDirected : (number asker : ℕ) → (got : List Named) → Sending → Type 0
+IsDirected number asker got send =
+    (send.to ≡ addressee number asker send.it.letter) ⊎ (IsOneButStart got send.it × (send.to ≡ asker))

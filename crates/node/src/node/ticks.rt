@@ -16,8 +16,9 @@ use tag::CallId;
 
 impl Node {
     /// Does what is due after a tick. Open calls send their requests again to the members that have not replied, ever
-    /// more rarely; one that reads the sequence of layouts at a position before the object's start goes on at the start. A read or a write that is older than the cluster file's number of ticks is given up. A move that is
-    /// as old goes on, but its client is told that no quorum has answered.
+    /// more rarely; one that reads the sequence of layouts at a position before the object's start goes on at the
+    /// start. A read or a write that is older than the cluster file's number of ticks is given up. A move that is as
+    /// old goes on, but its client is told that no quorum has answered.
     pub(super) fn tick(&mut self, work: &mut Work) -> Result<(), NodeError>
         ensures acts { OnOk result ((asker : ℕ) → Acts asker [] self.old.keeper work.old self.new.keeper work.new) }
         ensures serves { OnOk result (ServesTicks (keys self.old.desk.calls) self.old work.old self.new work.new) }
@@ -73,7 +74,7 @@ impl Node {
         self.desk.give_up(id, work)
     }
 
-    // A call asks those again that have not replied, if it is of an age for that.
+    // A call asks again, if it is of an age for that.
     fn ask_again(&mut self, id: CallId, call: &Aged, work: &mut Work) -> Result<(), NodeError>
         ensures acts { OnOk result ((asker : ℕ) → Acts asker [] self.old.keeper work.old self.new.keeper work.new) }
         ensures seen { OnOk result (SeesNothing work.old work.new) }

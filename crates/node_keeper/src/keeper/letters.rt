@@ -34,7 +34,9 @@ impl Keeper {
     /// `came` is the frame of the letter, as a message of this cluster, if it came in one: that is what is logged.
     /// Drops the letter if it names no member, or if its layouts contradict those of which the node has heard. The node
     /// that moves objects also drops a letter with a layout of which it has not heard. Logs a request that may change a
-    /// bank before it is served, and a reply to an open move before the move takes it.
+    /// bank before it is served, and a reply to an open move before the move takes it. A request that names another
+    /// node, at a position before the object's start, goes back to the node that sent it, with this start in place of
+    /// the letter's, unless the letter tells of one that is as late.
     ///
     /// A reply may complete the phase in which its call raises the pointer of a position to final. Then that pointer is
     /// final at a quorum, and no call that begins later needs the pieces of the position. So the node closes its own
@@ -109,7 +111,8 @@ impl Keeper {
         Ok(self.objects.knows_all_of(&it.name, &it.letter)?)
     }
 
-    // Serves a request, and replies to the node that sent it. A request that may change a bank goes to the log first.
+    // Serves a request, and replies to the node that sent it; or sends it back there, with the object's start, as
+    // `deliver` says. A request that may change a bank goes to the log first.
     fn serve(
         &mut self,
         sender: u8,
