@@ -158,5 +158,3 @@ given_up_acts asker old new work name id file digest ids done =
       those = refl;
       told = sym (ap (map (Seen.Tells name)) (give_up_told [] name id local));
     })
-
--- Which letters a node heeds

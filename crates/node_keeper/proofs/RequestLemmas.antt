@@ -126,7 +126,7 @@ event_asks local (LocalEvent.ReadOn id) none =
 event_asks local (LocalEvent.BeginAnew id) none =
     reading_asks local (λ call. anew_number call local.start) (open_call local.calls id)
 
-pub all_ask : (local : LocalObject) (events : List LocalEvent) → AllByRecursion ServesNone events →
+all_ask : (local : LocalObject) (events : List LocalEvent) → AllByRecursion ServesNone events →
     AllByRecursion Asks (all_done fragment local events).sent
 all_ask local [] none = tt
 all_ask local (event ∷ events) none =
