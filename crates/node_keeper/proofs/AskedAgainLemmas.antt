@@ -1,14 +1,13 @@
 -- Calls that ask again: what their objects do, and what the node does.
-use Rattle.std.proofs.Common.{◌≡◌, inl, ℕ, List, [], ◌∷◌, map, None, nat_eq, refl, sym, subst, ap, ◌∙◌}
+use Rattle.std.proofs.Common.{◌≡◌, inl, ℕ, Bool, true, false, ◌==◌, List, [], ◌∷◌, length, map, None, nat_eq}
+use Rattle.std.proofs.Common.{OnOk, Result, Ok, Err, arith, eqb-true, eq-eqb, refl, sym, subst, ap, ◌∙◌}
 use Rattle.std.specs.Cmp.Lexicographic.{pointwise}
 use Rattle.std.specs.List.{AllByRecursion}
 use Rattle.indexmap.specs.IndexMap.{get}
 use Rattle.encoder.specs.Fragment.{fragment}
 use Rattle.letter.specs.declared.letter.Letter.{Letter}
 use Rattle.local_object.specs.Doing.{IsOutcome}
-use Rattle.local_object.specs.Events.{LocalEvent}
 use Rattle.local_object.specs.Local.{LocalObject}
-use Rattle.local_object.specs.Outcomes.{Outcome}
 use Rattle.local_object.specs.ReadingOn.{read_on_events}
 use Rattle.local_object.specs.Resent.{IsResent, letters_again}
 use Rattle.local_object.proofs.ResentLemmas.{all_resent}
@@ -34,6 +33,25 @@ use Rattle.node_keeper.proofs.DoneLemmas.{done_of}
 use Rattle.node_keeper.proofs.QuietLemmas.{quiet_acts, read_on_fed, read_on_none, read_on_serves_none, read_on_told}
 use Rattle.node_keeper.proofs.RequestLemmas.{done_asks}
 use Rattle.node_keeper.proofs.SendingLemmas.{asked_addressed, going_letters}
+
+-- Letters that were returned
+
+pub no_letters : (letters : List Letter) (len : ℕ) → len ≡ length letters → (len == 0) ≡ true → letters ≡ []
+no_letters [] len is e = refl
+no_letters (x ∷ xs) len is e =
+    let zero : len ≡ 0 = eqb-true len 0 e in absurd (omega (arith, zero, is))
+
+pub some_letters : (letters : List Letter) (len : ℕ) → len ≡ length letters → (len == 0) ≡ false → letters ≡ [] → ⊥
+some_letters [] len is e none = not_both (eq-eqb len 0 is) e
+  where
+    not_both : {b : Bool} → b ≡ true → b ≡ false → ⊥
+    not_both t f = cc
+some_letters (x ∷ xs) len is e none = cc
+
+-- what is so whether a call succeeds or not
+pub whatever : {T E P : Type 0} (result : Result T E) → P → OnOk result P
+whatever (Ok x) p = p
+whatever (Err e) p = tt
 
 -- An object
 

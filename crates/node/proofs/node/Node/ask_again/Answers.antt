@@ -47,3 +47,9 @@ returns-clause-kept c =
     on_ok_weaker c.ask_again.result
     (λ kept. subst (λ b. IsKeptAs false b keeper call.name c.args.id c.ask_again.new.self) (sym c.if-not-call.false) kept)
     c.ask_again.ensures.asked
+
+pub returns-then-not-call-clause-rest : goal.returns-then-not-call-clause-rest
+returns-then-not-call-clause-rest c = record { desk = refl; peers = refl; named = refl }
+
+pub returns-clause-rest : goal.returns-clause-rest
+returns-clause-rest c = record { desk = refl; peers = refl; named = refl }

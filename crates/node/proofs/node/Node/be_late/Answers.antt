@@ -107,3 +107,6 @@ returns-clause-kept c =
     (λ tells. subst (λ b. IsKeptAs (not b) call.asks_again keeper call.name c.args.id c.give_up-was_open.new.self)
     (sym c.if-call.false)
     (c.give_up-was_open.ensures.done, c.give_up-was_open.ensures.rest)) c.give_up.ensures.tells
+
+pub returns-then-call-clause-peers : goal.returns-then-call-clause-peers
+returns-then-call-clause-peers c = c.ask_again.ensures.rest.peers

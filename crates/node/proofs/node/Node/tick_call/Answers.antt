@@ -131,3 +131,6 @@ returns-clause-kept c =
     on_ok_weaker c.ask_again.result
     (λ kept. timely_kept old.keeper c.ask_again.new.self.keeper c.args.id (aged_at old c.args.id) c.in-Some.call some c.if-call.false
     kept) c.ask_again.ensures.kept
+
+pub returns-clause-peers : goal.returns-clause-peers
+returns-clause-peers c = c.ask_again.ensures.rest.peers

@@ -6,6 +6,7 @@ use Rattle.node_effects.specs.Errors.{WritesOrFails}
 use Rattle.node_effects.specs.Work.{IsGrown}
 use Rattle.node_keeper.specs.Fitting.{IsSendable}
 use Rattle.node_keeper.specs.Sendings.{asked, sent_growth}
+use Rattle.node_keeper.specs.declared.keeper.Keeper.{Keeper}
 use Rattle.node_keeper.proofs.AskedAgainLemmas.{asked_acts}
 use Rattle.node_keeper.proofs.ResultLemmas.{ok_fits}
 use Rattle.node_keeper.proofs.keeper.Keeper.ask_again.Goals as goal
@@ -18,8 +19,9 @@ returns-clause-asked c =
 
 pub returns-clause-acts : goal.returns-clause-acts
 returns-clause-acts c =
+    let new : Keeper = record c.args.self.now { objects = c.ask_again.new.self } in
     on_ok_weaker c.post.result
-    (λ both asker. asked_acts asker c.args.self.now _ c.args.work.now c.args.name.now c.args.id
+    (λ both asker. asked_acts asker c.args.self.now new c.args.work.now c.args.name.now c.args.id
     (record { objects = c.in_ok-letters.ensures.done; rest = record { file = refl; digest = refl; ids = refl } })
     c.post.new.work c.in_ok-letters.letters.items c.in_ok-letters.ensures.letters both.0 both.1)
     (ok_fits _ _ c.post.result c.post.ensures.grown c.post.ensures.writes)
