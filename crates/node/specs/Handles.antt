@@ -24,9 +24,9 @@ use Rattle.node.specs.Serving.{ServedSince}
 use Rattle.node.specs.Ticks.{IsDoneFirst}
 
 -- each letter goes to the node to which it has to go: a request to the node that it asks, and a reply to the node of
--- number `asker` if it is one of the first letters, and to this node itself if it is one of the rest; but a request that
--- had come may go back, with another start: to `asker` if it is one of the letters `got`, and to this node itself if this
--- node has sent it
+-- number `asker` if it is one of the first letters, and to this node itself if it is one of the rest; but a request
+-- that had come may go back, with another start: to `asker` if it is one of the letters `got`, and to this node itself
+-- if this node has sent it
 pub record AreAddressed (number asker : ℕ) (got : List Named) (sends : List Sending) : Type 0 where
   pub first : List Sending
   pub rest : List Sending

@@ -32,9 +32,9 @@ aged_at node id = aged_call node.keeper.file.ticks (call_under node.desk.calls i
 abbrev pub again_if : (asks : Bool) → Keeper → (name : List ℕ) → (id : ℕ) → List Sending
 again_if asks keeper name id = if asks then sendings_again name id keeper else []
 
--- the requests that a call sends as it gets older by a tick, if it is of an age to ask again, unless it is given up, as a
--- read or a write is that is late: those with which it goes on at the object's start, or those of its current phase to
--- the members that have not replied
+-- the requests that a call sends as it gets older by a tick, if it is of an age to ask again, unless it is given up, as
+-- a read or a write is that is late: those with which it goes on at the object's start, or those of its current phase
+-- to the members that have not replied
 abbrev pub sent_at_age : Keeper → (id : ℕ) → Option Aged → List Sending
 sent_at_age keeper id None = []
 sent_at_age keeper id (Some aged) =

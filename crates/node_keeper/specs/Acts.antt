@@ -36,9 +36,9 @@ GivesId old id new before after =
 
 -- The node did deeds with these letters, which had come; `asker` is the node that had asked. Its work grew by the log
 -- entries of the records that its log needs, by the letters that it sent, each to the node to which it has to go or, as
--- one of the letters that had come, back to `asker`, and by what its clients saw. The entries are read back as these records, and the frames as messages with these letters.
--- Entries and letters stand in such an order that each letter may go out once the log has all entries before it. The
--- entries tell of the ids that the node gave.
+-- one of the letters that had come, back to `asker`, and by what its clients saw. The entries are read back as these
+-- records, and the frames as messages with these letters. Entries and letters stand in such an order that each letter
+-- may go out once the log has all entries before it. The entries tell of the ids that the node gave.
 pub record Acts (asker : ℕ) (got : List Named) (old : Keeper) (before : Work) (new : Keeper)
     (after : Work) : Type 0 where
   pub wants : List Want

@@ -25,8 +25,8 @@ any_or (letter ∷ letters) other = letter ∷ letters
 abbrev pub read_on_here : LocalObject → (id : ℕ) → Outcome
 read_on_here local id = all_done fragment local (read_on_events local id)
 
--- the requests of the call with this id as it asks again: those with which it goes on at the object's start, if it does,
--- and otherwise those that it sends again
+-- the requests of the call with this id as it asks again: those with which it goes on at the object's start, if it
+-- does, and otherwise those that it sends again
 abbrev pub asked_again : LocalObject → (id : ℕ) → List Letter
 asked_again local id = let on = read_on_here local id in any_or on.sent (letters_again fragment on.local id)
 

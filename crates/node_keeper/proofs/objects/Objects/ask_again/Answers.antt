@@ -1,4 +1,4 @@
-use Rattle.std.proofs.Common.{◌≡◌, IfOk, None, nat_eq, rules, subst}
+use Rattle.std.proofs.Common.{◌≡◌, ◌∙◌, IfOk, None, nat_eq, rules, subst, sym}
 use Rattle.std.specs.Cmp.Lexicographic.{pointwise}
 use Rattle.std.proofs.lemmas.Result.{on_ok_weaker}
 use Rattle.indexmap.specs.IndexMap.{get}
@@ -39,3 +39,8 @@ pub returns-in-None-clause-done : goal.returns-in-None-clause-done
 returns-in-None-clause-done c =
     let absent : get (pointwise nat_eq) c.args.self.now.by_name c.args.name.now ≡ None = search rules in
     absent_again c.args.self.now c.args.name.now c.args.id absent
+
+pub returns-in-None-clause-letters : goal.returns-in-None-clause-letters
+returns-in-None-clause-letters c =
+    let absent : get (pointwise nat_eq) c.args.self.now.by_name c.args.name.now ≡ None = search rules in
+    c.new.ensures.items ∙ sym (absent_letters c.args.self.now c.args.name.now c.args.id absent)
