@@ -80,7 +80,7 @@ replied_addressed number asker name came (x ∷ xs) replies = (one replies.0, re
     one (inl reply) = inl (sym (ap (λ b. cond b (member_or number x) asker) reply))
     one (inr back) =
         let named : Letter → Named = λ letter. record { name = name; letter = letter } in
-        inr ((back.0, 0, ap (λ letter. Some (named letter)) back.1), refl)
+        inr ((back.0, (0, ap (λ letter. Some (named letter)) back.1)), refl)
 
 -- a letter may go where it goes also if more letters had come
 pub directed_more : (number asker : ℕ) (got more : List Named) →
