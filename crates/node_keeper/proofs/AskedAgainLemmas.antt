@@ -144,6 +144,10 @@ module _ (asker : ℕ) (old new : Keeper) (before : Work) (name : List ℕ) (id 
   node_is : new.ids.node ≡ old.ids.node
   node_is = ap (λ (i : CallIds). i.node) again.rest.ids
 
+  -- the requests that the call sends again, if it does not go on
+  abbrev resent : List Letter
+  resent = letters_again fragment (read_on_here local id).local id
+
   -- a call asks again: it goes on, or its requests are sent again
   pub asked_acts : (after : Work) (letters : List Letter) → letters ≡ asked_again local id →
       IsGrown before after (sent_growth old.ids.node old.digest (asked old.ids.node name letters)) →
@@ -152,9 +156,6 @@ module _ (asker : ℕ) (old new : Keeper) (before : Work) (name : List ℕ) (id 
   asked_acts after letters is grown fits =
       go again.objects.letters refl (is ∙ ap (λ ls. any_or ls resent) (sym done.done.letters))
     where
-      resent : List Letter
-      resent = letters_again fragment (read_on_here local id).local id
-
       are_resent : letters ≡ resent → AllByRecursion (IsResent fragment (objects_of new.objects name)) letters
       are_resent same =
           subst (λ (l : LocalObject). AllByRecursion (IsResent fragment l) letters) (sym after_is)
