@@ -56,27 +56,27 @@ whatever (Err e) p = tt
 -- An object
 
 module _ (local new : LocalObject) (id : ℕ) (letters : List Letter) (done : IsOutcome local (read_on_events local id) new letters)
-    where
-  -- what was done is the same with the letters as they are computed
-  pub read_on_done : IsOutcome local (read_on_events local id) new (read_on_here local id).sent
-  read_on_done = record { may = done.may; local = done.local; letters = refl }
+  where
+    -- what was done is the same with the letters as they are computed
+    pub read_on_done : IsOutcome local (read_on_events local id) new (read_on_here local id).sent
+    read_on_done = record { may = done.may; local = done.local; letters = refl }
 
-  asked_as : asked_again local id ≡ any_or letters (letters_again fragment new id)
-  asked_as =
-      ap (λ ls. any_or ls (letters_again fragment (read_on_here local id).local id)) (sym done.letters)
-      ∙ ap (λ (l : LocalObject). any_or letters (letters_again fragment l id)) (sym done.local)
+    asked_as : asked_again local id ≡ any_or letters (letters_again fragment new id)
+    asked_as =
+        ap (λ ls. any_or ls (letters_again fragment (read_on_here local id).local id)) (sym done.letters)
+        ∙ ap (λ (l : LocalObject). any_or letters (letters_again fragment l id)) (sym done.local)
 
-  -- where the call does not go on, its requests are sent again
-  pub again_resent : letters ≡ [] → letters_again fragment new id ≡ asked_again local id
-  again_resent none = sym (asked_as ∙ ap (λ ls. any_or ls (letters_again fragment new id)) none)
+    -- where the call does not go on, its requests are sent again
+    pub again_resent : letters ≡ [] → letters_again fragment new id ≡ asked_again local id
+    again_resent none = sym (asked_as ∙ ap (λ ls. any_or ls (letters_again fragment new id)) none)
 
-  -- where the call goes on, its requests are those with which it does
-  pub again_read : (letters ≡ [] → ⊥) → letters ≡ asked_again local id
-  again_read some = go letters some ∙ sym asked_as
-    where
-      go : (ls : List Letter) → (ls ≡ [] → ⊥) → ls ≡ any_or ls (letters_again fragment new id)
-      go [] is = absurd (is refl)
-      go (x ∷ xs) is = refl
+    -- where the call goes on, its requests are those with which it does
+    pub again_read : (letters ≡ [] → ⊥) → letters ≡ asked_again local id
+    again_read some = go letters some ∙ sym asked_as
+      where
+        go : (ls : List Letter) → (ls ≡ [] → ⊥) → ls ≡ any_or ls (letters_again fragment new id)
+        go [] is = absurd (is refl)
+        go (x ∷ xs) is = refl
 
 module _ (objects : Objects) (name : List ℕ) (id : ℕ) (absent : get (pointwise nat_eq) objects.by_name name ≡ None) where
   absent_is : objects_of objects name ≡ new_of objects name

@@ -1,4 +1,4 @@
-//! Calls that begin, calls whose requests are sent again, and calls that are given up.
+//! Calls that begin, calls that ask again, and calls that are given up.
 ghost use Rattle.std.specs.Prelude.{◌≡◌, ◌≢◌, ◌<◌, ◌^◌, ◌∷◌, [], ℕ, suc, IfErr, IfOk, OnOk, Some};
 ghost use Rattle.tag.specs.declared.refusal.Refusal.TheVariants.{NoMemory};
 ghost use Rattle.deeds.specs.CallId.{with_next_epoch};

@@ -1,4 +1,4 @@
-//! Requests that are served, and requests that are sent again.
+//! Requests that are served or sent back, and calls that ask again.
 ghost use Rattle.std.specs.Prelude.{◌≡◌, ℕ, true, IfErr, IfOk, OnOk, Option, option_to_list};
 ghost use Rattle.tag.specs.declared.refusal.Refusal.TheVariants.{NoMemory};
 ghost use Rattle.layout.specs.Layout.{Layout};
@@ -18,8 +18,10 @@ use tag::{CallId, Refusal};
 
 impl Objects {
     /// Serves a request about the object of a name, and returns the reply, which has to be sent to the node from which
-    /// the request came. Returns none, and changes no object, if the letter is no request, if there is no number in 32
-    /// bits for the next position, or if this node is not the member that the letter names.
+    /// the request came. Returns none, and changes no object, if the letter is no request, or if there is no number in
+    /// 32 bits for the next position. If this node is not the member that the letter names, it serves nothing, but
+    /// hears of the start that the letter tells; and if the object's start is later, it returns the request itself with
+    /// this start, which has to go back to that node.
     ///
     /// `NoMemory` is the only refusal.
     pub fn serve(&mut self, name: &Bytes, letter: Letter) -> Result<Option<Letter>, Refusal>
