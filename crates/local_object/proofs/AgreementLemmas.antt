@@ -8,10 +8,9 @@ use Rattle.letter.specs.declared.letter.Letter.{Letter}
 use Rattle.letter.specs.declared.start.Start.{Start}
 use Rattle.local_object.specs.Agreement.{agrees, if_there, is_heard, is_not_another, knows_all_of, same_layout, start_passes}
 use Rattle.local_object.specs.Outcomes.{layouts_learnt, learnt_from}
-use Rattle.local_object.specs.Local.{LocalObject, Place, added_place, heard_start_if, is_later_start, layout_here, layout_in}
+use Rattle.local_object.specs.Local.{LocalObject, Place, added_place, heard_start_if, layout_here, layout_in}
 use Rattle.local_object.specs.Local.{with_heard, learnt_if, heard_place}
 use Rattle.local_object.proofs.HeardPlaceLemmas.{layout_stays}
-use Rattle.local_object.proofs.HeardStartLemmas.{start_cases, started_at}
 use Rattle.local_object.proofs.LearntLemmas.{layout_learnt, layout_or, place_new}
 
 both_first : (a b : Bool) → (a && b) ≡ true → a ≡ true
@@ -120,8 +119,12 @@ module _ (local : LocalObject) (letter : Letter) where
       ∙ ap (λ o. Some (layout_or (layout_in o) next))
       (other_added local.places (heard_place local.places n) n letter.layout (suc n) (not_next n))
       ∙ ap Some (not_another (layout_here local (suc n)) next agrees_too) in
-      start_cases (λ (l : LocalObject). layout_here l (suc n) ≡ Some next) (layouts_learnt local letter) letter.start learnt
-      (λ start told later. layout_stays (layouts_learnt local letter) start.position start.layout (suc n) next learnt)
+      told letter.start learnt
+    where
+      told : (o : Option Start) → layout_here (layouts_learnt local letter) (suc n) ≡ Some next
+          → layout_here (heard_start_if (layouts_learnt local letter) o) (suc n) ≡ Some next
+      told None learnt = learnt
+      told (Some start) learnt = layout_stays (layouts_learnt local letter) start.position start.layout (suc n) next learnt
 
   pub known_agrees : knows_all_of local letter ≡ true → agrees local letter ≡ true
   known_agrees e =
@@ -159,10 +162,6 @@ module _ (local : LocalObject) (letter : Letter) where
 
       started : (o : Option Start) → start_passes is_heard local o ≡ true → (heard_start_if local o).places ≡ local.places
       started None e = refl
-      started (Some start) e = split (is_later_start local start)
-        where
-          split : (b : Bool) → (cond b (started_at local start) local).places ≡ local.places
-          split true =
-              nothing_added local.places (heard_place local.places start.position) start.position start.layout start.layout
-              (known_same (layout_here local start.position) start.layout e)
-          split false = refl
+      started (Some start) e =
+          nothing_added local.places (heard_place local.places start.position) start.position start.layout start.layout
+          (known_same (layout_here local start.position) start.layout e)

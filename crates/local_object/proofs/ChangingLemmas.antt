@@ -1,5 +1,5 @@
 -- Letters that change nothing but what a node has heard of.
-use Rattle.std.proofs.Common.{◌≡◌, ℕ, ◌&&◌, ◌||◌, Bool, true, false, cond, eqb, eqb-true, eq-eqb, ltb, [], ◌∷◌, Option, Some, None, refl, sym}
+use Rattle.std.proofs.Common.{◌≡◌, ℕ, ◌&&◌, ◌||◌, Bool, true, false, cond, eqb, eqb-true, eq-eqb, is_some, [], ◌∷◌, ◌++◌, Option, Some, None, refl, sym}
 use Rattle.std.proofs.Common.{subst, ap, ◌∙◌, arith}
 use Rattle.std.proofs.lemmas.Bool.{false≢true}
 use Rattle.encoder.specs.Fragment.{fragment}
@@ -12,7 +12,7 @@ use Rattle.local_object.specs.declared.kept_bank.KeptBank.{KeptBank}
 use Rattle.local_object.specs.ChangedBanks.{changes_kept, kept_bank}
 use Rattle.local_object.specs.Changing.{HasOnlyHeard, IsUnchangedBy, changes_in_body, is_changed_by}
 use Rattle.local_object.specs.Distinct.{IsBankInOrderIfOpen}
-use Rattle.local_object.specs.Doing.{is_askable, is_earlier_start_if, is_served, stray_events}
+use Rattle.local_object.specs.Doing.{is_askable, is_sent_back, is_served, stray_events}
 use Rattle.local_object.specs.Events.{LocalEvent, all_done, served_here}
 use Rattle.local_object.specs.Outcomes.{learnt_from}
 use Rattle.local_object.specs.Local.{LocalObject, Place, bank_here, bank_in, bank_or_opened, heard_place, is_later_start_if}
@@ -60,14 +60,13 @@ module _ (local : LocalObject) (letter : Letter) where
 
   -- the letter was not served
   unserved_heard : HasOnlyHeard local letter (all_done fragment local (cond (is_askable letter) (stray_events local letter) [])).local
-  unserved_heard =
-      go (is_askable letter) (is_later_start_if local letter.start)
-      (ltb letter.message.position local.start && is_earlier_start_if local letter.start)
+  unserved_heard = go (is_askable letter) (is_some letter.start) (is_sent_back local letter)
     where
-      go : (asked later before : Bool) → HasOnlyHeard local letter (all_done fragment local
-          (cond asked (cond later (LocalEvent.Hear letter ∷ []) (cond before (LocalEvent.Redirect letter ∷ []) [])) [])).local
-      go false later before = nothing
-      go true true before = only_heard
+      go : (asked told back : Bool) → HasOnlyHeard local letter (all_done fragment local
+          (cond asked (cond told (LocalEvent.Hear letter ∷ []) [] ++ cond back (LocalEvent.Redirect letter ∷ []) []) [])).local
+      go false told back = nothing
+      go true true true = only_heard
+      go true true false = only_heard
       go true false true = nothing
       go true false false = nothing
 

@@ -5,7 +5,6 @@ pub mod HeardPlaceLemmas
 pub mod LastPositionLemmas
 pub mod OneMemberLemmas
 pub mod PieceLemmas
-pub mod HeardStartLemmas
 pub mod LearntLemmas
 pub mod ServeLemmas
 pub mod BeginLemmas

@@ -13,11 +13,10 @@ use Rattle.local_object.specs.Events.{LocalEvent}
 use Rattle.local_object.specs.Leaving.{final_position, if_final, is_at}
 use Rattle.letter.specs.declared.start.Start.{Start}
 use Rattle.local_object.specs.Local.{LocalObject, Place, added_place, heard_place, heard_start_if, is_later_start, layout_here, layout_in}
-use Rattle.local_object.specs.Local.{start_at, told_start_in}
+use Rattle.local_object.specs.Local.{start_at, told_start_in, with_heard}
 use Rattle.local_object.specs.May.{HasSpreadAt}
 use Rattle.local_object.specs.Taking.{IsOutcomeWithAnswers, grow_events, grows_by}
 use Rattle.local_object.proofs.DoneLemmas.{by_none, by_one}
-use Rattle.local_object.proofs.HeardStartLemmas.{started_at}
 use Rattle.local_object.proofs.NewObjectLemmas.{both}
 use Rattle.local_object.proofs.PlaceLemmas.{layout_known}
 
@@ -119,21 +118,25 @@ heard_there places position layout =
     go None e = pushed places e
     go (Some place) e = subst IsSome (sym e) refl
 
--- what the node keeps after it hears of a start
+-- a later start is small
+pub later_small : (local : LocalObject) (start : Start) → is_later_start local start ≡ true → start.position < 2 ^ 31
+later_small local start e =
+    ltb-true start.position (2 ^ 31) (both (ltb local.start start.position) (ltb start.position (2 ^ 31)) e).1
 
-pub heard_later : (o old : LocalObject) → o ≡ old → (told : Option Start) (start : Start) → Some start ≡ told
-    → is_later_start old start ≡ true → (places : List Place)
+-- what the node keeps after it hears of a start, by whether it is later than its own
+
+abbrev started : LocalObject → Start → Bool → LocalObject
+started local start later = record (with_heard local start.position start.layout) { start = cond later start.position local.start }
+
+pub heard_by : (o old : LocalObject) → o ≡ old → (told : Option Start) (start : Start) → Some start ≡ told → (later : Bool)
+    → is_later_start old start ≡ later → (places : List Place)
     → places ≡ added_place o.places (heard_place o.places start.position) start.position start.layout
-    → record o { places = places; start = start.position } ≡ heard_start_if old told
-heard_later o old view told start is later places places_are =
-    ap (λ (ps : List Place). record o { places = ps; start = start.position }) places_are
-    ∙ ap (λ (l : LocalObject). started_at l start) view
-    ∙ sym (ap (λ b. cond b (started_at old start) old) later)
+    → record o { places = places; start = cond later start.position o.start } ≡ heard_start_if old told
+heard_by o old view told start is later later_is places places_are =
+    ap (λ (ps : List Place). record o { places = ps; start = cond later start.position o.start }) places_are
+    ∙ ap (λ (l : LocalObject). started l start later) view
+    ∙ sym (ap (started old start) later_is)
     ∙ ap (heard_start_if old) is
-
-pub heard_earlier : (old : LocalObject) (told : Option Start) (start : Start) → Some start ≡ told → is_later_start old start ≡ false
-    → old ≡ heard_start_if old told
-heard_earlier old told start is later = sym (ap (λ b. cond b (started_at old start) old) later) ∙ ap (heard_start_if old) is
 
 -- the start of which a node tells others
 

@@ -106,11 +106,10 @@ impl LocalObject {
     /// changes nothing, if the letter is no request. Returns none, too, if the node's bank is closed and declines the
     /// request, which then changes no bank.
     ///
-    /// If this node is not the member that the request names, it serves nothing. If then the letter tells of a later
-    /// start than this node's, the node hears of that, and returns none. Otherwise, if the request is at a position
-    /// before this node's start, and tells of no start or of an earlier one, the node returns the request itself, with
-    /// its own start. In all other cases, and if there is no number in 32 bits for the position after the request's, it
-    /// returns none, and changes nothing.
+    /// If this node is not the member that the request names, it serves nothing. If then the letter tells of a start,
+    /// the node hears of the letter. If the request is at a position before this node's start, and tells of no start or
+    /// of an earlier one, the node returns the request itself, with its own start; otherwise it returns none. If there
+    /// is no number in 32 bits for the position after the request's, it returns none, and changes nothing.
     ///
     /// `NoMemory` is the only refusal.
     pub fn serve(&mut self, letter: Letter) -> Result<Option<Letter>, Refusal>

@@ -1,6 +1,7 @@
 //! What a node hears from letters: layouts of positions, and later starts.
 
-ghost use Rattle.std.specs.Prelude.{◌≡◌, ◌+◌, ◌<◌, ◌^◌, false, IfOk, IfErr, OnOk, option_to_list};
+ghost use Rattle.std.specs.Prelude.{◌≡◌, ◌+◌, ◌<◌, ◌^◌, false, if◌then◌else◌, is_some, IfOk, IfErr, OnOk};
+ghost use Rattle.std.specs.Prelude.{option_to_list};
 ghost use Rattle.tag.specs.declared.refusal.Refusal.TheVariants.{NoMemory};
 ghost use Rattle.local_object.specs.Doing.{IsOutcome, is_askable, is_earlier_start_if, is_sent_back, is_served};
 ghost use Rattle.local_object.specs.Doing.{serve_events};
@@ -30,9 +31,7 @@ impl LocalObject {
             return Ok(None);
         }
         let is_sent_back = self.is_sent_back(&letter);
-        if letter.start.is_some() {
-            self.learn(&letter)?;
-        }
+        self.hear_told(&letter)?;
         if !is_sent_back {
             return Ok(None);
         }
@@ -48,6 +47,20 @@ impl LocalObject {
             start: told_start(&self.places, self.start)?,
             message,
         }))
+    }
+
+    // The node hears of a letter, if that tells of a start.
+    fn hear_told(&mut self, letter: &Letter) -> Result<(), Refusal>
+        requires { letter.now.message.position + 1 < 2 ^ 32 }
+        ensures heard { OnOk result (self.new
+            ≡ (if is_some letter.now.start then learnt_from self.old letter.now else self.old)) }
+
+        ensures refused { IfErr result (λ e. e ≡ NoMemory) }
+    {
+        if letter.start.is_none() {
+            return Ok(());
+        }
+        self.learn(letter)
     }
 
     /// The node hears of the layouts in a letter, and of the start that it tells.
@@ -93,9 +106,10 @@ impl LocalObject {
         };
         let is_later = self.is_later_start(start);
         self.places.learn(start.position, &start.layout)?;
-        if is_later {
-            self.start = start.position;
+        if !is_later {
+            return Ok(());
         }
+        self.start = start.position;
         Ok(())
     }
 

@@ -54,9 +54,9 @@ returns-then-not-knows_next-clause-advanced c = λ call at.
     let calls = c.args.calls.now in
     let read = c.at-call.result.now in
     let items = c.new-then-not-knows_next.result.items in
-    subst (λ (m : Machine). IsAdvancedIf (can_begin places m c.args.kind c.args.position) places calls m c.args.index c.args.kind
-    c.args.position calls items) (same_call read call (sym c.at-call.ensures ∙ at))
-    (not_advanced places read c.args.kind c.args.position calls calls c.args.index items
+    subst (λ (m : Machine). IsAdvancedIf (can_begin places m c.args.kind c.args.position) places c.args.start calls m
+    c.args.index c.args.kind c.args.position calls items) (same_call read call (sym c.at-call.ensures ∙ at))
+    (not_advanced places read c.args.kind c.args.position c.args.start calls calls c.args.index items
     (begin_unnamed places read c.args.kind c.args.position (sym c.is_sendable.ensures ∙ c.if-not-is_sendable.false)
     (sym c.knows_next.ensures ∙ c.if-not-knows_next.true))
     refl c.new-then-not-knows_next.ensures.items)
