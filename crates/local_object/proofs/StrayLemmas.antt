@@ -4,8 +4,8 @@ use Rattle.std.proofs.lemmas.Bool.{ltb-true}
 use Rattle.mail.specs.Message.{is_request}
 use Rattle.letter.specs.declared.letter.Letter.{Letter}
 use Rattle.local_object.specs.Doing.{IsOutcome, is_askable, is_sent_back, is_served, serve_events, stray_events}
-use Rattle.local_object.specs.Events.{LocalEvent}
-use Rattle.local_object.specs.Local.{LocalObject, told_start}
+use Rattle.local_object.specs.Events.{LocalEvent, redirected_here}
+use Rattle.local_object.specs.Local.{LocalObject}
 use Rattle.local_object.specs.Outcomes.{learnt_from}
 
 and_second : (a b : Bool) → (a && b) ≡ true → b ≡ true
@@ -54,12 +54,12 @@ module _ (old : LocalObject) (letter : Letter) (unserved : is_served old letter 
 
     -- a request that comes back
     pub sent_back : is_sent_back old letter ≡ true → (new : LocalObject) → new ≡ after_told told → (sent : Letter)
-        → sent ≡ record letter { start = told_start new } → IsOutcome old (serve_events old letter) new (sent ∷ [])
+        → sent ∷ [] ≡ (redirected_here new letter).sent → IsOutcome old (serve_events old letter) new (sent ∷ [])
     sent_back is new same sent sent_is =
         subst (λ events. IsOutcome old events new (sent ∷ [])) (sym (events_are true is))
-        (go told same (sent_is ∙ ap (λ (l : LocalObject). record letter { start = told_start l }) same))
+        (go told same (sent_is ∙ ap (λ (l : LocalObject). (redirected_here l letter).sent) same))
       where
-        go : (b : Bool) → new ≡ after_told b → sent ≡ record letter { start = told_start (after_told b) }
+        go : (b : Bool) → new ≡ after_told b → sent ∷ [] ≡ (redirected_here (after_told b) letter).sent
             → IsOutcome old (events_by b true) new (sent ∷ [])
-        go true same sent_is = record { may = (tt, tt, tt); local = same; letters = ap (λ (l : Letter). l ∷ []) sent_is }
-        go false same sent_is = record { may = (tt, tt); local = same; letters = ap (λ (l : Letter). l ∷ []) sent_is }
+        go true same sent_is = record { may = (tt, tt, tt); local = same; letters = sent_is }
+        go false same sent_is = record { may = (tt, tt); local = same; letters = sent_is }

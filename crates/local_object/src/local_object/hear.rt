@@ -1,10 +1,11 @@
 //! What a node hears from letters: layouts of positions, and later starts.
 
-ghost use Rattle.std.specs.Prelude.{◌≡◌, ◌+◌, ◌<◌, ◌^◌, false, if◌then◌else◌, is_some, IfOk, IfErr, OnOk};
+ghost use Rattle.std.specs.Prelude.{◌≡◌, ◌+◌, ◌<◌, ◌^◌, [], ◌∷◌, false, if◌then◌else◌, is_some, IfOk, IfErr, OnOk};
 ghost use Rattle.std.specs.Prelude.{option_to_list};
 ghost use Rattle.tag.specs.declared.refusal.Refusal.TheVariants.{NoMemory};
 ghost use Rattle.local_object.specs.Doing.{IsOutcome, is_askable, is_earlier_start_if, is_sent_back, is_served};
 ghost use Rattle.local_object.specs.Doing.{serve_events};
+ghost use Rattle.local_object.specs.Events.{redirected_here};
 ghost use Rattle.local_object.specs.Local.{heard_start_if, is_later_start, is_later_start_if};
 ghost use Rattle.local_object.specs.Outcomes.{layouts_learnt, learnt_from};
 
@@ -35,18 +36,26 @@ impl LocalObject {
         if !is_sent_back {
             return Ok(None);
         }
+        Ok(Some(self.redirected(letter)?))
+    }
+
+    // The letter with the node's own start, which is to be sent back. `NoMemory` is the only refusal.
+    fn redirected(&self, letter: Letter) -> Result<Letter, Refusal>
+        ensures sent { IfOk result (λ sent. sent ∷ [] ≡ (redirected_here self.now letter).sent) }
+        ensures refused { IfErr result (λ e. e ≡ NoMemory) }
+    {
         let Letter {
             layout,
             next,
             start: _,
             message,
         } = letter;
-        Ok(Some(Letter {
+        Ok(Letter {
             layout,
             next,
             start: told_start(&self.places, self.start)?,
             message,
-        }))
+        })
     }
 
     // The node hears of a letter, if that tells of a start.

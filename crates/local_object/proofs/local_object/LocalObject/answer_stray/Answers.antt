@@ -1,5 +1,4 @@
-use Rattle.std.proofs.Common.{ap, false, true, is_some, refl, sym, ◌∙◌}
-use Rattle.local_object.specs.Local.{LocalObject, told_start}
+use Rattle.std.proofs.Common.{false, true, is_some, refl, sym, ◌∙◌}
 use Rattle.local_object.proofs.StrayLemmas.{askable_next, dropped, sent_back, unasked}
 use Rattle.local_object.proofs.local_object.LocalObject.answer_stray.Goals as goal
 
@@ -20,5 +19,4 @@ pub returns-clause-done : goal.returns-clause-done
 returns-clause-done c =
     sent_back c.args.self.now c.args.letter c.requires (sym c.is_askable.ensures ∙ c.if-not-is_askable.false)
     (is_some c.args.letter.start) refl (sym c.is_sent_back.ensures ∙ c.if-not-is_sent_back.false) c.hear_told.new.self
-    c.in_ok-hear_told.ensures.heard _
-    (ap (λ s. record c.args.letter { start = s }) c.in_ok-told_start.ensures.start)
+    c.in_ok-hear_told.ensures.heard _ c.in_ok-redirected.ensures.sent
