@@ -61,5 +61,5 @@ module _ (old : LocalObject) (letter : Letter) (unserved : is_served old letter 
       where
         go : (b : Bool) → new ≡ after_told b → sent ∷ [] ≡ (redirected_here (after_told b) letter).sent
             → IsOutcome old (events_by b true) new (sent ∷ [])
-        go true same sent_is = record { may = (tt, tt, tt); local = same; letters = sent_is }
+        go true same sent_is = record { may = (tt, (tt, tt)); local = same; letters = sent_is }
         go false same sent_is = record { may = (tt, tt); local = same; letters = sent_is }

@@ -12,11 +12,11 @@ hear_told-requires c = askable_next c.args.letter (sym c.is_askable.ensures ∙ 
 pub returns-then-not-is_sent_back-clause-done : goal.returns-then-not-is_sent_back-clause-done
 returns-then-not-is_sent_back-clause-done c =
     dropped c.args.self.now c.args.letter c.requires (sym c.is_askable.ensures ∙ c.if-not-is_askable.false)
-    (is_some c.args.letter.start) refl (sym c.is_sent_back.ensures ∙ c.if-not-is_sent_back.true) c.hear_told.new.self
+    (is_some c.args.letter.start) refl (sym c.is_sent_back-is_sent_back.ensures ∙ c.if-not-is_sent_back.true) c.hear_told.new.self
     c.in_ok-hear_told.ensures.heard
 
 pub returns-clause-done : goal.returns-clause-done
 returns-clause-done c =
     sent_back c.args.self.now c.args.letter c.requires (sym c.is_askable.ensures ∙ c.if-not-is_askable.false)
-    (is_some c.args.letter.start) refl (sym c.is_sent_back.ensures ∙ c.if-not-is_sent_back.false) c.hear_told.new.self
+    (is_some c.args.letter.start) refl (sym c.is_sent_back-is_sent_back.ensures ∙ c.if-not-is_sent_back.false) c.hear_told.new.self
     c.in_ok-hear_told.ensures.heard _ c.in_ok-redirected.ensures.sent
