@@ -1,4 +1,4 @@
-use Rattle.std.proofs.Common.{◌≡◌, ℕ, ◌++◌, List, [], ◌∷◌, take, get_or, sym, ap, ◌∙◌}
+use Rattle.std.proofs.Common.{◌≡◌, ℕ, ◌<◌, ◌++◌, List, [], ◌∷◌, length, take, get_or, sym, ap, subst, ◌∙◌}
 use Rattle.std.proofs.lemmas.List.{append-nil, append_assoc, take_more}
 use Rattle.letter.specs.declared.letter.Letter.{Letter}
 use Rattle.local_object.specs.Local.{LocalObject, Place}
@@ -21,8 +21,10 @@ loop-place-preserved c =
     let places = local.places in
     let i = c.loop-place.place-index in
     let place = c.place-item.result in
+    let within : i < length places =
+    subst (λ (ps : List Place). i < length ps) c.places-place-items.ensures c.loop-place-test.true in
     c.in_ok-push_place.ensures.letters
     ∙ ap (λ (ls : List Letter). ls ++ place_letters number local place) c.loop-place.invariant
     ∙ ap (λ (p : Place). places_letters number local (take i places) ++ place_letters number local p) c.place-item.is
     ∙ sym (letters_push number local (take i places) (get_or places i place))
-    ∙ ap (λ (ps : List Place). places_letters number local ps) (sym (take_more places i place c.loop-place-test.true))
+    ∙ ap (λ (ps : List Place). places_letters number local ps) (sym (take_more places i place within))
