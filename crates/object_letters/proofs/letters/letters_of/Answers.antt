@@ -26,5 +26,7 @@ loop-place-preserved c =
     c.in_ok-push_place.ensures.letters
     ∙ ap (λ (ls : List Letter). ls ++ place_letters number local place) c.loop-place.invariant
     ∙ ap (λ (p : Place). places_letters number local (take i places) ++ place_letters number local p) c.place-item.is
+    ∙ ap (λ (ps : List Place). places_letters number local (take i places) ++ place_letters number local (get_or ps i place))
+    c.places-place-items.ensures
     ∙ sym (letters_push number local (take i places) (get_or places i place))
     ∙ ap (λ (ps : List Place). places_letters number local ps) (sym (take_more places i place within))
