@@ -1,3 +1,4 @@
+-- The contracts that docs/trusted.md lists do not depend on this file; other contracts and proofs do.
 -- Open calls whose letters can be written, and by which the letters of their next phases can be.
 use Rattle.std.specs.Prelude.{◌≡◌, ◌<◌, ◌≤◌, ◌^◌, ℕ, true, length, List, IfSome}
 use Rattle.std.specs.List.{AllByRecursion}

@@ -1,3 +1,4 @@
+-- The contracts that docs/trusted.md lists do not depend on this file; other contracts and proofs do.
 -- Which events at an object leave it fit: those whose numbers are within their bits, and whose letters and values fit.
 use Rattle.std.specs.Prelude.{◌≡◌, ◌<◌, ◌^◌, ℕ, suc, true, List, [], ◌∷◌, Some}
 use Rattle.bank.specs.declared.kind.Kind.{Kind}

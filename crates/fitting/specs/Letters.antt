@@ -1,3 +1,4 @@
+-- The contracts that docs/trusted.md lists do not depend on this file; other contracts and proofs do.
 -- Which letters between nodes can be written as the frame of a message, if the name of the object is short enough.
 use Rattle.std.specs.Prelude.{◌≡◌, ◌≤◌, ◌<◌, ◌^◌, length, IfSome, is_some}
 use Rattle.std.specs.List.{AllByRecursion}

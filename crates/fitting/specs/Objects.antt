@@ -1,3 +1,4 @@
+-- The contracts that docs/trusted.md lists do not depend on this file; other contracts and proofs do.
 -- Objects of a node all of whose letters can be written.
 use Rattle.std.specs.Prelude.{◌≡◌, ◌<◌, ◌^◌, ℕ, suc, true, Bool, false, IfSome, is_some, IsSome, Option, None, Some}
 use Rattle.std.specs.FinMap as map

@@ -1,3 +1,4 @@
+-- The contracts that docs/trusted.md lists do not depend on this file; other contracts and proofs do.
 -- What a node keeps if it can write all letters and records that it has to.
 use Rattle.std.specs.Prelude.{◌≡◌, ◌<◌, ◌≤◌, ◌^◌, ℕ, List, length}
 use Rattle.cluster_file.specs.declared.file.TheConstants.{DIGEST_LENGTH}
