@@ -1,4 +1,5 @@
 use crate::shared_layout::SharedLayout;
+use crate::start::Start;
 use bytes::Bytes;
 use mail::Message;
 
@@ -9,6 +10,8 @@ pub struct Letter {
     pub layout: SharedLayout,
     /// The layout of the next position, exactly if the message says that the pointer is pending or final.
     pub next: Option<SharedLayout>,
+    /// The start of the object at the node that sent the letter, if that is later than position 0.
+    pub start: Option<Start>,
     /// The request, or the reply.
     pub message: Message,
 }

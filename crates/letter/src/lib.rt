@@ -3,6 +3,8 @@
 
 pub use letter::{Letter, NamedLetter};
 pub use shared_layout::SharedLayout;
+pub use start::Start;
 
 mod letter;
 mod shared_layout;
+mod start;
