@@ -5,9 +5,12 @@ use Rattle.std.proofs.lemmas.Bool.{ne_eqb}
 use Rattle.std.specs.Cmp.Lexicographic.{pointwise, same_text}
 use Rattle.layout.specs.Layout.{Layout}
 use Rattle.letter.specs.declared.letter.Letter.{Letter}
-use Rattle.local_object.specs.Agreement.{agrees, if_there, is_heard, is_not_another, knows_all_of, same_layout}
-use Rattle.local_object.specs.Outcomes.{learnt_from}
-use Rattle.local_object.specs.Local.{LocalObject, Place, added_place, layout_here, layout_in, with_heard, learnt_if, heard_place}
+use Rattle.letter.specs.declared.start.Start.{Start}
+use Rattle.local_object.specs.Agreement.{agrees, if_there, is_heard, is_not_another, knows_all_of, same_layout, start_passes}
+use Rattle.local_object.specs.Outcomes.{layouts_learnt, learnt_from}
+use Rattle.local_object.specs.Local.{LocalObject, Place, added_place, heard_start_if, layout_here, layout_in}
+use Rattle.local_object.specs.Local.{with_heard, learnt_if, heard_place}
+use Rattle.local_object.proofs.HeardPlaceLemmas.{layout_stays}
 use Rattle.local_object.proofs.LearntLemmas.{layout_learnt, layout_or, place_new}
 
 both_first : (a b : Bool) → (a && b) ≡ true → a ≡ true
@@ -70,11 +73,31 @@ module _ (local : LocalObject) (letter : Letter) where
   abbrev first : LocalObject
   first = with_heard local n letter.layout
 
+  abbrev not_other : Bool
+  not_other = if_there (is_not_another (layout_here local (suc n))) letter.next
+
   abbrev not_others : Bool
-  not_others = if_there (is_not_another (layout_here local (suc n))) letter.next
+  not_others = not_other && start_passes is_not_another local letter.start
+
+  abbrev next_heard : Bool
+  next_heard = if_there (is_heard (layout_here local (suc n))) letter.next
+
+  abbrev start_known : Bool
+  start_known = start_passes is_heard local letter.start
 
   abbrev are_heard : Bool
-  are_heard = if_there (is_heard (layout_here local (suc n))) letter.next
+  are_heard = next_heard && start_known
+
+  -- what is known of a letter of which all is known
+  module _ (known : knows_all_of local letter ≡ true) where
+    here_is : is_heard (layout_here local n) letter.layout ≡ true
+    here_is = both_first (is_heard (layout_here local n) letter.layout) are_heard known
+
+    next_is : next_heard ≡ true
+    next_is = both_first next_heard start_known (both_second (is_heard (layout_here local n) letter.layout) are_heard known)
+
+    start_is : start_known ≡ true
+    start_is = both_second next_heard start_known (both_second (is_heard (layout_here local n) letter.layout) are_heard known)
 
   -- after a letter that agrees, the node has heard of its positions with its layouts
   pub agreed : agrees local letter ≡ true → layout_here (learnt_from local letter) n ≡ Some letter.layout
@@ -88,35 +111,47 @@ module _ (local : LocalObject) (letter : Letter) where
   agreed_next e next is =
       let agrees_too : is_not_another (layout_here local (suc n)) next ≡ true =
       sym (ap (if_there (is_not_another (layout_here local (suc n)))) is)
-      ∙ both_second (is_not_another (layout_here local n) letter.layout) not_others e in
+      ∙ both_first not_other (start_passes is_not_another local letter.start)
+      (both_second (is_not_another (layout_here local n) letter.layout) not_others e) in
+      let learnt : layout_here (layouts_learnt local letter) (suc n) ≡ Some next =
       ap (λ o. layout_here (learnt_if first (suc n) o) (suc n)) is
       ∙ layout_added first.places (heard_place first.places (suc n)) (suc n) next refl
       ∙ ap (λ o. Some (layout_or (layout_in o) next))
       (other_added local.places (heard_place local.places n) n letter.layout (suc n) (not_next n))
-      ∙ ap Some (not_another (layout_here local (suc n)) next agrees_too)
+      ∙ ap Some (not_another (layout_here local (suc n)) next agrees_too) in
+      told letter.start learnt
+    where
+      told : (o : Option Start) → layout_here (layouts_learnt local letter) (suc n) ≡ Some next
+          → layout_here (heard_start_if (layouts_learnt local letter) o) (suc n) ≡ Some next
+      told None learnt = learnt
+      told (Some start) learnt = layout_stays (layouts_learnt local letter) start.position start.layout (suc n) next learnt
 
   pub known_agrees : knows_all_of local letter ≡ true → agrees local letter ≡ true
   known_agrees e =
-      ap₂ (λ a b. a && b)
-      (heard_not_another (layout_here local n) letter.layout (both_first (is_heard (layout_here local n) letter.layout) are_heard e))
-      (go letter.next (both_second (is_heard (layout_here local n) letter.layout) are_heard e))
+      ap₂ (λ a b. a && b) (heard_not_another (layout_here local n) letter.layout (here_is e))
+      (ap₂ (λ a b. a && b) (go letter.next (next_is e)) (there letter.start (start_is e)))
     where
       go : (o : Option Layout) → if_there (is_heard (layout_here local (suc n))) o ≡ true
           → if_there (is_not_another (layout_here local (suc n))) o ≡ true
       go None e = refl
       go (Some next) e = heard_not_another (layout_here local (suc n)) next e
 
-  -- a letter that is all known teaches nothing
-  pub nothing_new : knows_all_of local letter ≡ true → learnt_from local letter ≡ local
-  nothing_new e =
-      ap (λ (l : LocalObject). learnt_if l (suc n) letter.next) known_here
-      ∙ go letter.next (both_second (is_heard (layout_here local n) letter.layout) are_heard e)
+      there : (o : Option Start) → start_passes is_heard local o ≡ true → start_passes is_not_another local o ≡ true
+      there None e = refl
+      there (Some start) e = heard_not_another (layout_here local start.position) start.layout e
+
+  -- a letter that is all known teaches no layout
+  pub no_layout_new : knows_all_of local letter ≡ true → (learnt_from local letter).places ≡ local.places
+  no_layout_new e =
+      ap (λ (l : LocalObject). (heard_start_if (learnt_if l (suc n) letter.next) letter.start).places) known_here
+      ∙ ap (λ (l : LocalObject). (heard_start_if l letter.start).places) (go letter.next (next_is e))
+      ∙ started letter.start (start_is e)
     where
       known_here : first ≡ local
       known_here =
           ap (λ (ps : List Place). record local { places = ps })
           (nothing_added local.places (heard_place local.places n) n letter.layout letter.layout
-          (known_same (layout_here local n) letter.layout (both_first (is_heard (layout_here local n) letter.layout) are_heard e)))
+          (known_same (layout_here local n) letter.layout (here_is e)))
 
       go : (o : Option Layout) → if_there (is_heard (layout_here local (suc n))) o ≡ true → learnt_if local (suc n) o ≡ local
       go None e = refl
@@ -124,3 +159,9 @@ module _ (local : LocalObject) (letter : Letter) where
           ap (λ (ps : List Place). record local { places = ps })
           (nothing_added local.places (heard_place local.places (suc n)) (suc n) next next
           (known_same (layout_here local (suc n)) next e))
+
+      started : (o : Option Start) → start_passes is_heard local o ≡ true → (heard_start_if local o).places ≡ local.places
+      started None e = refl
+      started (Some start) e =
+          nothing_added local.places (heard_place local.places start.position) start.position start.layout start.layout
+          (known_same (layout_here local start.position) start.layout e)

@@ -1,6 +1,6 @@
 -- Letters that change nothing but what a node has heard of.
-use Rattle.std.proofs.Common.{◌≡◌, ℕ, ◌&&◌, Bool, true, false, cond, eqb, eqb-true, eq-eqb, [], ◌∷◌, Option, Some, None, refl, sym}
-use Rattle.std.proofs.Common.{subst, ap, ◌∙◌}
+use Rattle.std.proofs.Common.{◌≡◌, ℕ, ◌&&◌, ◌||◌, Bool, true, false, cond, eqb, eqb-true, eq-eqb, is_some, [], ◌∷◌, ◌++◌, Option}
+use Rattle.std.proofs.Common.{Some, None, refl, sym, subst, ap, ◌∙◌, arith}
 use Rattle.std.proofs.lemmas.Bool.{false≢true}
 use Rattle.encoder.specs.Fragment.{fragment}
 use Rattle.layout.specs.Layout.{Layout}
@@ -12,16 +12,20 @@ use Rattle.local_object.specs.declared.kept_bank.KeptBank.{KeptBank}
 use Rattle.local_object.specs.ChangedBanks.{changes_kept, kept_bank}
 use Rattle.local_object.specs.Changing.{HasOnlyHeard, IsUnchangedBy, changes_in_body, is_changed_by}
 use Rattle.local_object.specs.Distinct.{IsBankInOrderIfOpen}
-use Rattle.local_object.specs.Doing.{is_served}
+use Rattle.local_object.specs.Doing.{is_askable, is_sent_back, is_served, stray_events}
 use Rattle.local_object.specs.Events.{LocalEvent, all_done, served_here}
 use Rattle.local_object.specs.Outcomes.{learnt_from}
-use Rattle.local_object.specs.Local.{LocalObject, Place, bank_here, bank_in, bank_or_opened, heard_place}
+use Rattle.local_object.specs.Local.{LocalObject, Place, bank_here, bank_in, bank_or_opened, heard_place, is_later_start_if}
 use Rattle.local_object.specs.Local.{with_bank_here}
 use Rattle.local_object.proofs.HeardLayoutLemmas.{bank_heard, bank_here_heard, bank_put_elsewhere, bank_put_there, calls_heard, delta_heard}
 use Rattle.local_object.proofs.HeardLayoutLemmas.{layout_kept, node_heard, start_heard}
 use Rattle.local_object.proofs.LearntLemmas.{known_learnt}
 use Rattle.local_object.proofs.PlaceLemmas.{layout_bank}
 use Rattle.local_object.proofs.UnchangedBankLemmas.{kept_unchanged}
+
+neither_first : (a b : Bool) → (a || b) ≡ false → a ≡ false
+neither_first true b e = absurd (cc)
+neither_first false b e = refl
 
 module _ (local : LocalObject) (letter : Letter) where
   abbrev position : ℕ
@@ -47,12 +51,24 @@ module _ (local : LocalObject) (letter : Letter) where
   nothing = record {
     node = refl;
     delta = refl;
-    start = refl;
+    start = omega arith;
     calls = refl;
     kept = λ m layout e. e;
     heard = layout_kept local letter;
     banks = λ m member. refl;
   }
+
+  -- the letter was not served
+  unserved_heard : HasOnlyHeard local letter (all_done fragment local (cond (is_askable letter) (stray_events local letter) [])).local
+  unserved_heard = go (is_askable letter) (is_some letter.start) (is_sent_back local letter)
+    where
+      go : (asked told back : Bool) → HasOnlyHeard local letter (all_done fragment local
+          (cond asked (cond told (LocalEvent.Hear letter ∷ []) [] ++ cond back (LocalEvent.Redirect letter ∷ []) []) [])).local
+      go false told back = nothing
+      go true true true = only_heard
+      go true true false = only_heard
+      go true false true = nothing
+      go true false false = nothing
 
   abbrev old : Option KeptBank
   old = bank_in (heard_place local.places position)
@@ -105,10 +121,15 @@ module _ (local : LocalObject) (letter : Letter) where
     pub unchanged : is_changed_by local letter ≡ false → IsUnchangedBy local letter
     unchanged e = go (is_served local letter) e
       where
-        go : (b : Bool) → (b && changes_in_body (bank_here local position letter.message.member) letter.message.body) ≡ false
-            → HasOnlyHeard local letter (all_done fragment local (cond b (LocalEvent.Serve letter ∷ []) [])).local
-        go true e = in_body letter.message.body e
-        go false e = nothing
+        go : (b : Bool) → (b && (changes_in_body (bank_here local position letter.message.member) letter.message.body
+            || is_later_start_if local letter.start)) ≡ false
+            → HasOnlyHeard local letter (all_done fragment local
+            (cond b (LocalEvent.Serve letter ∷ []) (cond (is_askable letter) (stray_events local letter) []))).local
+        go true e =
+            in_body letter.message.body
+            (neither_first (changes_in_body (bank_here local position letter.message.member) letter.message.body)
+            (is_later_start_if local letter.start) e)
+        go false e = unserved_heard
 
 -- of an object of which the node has not heard
 none_open : (first : Layout) (b : Bool)
@@ -119,14 +140,22 @@ none_open first false = tt
 -- a letter that is not served
 pub unserved : (local : LocalObject) (letter : Letter) → is_served local letter ≡ false → IsUnchangedBy local letter
 unserved local letter e =
-    subst (λ b. HasOnlyHeard local letter (all_done fragment local (cond b (LocalEvent.Serve letter ∷ []) [])).local) (sym e)
-    (nothing local letter)
+    subst (λ b. HasOnlyHeard local letter (all_done fragment local
+    (cond b (LocalEvent.Serve letter ∷ []) (cond (is_askable letter) (stray_events local letter) []))).local) (sym e)
+    (unserved_heard local letter)
+
+pub unserved_is : (local : LocalObject) (letter : Letter) → is_served local letter ≡ false → false ≡ is_changed_by local letter
+unserved_is local letter e =
+    sym (ap (λ b. b && (changes_in_body (bank_here local letter.message.position letter.message.member) letter.message.body
+    || is_later_start_if local letter.start)) e)
 
 -- whether a letter that is served changes the object
 pub changed_is : (o local : LocalObject) → o ≡ local → (letter : Letter) (r : Bool) → is_served local letter ≡ true
-    → r ≡ changes_in_body (bank_here o letter.message.position letter.message.member) letter.message.body
+    → r ≡ (changes_in_body (bank_here o letter.message.position letter.message.member) letter.message.body
+    || is_later_start_if local letter.start)
     → r ≡ is_changed_by local letter
 changed_is o local view letter r served is =
     let message = letter.message in
     let changes : LocalObject → Bool = λ l. changes_in_body (bank_here l message.position message.member) message.body in
-    is ∙ ap changes view ∙ sym (ap (λ b. b && changes local) served)
+    let later = is_later_start_if local letter.start in
+    is ∙ ap (λ (l : LocalObject). changes l || later) view ∙ sym (ap (λ b. b && (changes local || later)) served)

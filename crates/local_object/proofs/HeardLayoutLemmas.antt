@@ -1,14 +1,15 @@
--- What stays where a node hears of layouts, and where a bank is put back.
-use Rattle.std.proofs.Common.{◌≡◌, ℕ, suc, Bool, true, false, cond, eqb, eqb-true, List, [], ◌∷◌, ◌++◌, Option, Some, None, IsSome}
-use Rattle.std.proofs.Common.{refl, sym, ap, ◌∙◌}
+-- What stays where a node hears of layouts and of a start, and where a bank is put back.
+use Rattle.std.proofs.Common.{◌≡◌, ◌≤◌, ◌^◌, ℕ, suc, Bool, true, false, ◌&&◌, cond, eqb, eqb-true, nat_lt, ltb-true, List, [], ◌∷◌, ◌++◌}
+use Rattle.std.proofs.Common.{Option, Some, None, IsSome, refl, sym, subst, ap, ◌∙◌, arith}
 use Rattle.std.proofs.lemmas.Bool.{false≢true}
 use Rattle.layout.specs.Layout.{Layout}
 use Rattle.letter.specs.declared.letter.Letter.{Letter}
+use Rattle.letter.specs.declared.start.Start.{Start}
 use Rattle.local_object.specs.declared.kept_bank.KeptBank.{KeptBank}
-use Rattle.local_object.specs.Outcomes.{learnt_from}
+use Rattle.local_object.specs.Outcomes.{layouts_learnt, learnt_from}
 use Rattle.local_object.specs.Local.{LocalObject, Place, added_place, bank_here, bank_in, bank_or_opened, layout_here, layout_in}
-use Rattle.local_object.specs.Local.{heard_place, learnt_if, with_bank_here, with_heard}
-use Rattle.local_object.proofs.LearntLemmas.{place_learnt_if}
+use Rattle.local_object.specs.Local.{heard_place, heard_start_if, learnt_if, with_bank_here, with_heard}
+use Rattle.local_object.proofs.LearntLemmas.{place_learnt_if, place_started}
 
 -- a position of which a node hears has no bank
 bank_push : (places : List Place) (p : Place) (n : ℕ) → p.bank ≡ None
@@ -51,31 +52,66 @@ node_learnt_if : (local : LocalObject) (m : ℕ) (next : Option Layout) → (lea
 node_learnt_if local m None = refl
 node_learnt_if local m (Some layout) = refl
 
+-- after the node hears of a start, if it hears of one
+
+bank_started : (local : LocalObject) (o : Option Start) (n : ℕ)
+    → bank_in (heard_place (heard_start_if local o).places n) ≡ bank_in (heard_place local.places n)
+bank_started local None n = refl
+bank_started local (Some start) n = bank_added local.places (heard_place local.places start.position) start.position start.layout n
+
+delta_started : (local : LocalObject) (o : Option Start) → (heard_start_if local o).delta ≡ local.delta
+delta_started local None = refl
+delta_started local (Some start) = refl
+
+calls_started : (local : LocalObject) (o : Option Start) → (heard_start_if local o).calls ≡ local.calls
+calls_started local None = refl
+calls_started local (Some start) = refl
+
+node_started : (local : LocalObject) (o : Option Start) → (heard_start_if local o).node ≡ local.node
+node_started local None = refl
+node_started local (Some start) = refl
+
+later_started : (local : LocalObject) (o : Option Start) → local.start ≤ (heard_start_if local o).start
+later_started local None = omega arith
+later_started local (Some start) = go (nat_lt local.start start.position) refl (nat_lt start.position (2 ^ 31))
+  where
+    go : (a : Bool) → nat_lt local.start start.position ≡ a → (b : Bool) → local.start ≤ cond (a && b) start.position local.start
+    go true e true = let less = ltb-true local.start start.position e in omega (arith, less)
+    go true e false = omega arith
+    go false e b = omega arith
+
 layout_of_place : (o : Option Place) (layout : Layout) → layout_in o ≡ Some layout
     → (p : Place) × (o ≡ Some p) × (layout_in (Some p) ≡ Some layout)
 layout_of_place None layout e = absurd (cc)
 layout_of_place (Some p) layout e = (p, refl, e)
 
--- what a node keeps after it hears of the layouts in a letter
+-- what a node keeps after it hears of the layouts in a letter, and of the start that it tells
 module _ (local : LocalObject) (letter : Letter) where
   abbrev n : ℕ
   n = letter.message.position
 
   pub node_heard : (learnt_from local letter).node ≡ local.node
-  node_heard = node_learnt_if (with_heard local n letter.layout) (suc n) letter.next
+  node_heard =
+      node_started (layouts_learnt local letter) letter.start ∙ node_learnt_if (with_heard local n letter.layout) (suc n) letter.next
 
   pub delta_heard : (learnt_from local letter).delta ≡ local.delta
-  delta_heard = delta_learnt_if (with_heard local n letter.layout) (suc n) letter.next
+  delta_heard =
+      delta_started (layouts_learnt local letter) letter.start ∙ delta_learnt_if (with_heard local n letter.layout) (suc n) letter.next
 
-  pub start_heard : (learnt_from local letter).start ≡ local.start
-  start_heard = start_learnt_if (with_heard local n letter.layout) (suc n) letter.next
+  -- the start is not an earlier one
+  pub start_heard : local.start ≤ (learnt_from local letter).start
+  start_heard =
+      subst (λ s. s ≤ (learnt_from local letter).start) (start_learnt_if (with_heard local n letter.layout) (suc n) letter.next)
+      (later_started (layouts_learnt local letter) letter.start)
 
   pub calls_heard : (learnt_from local letter).calls ≡ local.calls
-  calls_heard = calls_learnt_if (with_heard local n letter.layout) (suc n) letter.next
+  calls_heard =
+      calls_started (layouts_learnt local letter) letter.start ∙ calls_learnt_if (with_heard local n letter.layout) (suc n) letter.next
 
   pub bank_heard : (m : ℕ) → bank_in (heard_place (learnt_from local letter).places m) ≡ bank_in (heard_place local.places m)
   bank_heard m =
-      bank_learnt_if (with_heard local n letter.layout) (suc n) letter.next m
+      bank_started (layouts_learnt local letter) letter.start m
+      ∙ bank_learnt_if (with_heard local n letter.layout) (suc n) letter.next m
       ∙ bank_added local.places (heard_place local.places n) n letter.layout m
 
   pub bank_here_heard : (m member : ℕ) → bank_here (learnt_from local letter) m member ≡ bank_here local m member
@@ -88,7 +124,8 @@ module _ (local : LocalObject) (letter : Letter) where
       let p = layout_of_place (heard_place local.places m) layout e in
       let first : heard_place (with_heard local n letter.layout).places m ≡ Some p.0 =
       place_learnt_if local n (Some letter.layout) m p.0 p.1 in
-      ap layout_in (place_learnt_if (with_heard local n letter.layout) (suc n) letter.next m p.0 first) ∙ p.2
+      let second = place_learnt_if (with_heard local n letter.layout) (suc n) letter.next m p.0 first in
+      ap layout_in (place_started (layouts_learnt local letter) letter.start m p.0 second) ∙ p.2
 
 -- Banks that are put
 

@@ -1,10 +1,12 @@
--- What a node knows after it hears of the layouts in a letter.
+-- What a node knows after it hears of the layouts in a letter, and of the start that it tells.
 use Rattle.std.proofs.Common.{◌≡◌, ℕ, suc, Bool, true, false, cond, eqb, List, [], ◌∷◌, ◌++◌, Option, Some, None, IsSome, refl, sym, ap}
 use Rattle.std.proofs.Common.{subst, ◌∙◌, eq-eqb}
 use Rattle.layout.specs.Layout.{Layout}
 use Rattle.letter.specs.declared.letter.Letter.{Letter}
+use Rattle.letter.specs.declared.start.Start.{Start}
 use Rattle.local_object.specs.Local.{LocalObject, Place, heard_place, layout_in, layout_here, added_place, with_heard, learnt_if}
-use Rattle.local_object.specs.Outcomes.{learnt_from}
+use Rattle.local_object.specs.Local.{heard_start_if}
+use Rattle.local_object.specs.Outcomes.{layouts_learnt, learnt_from}
 
 pub place_push : (places : List Place) (n : ℕ) (p q : Place) → heard_place places n ≡ Some p → heard_place (places ++ q ∷ []) n ≡ Some p
 place_push [] n p q at = absurd (cc)
@@ -35,6 +37,12 @@ pub place_learnt_if : (local : LocalObject) (m : ℕ) (next : Option Layout) (n 
 place_learnt_if local m None n p at = at
 place_learnt_if local m (Some layout) n p at = place_added local.places (heard_place local.places m) m layout n p at
 
+pub place_started : (local : LocalObject) (o : Option Start) (n : ℕ) (p : Place) → heard_place local.places n ≡ Some p
+    → heard_place (heard_start_if local o).places n ≡ Some p
+place_started local None n p at = at
+place_started local (Some start) n p at =
+    place_added local.places (heard_place local.places start.position) start.position start.layout n p at
+
 -- the layout that is known, or else the one in the letter
 abbrev pub layout_or : Option Layout → Layout → Layout
 layout_or None layout = layout
@@ -55,14 +63,16 @@ module _ (local : LocalObject) (letter : Letter) where
       let at : heard_place (with_heard local n letter.layout).places n ≡ Some new =
       ap (λ o. heard_place (added_place local.places o n letter.layout) n) none ∙ place_new local.places n new refl none in (
         new,
-        place_learnt_if (with_heard local n letter.layout) (suc n) letter.next n new at,
+        place_started (layouts_learnt local letter) letter.start n new
+            (place_learnt_if (with_heard local n letter.layout) (suc n) letter.next n new at),
         ap (λ o. layout_or (layout_in o) letter.layout) (sym none),
       )
   known_by (Some p) some =
       let at : heard_place (with_heard local n letter.layout).places n ≡ Some p =
       place_added local.places (heard_place local.places n) n letter.layout n p some in (
         p,
-        place_learnt_if (with_heard local n letter.layout) (suc n) letter.next n p at,
+        place_started (layouts_learnt local letter) letter.start n p
+            (place_learnt_if (with_heard local n letter.layout) (suc n) letter.next n p at),
         ap (λ o. layout_or (layout_in o) letter.layout) (sym some),
       )
 

@@ -8,6 +8,7 @@ pub mod PieceLemmas
 pub mod LearntLemmas
 pub mod ServeLemmas
 pub mod BeginLemmas
+pub mod StrayLemmas
 pub mod SentLemmas
 pub mod DoneLemmas
 pub mod NextLemmas

@@ -125,17 +125,17 @@ module _ (node : ℕ) (delta : Option ℕ) (start : ℕ) (places : List Place) w
 
       module _ (layout : Layout) (known : layout_in (heard_place places call.phase.position) ≡ Some layout) where
         sent_if : (sendable : Bool) → is_sendable call.phase.kind call ≡ sendable
-            → letters_again fragment (object calls) id ≡ cond sendable (missing_letters places call layout) []
+            → letters_again fragment (object calls) id ≡ cond sendable (missing_letters places start call layout) []
         sent_if sendable is =
             again_is
             ∙ ap (letters_again_at fragment (object calls) (at_node node call)) known
-            ∙ ap (λ (b : Bool). cond b (missing_letters places call layout) []) is
+            ∙ ap (λ (b : Bool). cond b (missing_letters places start call layout) []) is
 
         pub unsendable_again : is_sendable call.phase.kind call ≡ false → letters_again fragment (object calls) id ≡ []
         unsendable_again is = sent_if false is
 
         pub sent_again : is_sendable call.phase.kind call ≡ true
-            → letters_again fragment (object calls) id ≡ missing_letters places call layout
+            → letters_again fragment (object calls) id ≡ missing_letters places start call layout
         sent_again is = sent_if true is
 
       pub answered_by : (again : Bool) (new : List Machine) (letters : List Letter) (ended : List Ended)
@@ -156,7 +156,7 @@ module _ (node : ℕ) (delta : Option ℕ) (start : ℕ) (places : List Place) w
         next_is : due_phase (at_node node call) ≡ Some (kind, position)
         next_is = due_begun (reached call) ∙ asked
 
-        begun : (new : List Machine) (letters : List Letter) → IsAdvanced places calls call index kind position new letters
+        begun : (new : List Machine) (letters : List Letter) → IsAdvanced places start calls call index kind position new letters
             → MayHappenHere fragment (object calls) (LocalEvent.Advance id)
             → IsOutcomeWithAnswers (object calls) (LocalEvent.Advance call.id ∷ []) (object new) letters []
         begun new letters adv may =
@@ -180,15 +180,15 @@ module _ (node : ℕ) (delta : Option ℕ) (start : ℕ) (places : List Place) w
             subst (λ n. IsSome (layout_in (heard_place places n))) same (subst IsSome (sym known) refl)
 
       module _ (kind : Kind) (position : ℕ) (new : List Machine) (letters : List Letter) where
-        begun_if : (can : Bool) → IsAdvancedIf can places calls call index kind position new letters
-            → ((adv : IsAdvanced places calls call index kind position new letters)
+        begun_if : (can : Bool) → IsAdvancedIf can places start calls call index kind position new letters
+            → ((adv : IsAdvanced places start calls call index kind position new letters)
             → IsOutcomeWithAnswers (object calls) (LocalEvent.Advance call.id ∷ []) (object new) letters [])
             → IsOutcomeWithAnswers (object calls) (cond can (LocalEvent.Advance call.id ∷ []) []) (object new) letters []
         begun_if true adv advanced = advanced adv
         begun_if false same advanced = by_none (object calls) (object new) letters [] (ap object same.0) same.1 refl
 
         pub restarted_by : (again : Bool) → next_if again call ≡ next.Restart kind position → is_read_begin (reached call) ≡ false
-            → IsAdvancedIf (can_begin places call kind position) places calls call index kind position new letters
+            → IsAdvancedIf (can_begin places call kind position) places start calls call index kind position new letters
             → IsOutcomeWithAnswers (object calls) (lead_events again (object calls) id) (object new) letters []
         restarted_by again step other advances =
             let both = restart_of call kind position (again_restart again (next_here call) kind position step) in
@@ -204,7 +204,7 @@ module _ (node : ℕ) (delta : Option ℕ) (start : ℕ) (places : List Place) w
             )))
 
         pub advanced_by : (again : Bool) → next_if again call ≡ next.Begin kind position
-            → IsAdvancedIf (can_begin places call kind position) places calls call index kind position new letters
+            → IsAdvancedIf (can_begin places call kind position) places start calls call index kind position new letters
             → IsOutcomeWithAnswers (object calls) (lead_events again (object calls) id) (object new) letters []
         advanced_by again step advances =
             let is = begin_of call kind position (again_begin again (next_here call) kind position step) in

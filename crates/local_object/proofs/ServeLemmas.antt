@@ -10,15 +10,18 @@ use Rattle.mail.specs.Message.{body_kind}
 use Rattle.mail.specs.declared.message.Body.{Body}
 use Rattle.mail.specs.declared.message.Body.TheVariants as body
 use Rattle.letter.specs.declared.letter.Letter.{Letter}
+use Rattle.letter.specs.declared.start.Start.{Start}
 use Rattle.local_object.specs.declared.kept_bank.KeptBank.{KeptBank}
 use Rattle.local_object.specs.KeptBanks.{kept_reply}
-use Rattle.local_object.specs.Doing.{IsOutcome, has_member, is_member, is_served, names_node, serve_events}
+use Rattle.local_object.specs.Doing.{IsOutcome, has_member, is_askable, is_member, is_served, names_node, serve_events, stray_events}
 use Rattle.mail.specs.Message.{is_request}
 use Rattle.local_object.specs.Events.{LocalEvent, reply_letters, served_here}
 use Rattle.local_object.specs.Outcomes.{learnt_from, next_in_body}
-use Rattle.local_object.specs.Local.{LocalObject, Place, bank_here, layout_here, layout_in, with_heard, heard_place, with_bank_here}
+use Rattle.local_object.specs.Local.{LocalObject, Place, bank_here, layout_here, layout_in, heard_place, start_at, told_start}
+use Rattle.local_object.specs.Local.{told_start_in, with_bank_here}
 use Rattle.local_object.specs.May.{IsAddressed}
-use Rattle.local_object.proofs.LearntLemmas.{layout_learnt, layout_or, node_learnt}
+use Rattle.local_object.proofs.HeardLayoutLemmas.{node_heard}
+use Rattle.local_object.proofs.LearntLemmas.{layout_learnt, layout_or}
 use Rattle.local_object.proofs.PieceLemmas.{nil_right}
 use Rattle.local_object.proofs.PlaceLemmas.{layout_bank}
 
@@ -35,10 +38,11 @@ module _ (local : LocalObject) (letter : Letter) (asked : Request) (is : letter.
   abbrev position : ℕ
   position = letter.message.position
 
-  abbrev made : Option Layout → Kind → Reply → Letter
-  made next kind reply = record {
+  abbrev made : Option Layout → Option Start → Kind → Reply → Letter
+  made next start kind reply = record {
     layout = letter.layout;
     next = next_in_body (body.Reply kind reply) next;
+    start = start;
     message = record {
       call = letter.message.call;
       phase = letter.message.phase;
@@ -51,15 +55,20 @@ module _ (local : LocalObject) (letter : Letter) (asked : Request) (is : letter.
   pub handled_sent : (places : List Place) (bank : Option KeptBank) (kind : Kind) (reply : Reply) (sent : Letter)
       → places ≡ with_bank_here local.places position bank → kind ≡ kind_of asked
       → Some reply ≡ kept_reply (bank_here local position letter.message.member) asked
-      → sent ≡ made (layout_in (heard_place places (suc position))) kind reply
+      → sent ≡ made (layout_in (heard_place places (suc position))) (told_start_in places local.start) kind reply
       → sent ∷ [] ≡ (served_here local letter letter.message.body).sent
   handled_sent places bank kind reply sent places_are kind_is reply_is sent_is =
       let next : layout_in (heard_place places (suc position)) ≡ layout_here local (suc position) =
       ap (λ (ps : List Place). layout_in (heard_place ps (suc position))) places_are
       ∙ layout_bank local.places position bank (suc position) in
+      let told : told_start_in places local.start ≡ told_start local =
+      ap (start_at local.start)
+      (ap (λ (ps : List Place). layout_in (heard_place ps local.start)) places_are
+      ∙ layout_bank local.places position bank local.start) in
       ap (λ (l : Letter). l ∷ [])
-      (sent_is ∙ ap (λ o. made o kind reply) next
-      ∙ ap (λ k. made (layout_here local (suc position)) k reply) (kind_is ∙ sym (ap body_kind is)))
+      (sent_is ∙ ap (λ o. made o (told_start_in places local.start) kind reply) next
+      ∙ ap (λ s. made (layout_here local (suc position)) s kind reply) told
+      ∙ ap (λ k. made (layout_here local (suc position)) (told_start local) k reply) (kind_is ∙ sym (ap body_kind is)))
       ∙ ap (reply_letters local letter) reply_is
       ∙ sym (ap (λ b. (served_here local letter b).sent) is)
 
@@ -100,7 +109,7 @@ module _ (old : LocalObject) (letter : Letter) where
   addressed served =
       subst (λ node. (layout : Layout) × (layout_here (learnt_from old letter) letter.message.position ≡ Some layout)
       × (slice_get layout.members letter.message.member ≡ Some node))
-      (sym (node_learnt (with_heard old letter.message.position letter.layout) (suc letter.message.position) letter.next))
+      (sym (node_heard old letter))
       (member_of (layout_here (learnt_from old letter) letter.message.position) letter.message.member old.node
       (both_second (ltb (letter.message.position + 1) (2 ^ 32)) inner
       (both_second (is_request letter.message.body) rest served)))
@@ -109,7 +118,8 @@ module _ (old : LocalObject) (letter : Letter) where
       → mid ≡ learnt_from old letter → new ≡ (served_here mid letter letter.message.body).local
       → sent ≡ (served_here mid letter letter.message.body).sent → IsOutcome old (serve_events old letter) new sent
   serve_done mid new sent served with_heard local letters =
-      subst (λ b. IsOutcome old (cond b (LocalEvent.Serve letter ∷ []) []) new sent) served (record {
+      subst (λ b. IsOutcome old (cond b (LocalEvent.Serve letter ∷ []) (cond (is_askable letter) (stray_events old letter) [])) new sent)
+      served (record {
         may = (
           (request_of letter.message.body (both_first (is_request letter.message.body) rest (sym served)), addressed (sym served)),
           tt,
@@ -118,9 +128,3 @@ module _ (old : LocalObject) (letter : Letter) where
         letters = letters ∙ ap (λ (l : LocalObject). (served_here l letter letter.message.body).sent) with_heard
             ∙ sym (nil_right (served_here (learnt_from old letter) letter letter.message.body).sent);
       })
-
-pub serve_none : (old : LocalObject) (letter : Letter) (new : LocalObject) → false ≡ is_served old letter → new ≡ old
-    → IsOutcome old (serve_events old letter) new []
-serve_none old letter new served same =
-    subst (λ b. IsOutcome old (cond b (LocalEvent.Serve letter ∷ []) []) new []) served
-    (record { may = tt; local = same; letters = refl })

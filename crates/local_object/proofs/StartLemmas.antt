@@ -1,7 +1,7 @@
 -- The start of an object: it grows by a call, and the node hears of a later one.
 use Rattle.std.proofs.Common.{◌≡◌, ℕ, suc, ◌+◌, ◌^◌, ◌<◌, ◌&&◌, Bool, true, false, cond, eqb, eqb-true, eq-eqb, ltb, is_some, IsSome}
 use Rattle.std.proofs.Common.{List, [], ◌∷◌, ◌++◌, Option, Some, None, refl, sym, subst, ap, ◌∙◌, arith}
-use Rattle.std.proofs.lemmas.Bool.{ltb-true}
+use Rattle.std.proofs.lemmas.Bool.{ltb-true, ne_eqb}
 use Rattle.layout.specs.Layout.{Layout}
 use Rattle.bank.specs.declared.kind.Kind.{Kind}
 use Rattle.bank.specs.declared.kind.Kind.TheVariants.{Next, Spread, Query, PreWrite, Finalize, Fetch}
@@ -11,7 +11,9 @@ use Rattle.local_object.specs.Anew.{can_grow}
 use Rattle.local_object.specs.Distinct.{KnowsStart}
 use Rattle.local_object.specs.Events.{LocalEvent}
 use Rattle.local_object.specs.Leaving.{final_position, if_final, is_at}
-use Rattle.local_object.specs.Local.{LocalObject, Place, added_place, heard_place, layout_here, layout_in}
+use Rattle.letter.specs.declared.start.Start.{Start}
+use Rattle.local_object.specs.Local.{LocalObject, Place, added_place, heard_place, heard_start_if, is_later_start, layout_here, layout_in}
+use Rattle.local_object.specs.Local.{start_at, told_start_in, with_heard}
 use Rattle.local_object.specs.May.{HasSpreadAt}
 use Rattle.local_object.specs.Taking.{IsOutcomeWithAnswers, grow_events, grows_by}
 use Rattle.local_object.proofs.DoneLemmas.{by_none, by_one}
@@ -115,3 +117,43 @@ heard_there places position layout =
         → IsSome (heard_place (added_place places o position layout) position)
     go None e = pushed places e
     go (Some place) e = subst IsSome (sym e) refl
+
+-- a later start is small
+pub later_small : (local : LocalObject) (start : Start) → is_later_start local start ≡ true → start.position < 2 ^ 31
+later_small local start e =
+    ltb-true start.position (2 ^ 31) (both (ltb local.start start.position) (ltb start.position (2 ^ 31)) e).1
+
+-- what the node keeps after it hears of a start, by whether it is later than its own
+
+abbrev started : LocalObject → Start → Bool → LocalObject
+started local start later = record (with_heard local start.position start.layout) { start = cond later start.position local.start }
+
+pub heard_by : (o old : LocalObject) → o ≡ old → (told : Option Start) (start : Start) → Some start ≡ told → (later : Bool)
+    → is_later_start old start ≡ later → (places : List Place)
+    → places ≡ added_place o.places (heard_place o.places start.position) start.position start.layout
+    → record o { places = places; start = cond later start.position o.start } ≡ heard_start_if old told
+heard_by o old view told start is later later_is places places_are =
+    ap (λ (ps : List Place). record o { places = ps; start = cond later start.position o.start }) places_are
+    ∙ ap (λ (l : LocalObject). started l start later) view
+    ∙ sym (ap (started old start) later_is)
+    ∙ ap (heard_start_if old) is
+
+-- the start of which a node tells others
+
+abbrev start_of : ℕ → Layout → Start
+start_of position layout = record { position = position; layout = layout }
+
+pub told_zero : (places : List Place) (start : ℕ) → start ≡ 0 → None ≡ told_start_in places start
+told_zero places start none = go (layout_in (heard_place places start))
+  where
+    go : (o : Option Layout) → None ≡ start_at start o
+    go None = refl
+    go (Some layout) = sym (ap (λ b. cond b None (Some (start_of start layout))) (eq-eqb start 0 none))
+
+pub told_unknown : (places : List Place) (start : ℕ) → None ≡ layout_in (heard_place places start) → None ≡ told_start_in places start
+told_unknown places start none = ap (start_at start) none
+
+pub told_known : (places : List Place) (start : ℕ) (layout : Layout) → (start ≡ 0 → ⊥)
+    → Some layout ≡ layout_in (heard_place places start) → Some (start_of start layout) ≡ told_start_in places start
+told_known places start layout other known =
+    sym (ap (λ b. cond b None (Some (start_of start layout))) (ne_eqb start 0 other)) ∙ ap (start_at start) known

@@ -25,10 +25,11 @@ reading_machine call number position layout = record call {
   phase = new_phase call.id number Next position layout 0;
 }
 
--- the letters of a phase that reads the sequence of layouts at a position with this layout
+-- the letters of a phase that reads the sequence of layouts at the node's start, which is this position with this
+-- layout
 abbrev pub reading_letters : List Place → (id number position : ℕ) → Layout → List Letter
 reading_letters places id number position layout =
-    map (letter_in places layout) (requests id number Next position layout.members 0 empty_piece)
+    map (letter_in places position layout) (requests id number Next position layout.members 0 empty_piece)
 
 -- the call at an index reads at a position of which the node has heard, in a phase with this number, and these letters
 -- were sent
@@ -62,7 +63,7 @@ IsBegunAnewIf true places old call index start kind position new letters =
     IsReadAtIf (not (is_move call.kind) && nat_lt (call.phase.number + first_number start) (2 ^ 32)) places old call
     index (call.phase.number + first_number start) start new letters
 IsBegunAnewIf false places old call index start kind position new letters =
-    IsAdvancedIf (can_begin places call kind position) places old call index kind position new letters
+    IsAdvancedIf (can_begin places call kind position) places start old call index kind position new letters
 
 -- the call at an index began anew, if it could
 abbrev pub IsBegunAnew : List Place → (old : List Machine) → Machine → (index start : ℕ) → Kind → (position : ℕ) →

@@ -1,5 +1,5 @@
 -- Which letters change more than what the node has heard of, once it serves them; and how many bytes its banks store.
-use Rattle.std.specs.Prelude.{◌≡◌, ℕ, ◌&&◌, Bool, false, Option, None, Some, sum_by}
+use Rattle.std.specs.Prelude.{◌≡◌, ◌≤◌, ℕ, ◌&&◌, ◌||◌, Bool, false, Option, None, Some, sum_by}
 use Rattle.encoder.specs.Fragment.{fragment}
 use Rattle.layout.specs.Layout.{Layout}
 use Rattle.bank.specs.Bytes.{bank_bytes}
@@ -12,7 +12,7 @@ use Rattle.local_object.specs.ChangedBanks.{changes_kept}
 use Rattle.local_object.specs.Doing.{is_served, serve_events}
 use Rattle.local_object.specs.Events.{all_done}
 use Rattle.local_object.specs.Outcomes.{learnt_from}
-use Rattle.local_object.specs.Local.{LocalObject, Place, bank_here, layout_here}
+use Rattle.local_object.specs.Local.{LocalObject, Place, bank_here, is_later_start_if, layout_here}
 
 -- whether a message with this body is a request that may change a bank
 abbrev pub changes_in_body : KeptBank → Body → Bool
@@ -20,21 +20,23 @@ changes_in_body bank (body.Request asked) = changes_kept bank asked
 changes_in_body bank (body.Reply kind made) = false
 
 -- whether the node serves a letter, which may then change the bank that the node keeps as the member that the letter
--- names
+-- names, or tells the node of a later start
 abbrev pub is_changed_by : LocalObject → Letter → Bool
 is_changed_by local letter =
     is_served local letter
-    && changes_in_body (bank_here local letter.message.position letter.message.member) letter.message.body
+    && (changes_in_body (bank_here local letter.message.position letter.message.member) letter.message.body
+    || is_later_start_if local letter.start)
 
 -- what the node keeps after a letter came, which it served if it is a request for this node
 abbrev pub after_serving : LocalObject → Letter → LocalObject
 after_serving local letter = (all_done fragment local (serve_events local letter)).local
 
--- after a letter came, the node keeps what it kept before, except that it may have heard of layouts in the letter
+-- after a letter came, the node keeps what it kept before, except that it may have heard of layouts in the letter, and
+-- of a later start
 pub record HasOnlyHeard (before : LocalObject) (letter : Letter) (after : LocalObject) : Type 0 where
   pub node : after.node ≡ before.node
   pub delta : after.delta ≡ before.delta
-  pub start : after.start ≡ before.start
+  pub start : before.start ≤ after.start
   pub calls : after.calls ≡ before.calls
   pub kept : (position : ℕ) (layout : Layout) → layout_here before position ≡ Some layout →
       layout_here after position ≡ Some layout

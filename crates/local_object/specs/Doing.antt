@@ -1,6 +1,6 @@
 -- What the contracts of an object's functions at a node say: which events happen, and why a function is refused.
-use Rattle.std.specs.Prelude.{◌≡◌, ℕ, ◌+◌, ◌^◌, ◌&&◌, not, Bool, false, ◌==◌, is_some, if◌then◌else◌, nat_lt}
-use Rattle.std.specs.Prelude.{List, [], ◌∷◌, length, Option, Some, None, slice_get}
+use Rattle.std.specs.Prelude.{◌≡◌, ℕ, ◌+◌, ◌^◌, ◌&&◌, not, Bool, true, false, ◌==◌, is_some, if◌then◌else◌, nat_lt}
+use Rattle.std.specs.Prelude.{List, [], ◌∷◌, ◌++◌, length, Option, Some, None, slice_get}
 use Rattle.std.specs.List.{list_any}
 use Rattle.tag.specs.declared.limits.TheConstants.{LONGEST_VALUE}
 use Rattle.tag.specs.declared.refusal.Refusal.{Refusal}
@@ -11,6 +11,7 @@ use Rattle.mail.specs.Message.{is_request}
 use Rattle.record.specs.Legal.{is_move}
 use Rattle.open_calls.specs.OpenCalls.{NodeCall, open_call}
 use Rattle.letter.specs.declared.letter.Letter.{Letter}
+use Rattle.letter.specs.declared.start.Start.{Start}
 use Rattle.local_object.specs.Events.{LocalEvent, all_done}
 use Rattle.local_object.specs.Outcomes.{learnt_from}
 use Rattle.local_object.specs.KeptBanks.{closing}
@@ -81,9 +82,33 @@ is_served local letter =
     is_request letter.message.body && (nat_lt (letter.message.position + 1) (2 ^ 32)
     && is_member (layout_here (learnt_from local letter) letter.message.position) letter.message.member local.node)
 
+-- whether a letter tells of no start, or of one that is earlier than the node's
+abbrev pub is_earlier_start_if : LocalObject → Option Start → Bool
+is_earlier_start_if local None = true
+is_earlier_start_if local (Some start) = nat_lt start.position local.start
+
+-- whether a request that the node does not serve is sent back: it is at a position before the node's start, and the
+-- letter tells of no start or of an earlier one
+abbrev pub is_sent_back : LocalObject → Letter → Bool
+is_sent_back local letter =
+    nat_lt letter.message.position local.start && is_earlier_start_if local letter.start
+
+-- what a node does with a request that it does not serve: if the letter tells of a start, the node hears of the letter;
+-- and it sends the letter back, if it has to
+abbrev pub stray_events : LocalObject → Letter → List LocalEvent
+stray_events local letter =
+    (if is_some letter.start then LocalEvent.Hear letter ∷ [] else [])
+    ++ (if is_sent_back local letter then LocalEvent.Redirect letter ∷ [] else [])
+
+-- whether a letter is a request at a position that has a next one
+abbrev pub is_askable : Letter → Bool
+is_askable letter = is_request letter.message.body && nat_lt (letter.message.position + 1) (2 ^ 32)
+
 -- what a node does with a letter that is to be served
 abbrev pub serve_events : LocalObject → Letter → List LocalEvent
-serve_events local letter = if is_served local letter then LocalEvent.Serve letter ∷ [] else []
+serve_events local letter =
+    if is_served local letter then LocalEvent.Serve letter ∷ []
+    else (if is_askable letter then stray_events local letter else [])
 
 -- whether the node takes a letter: it is a reply to a call that is open here, and its position has a next one
 abbrev pub is_taken : LocalObject → Letter → Bool

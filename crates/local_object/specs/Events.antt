@@ -23,7 +23,7 @@ use Rattle.letter.specs.declared.letter.Letter.{Letter}
 use Rattle.local_object.specs.ChangedBanks.{kept_bank}
 use Rattle.local_object.specs.KeptBanks.{after_closing, kept_reply}
 use Rattle.local_object.specs.Local.{LocalObject, layout_here, bank_here, bank_in, heard_place, with_bank_here}
-use Rattle.local_object.specs.Local.{heard_start, last_position, with_heard}
+use Rattle.local_object.specs.Local.{last_position, told_start, with_heard}
 use Rattle.local_object.specs.Outcomes.{Outcome, begun_here, learnt_from, letter_of, on_open_call, phase_letters}
 use Rattle.local_object.specs.Outcomes.{silent}
 use Rattle.local_object.specs.Starting.{anew_number, called_at, number_at, reads_here}
@@ -41,7 +41,8 @@ pub data LocalEvent : Type 0 where
   GiveUp : (id : ℕ) → LocalEvent
   Close : (position : ℕ) → LocalEvent
   Grow : (id : ℕ) → LocalEvent
-  Hear : (start : ℕ) → Layout → LocalEvent
+  Hear : Letter → LocalEvent
+  Redirect : Letter → LocalEvent
   ReadOn : (id : ℕ) → LocalEvent
   BeginAnew : (id : ℕ) → LocalEvent
 
@@ -111,6 +112,10 @@ closed_here local position = record local {
   places = with_bank_here local.places position (after_closing (bank_in (heard_place local.places position)));
 }
 
+-- after the node sends a letter back, with its own start, to the node that sent it
+abbrev pub redirected_here : LocalObject → Letter → Outcome
+redirected_here local letter = record { local = local; sent = record letter { start = told_start local } ∷ [] }
+
 -- All events
 
 -- what a node keeps after an event, and the letters that it sends
@@ -133,7 +138,8 @@ done_here fragment local (LocalEvent.Answer id) = silent (record local { calls =
 done_here fragment local (LocalEvent.GiveUp id) = silent (record local { calls = without_call id local.calls })
 done_here fragment local (LocalEvent.Close position) = silent (closed_here local position)
 done_here fragment local (LocalEvent.Grow id) = silent (record local { start = suc local.start })
-done_here fragment local (LocalEvent.Hear start layout) = silent (heard_start local start layout)
+done_here fragment local (LocalEvent.Hear letter) = silent (learnt_from local letter)
+done_here fragment local (LocalEvent.Redirect letter) = redirected_here local letter
 done_here fragment local (LocalEvent.ReadOn id) =
     on_open_call local (open_call local.calls id) (λ call. reads_here local call (number_at call local.start))
 done_here fragment local (LocalEvent.BeginAnew id) =

@@ -55,26 +55,26 @@ UnlessWaiting next.Wait fact = Unit {0}
 UnlessWaiting _ fact = fact
 
 -- the letters that a call sends as it begins its next phase at a position with this layout
-abbrev pub next_letters : List Place → Machine → Kind → (position : ℕ) → Layout → List Letter
-next_letters places call kind position layout =
-    map (letter_in places layout)
+abbrev pub next_letters : List Place → (start : ℕ) → Machine → Kind → (position : ℕ) → Layout → List Letter
+next_letters places start call kind position layout =
+    map (letter_in places start layout)
     (requests call.id (suc call.phase.number) kind position layout.members 0
     (fragment_piece fragment layout (call_value call)))
 
 -- the call at an index began its next phase at a position of which the node has heard, and these letters were sent
-pub record IsAdvanced (places : List Place) (old : List Machine) (call : Machine) (index : ℕ) (kind : Kind)
+pub record IsAdvanced (places : List Place) (start : ℕ) (old : List Machine) (call : Machine) (index : ℕ) (kind : Kind)
     (position : ℕ) (new : List Machine) (letters : List Letter) : Type 0 where
   pub layout : Layout
   pub known : layout_in (heard_place places position) ≡ Some layout
   pub calls : new ≡ slice_set old index (entered call (phase_next call kind position layout 0))
-  pub sent : letters ≡ next_letters places call kind position layout
+  pub sent : letters ≡ next_letters places start call kind position layout
 
 -- the call at an index began its next phase, if it could; otherwise nothing changed, and nothing was sent
-abbrev pub IsAdvancedIf : (can : Bool) → List Place → (old : List Machine) → Machine → (index : ℕ) → Kind →
-    (position : ℕ) → (new : List Machine) → (letters : List Letter) → Type 0
-IsAdvancedIf true places old call index kind position new letters =
-    IsAdvanced places old call index kind position new letters
-IsAdvancedIf false places old call index kind position new letters = (new ≡ old) × (letters ≡ [])
+abbrev pub IsAdvancedIf : (can : Bool) → List Place → (start : ℕ) → (old : List Machine) → Machine → (index : ℕ) →
+    Kind → (position : ℕ) → (new : List Machine) → (letters : List Letter) → Type 0
+IsAdvancedIf true places start old call index kind position new letters =
+    IsAdvanced places start old call index kind position new letters
+IsAdvancedIf false places start old call index kind position new letters = (new ≡ old) × (letters ≡ [])
 
 -- the value is decoded from these k pieces, and no other value is decoded from them
 pub record IsOnlyValue (k : ℕ) (pieces : List Piece) (value : List ℕ) : Type 0 where

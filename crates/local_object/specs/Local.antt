@@ -1,8 +1,10 @@
 -- What one node keeps of one object: the layouts that it has heard of, its banks, and the calls that it carries out.
-use Rattle.std.specs.Prelude.{ℕ, ◌==◌, if◌then◌else◌, List, [], ◌∷◌, ◌++◌, Option, None, Some, nat_lt}
+use Rattle.std.specs.Prelude.{ℕ, ◌==◌, ◌^◌, ◌&&◌, Bool, false, if◌then◌else◌, List, [], ◌∷◌, ◌++◌, Option, None, Some}
+use Rattle.std.specs.Prelude.{nat_lt}
 use Rattle.layout.specs.Layout.{Layout}
 use Rattle.bank.specs.Bank.{opened_bank}
 use Rattle.open_calls.specs.OpenCalls.{NodeCall}
+use Rattle.letter.specs.declared.start.Start.{Start}
 use Rattle.local_object.specs.declared.kept_bank.KeptBank.{KeptBank}
 use Rattle.local_object.specs.declared.kept_bank.KeptBank.TheVariants as kept
 
@@ -83,11 +85,41 @@ abbrev pub learnt_if : LocalObject → (position : ℕ) → Option Layout → Lo
 learnt_if local position None = local
 learnt_if local position (Some layout) = with_heard local position layout
 
--- what the node keeps after it hears of a start with its layout: it then knows this start, unless it knew one that is
--- not earlier
-abbrev pub heard_start : LocalObject → (start : ℕ) → Layout → LocalObject
-heard_start local start layout =
-    if nat_lt local.start start then record (with_heard local start layout) { start = start } else local
+-- whether a node hears of this start as a later one than its own; the phases of calls that begin there need numbers of
+-- 32 bits
+abbrev pub is_later_start : LocalObject → Start → Bool
+is_later_start local start = nat_lt local.start start.position && nat_lt start.position (2 ^ 31)
+
+-- what the node keeps after it hears of a start: it has then heard of its position, and takes it for its own start if
+-- it is later
+abbrev pub heard_start : LocalObject → Start → LocalObject
+heard_start local start = record (with_heard local start.position start.layout) {
+  start = if is_later_start local start then start.position else local.start;
+}
+
+-- whether the node hears of a start, and it is later than its own
+abbrev pub is_later_start_if : LocalObject → Option Start → Bool
+is_later_start_if local None = false
+is_later_start_if local (Some start) = is_later_start local start
+
+-- what the node keeps after it hears of a start, if it hears of one
+abbrev pub heard_start_if : LocalObject → Option Start → LocalObject
+heard_start_if local None = local
+heard_start_if local (Some start) = heard_start local start
+
+-- a start at a position with this layout, unless it is position 0
+abbrev pub start_at : (position : ℕ) → Option Layout → Option Start
+start_at position None = None
+start_at position (Some layout) =
+    if position == 0 then None else Some (record { position = position; layout = layout })
+
+-- the start of which a node tells others, by the places that it has heard of: its own, unless that is position 0
+abbrev pub told_start_in : List Place → (start : ℕ) → Option Start
+told_start_in places start = start_at start (layout_in (heard_place places start))
+
+-- the start of which a node tells others in each letter: its own, unless that is position 0
+abbrev pub told_start : LocalObject → Option Start
+told_start local = told_start_in local.places local.start
 
 -- the greatest of these positions and the given one
 abbrev pub greatest_position : List Place → ℕ → ℕ

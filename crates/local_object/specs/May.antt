@@ -71,7 +71,8 @@ MayHappenHere fragment local (LocalEvent.Close position) =
     IsSome (closing (bank_in (heard_place local.places position)))
 MayHappenHere fragment local (LocalEvent.Grow id) =
     (call : NodeCall) × IsCarriedOut local id call × HasSpreadAt call local.start
-MayHappenHere fragment local (LocalEvent.Hear start layout) = Unit {0}
+MayHappenHere fragment local (LocalEvent.Hear letter) = Unit {0}
+MayHappenHere fragment local (LocalEvent.Redirect letter) = Unit {0}
 MayHappenHere fragment local (LocalEvent.ReadOn id) =
     (call : NodeCall) × IsCarriedOut local id call × IsReadingHere local call × (call.phase.position < local.start)
     × IsSome (layout_here local local.start)

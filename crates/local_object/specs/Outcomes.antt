@@ -20,7 +20,7 @@ use Rattle.record.specs.Sending.{requests}
 use Rattle.record.specs.Steps.{new_phase}
 use Rattle.open_calls.specs.OpenCalls.{NodeCall}
 use Rattle.letter.specs.declared.letter.Letter.{Letter}
-use Rattle.local_object.specs.Local.{LocalObject, layout_here, learnt_if, with_heard}
+use Rattle.local_object.specs.Local.{LocalObject, heard_start_if, layout_here, learnt_if, told_start, with_heard}
 
 -- what a node keeps afterwards, and the letters that it sends
 pub record Outcome : Type 0 where
@@ -54,18 +54,24 @@ abbrev pub next_in_body : Body → Option Layout → Option Layout
 next_in_body (body.Request asked) layout = next_in_request asked layout
 next_in_body (body.Reply kind made) layout = next_in_answer made.answer layout
 
--- a message as a letter: with the layout of its position, and that of the next one if the message says there is one
+-- a message as a letter: with the layout of its position, that of the next one if the message says there is one, and
+-- the node's start
 abbrev pub letter_of : LocalObject → Layout → Message → Letter
 letter_of local layout message = record {
   layout = layout;
   next = next_in_body message.body (layout_here local (suc message.position));
+  start = told_start local;
   message = message;
 }
 
--- what the node keeps after it hears of the layouts in a letter
-abbrev pub learnt_from : LocalObject → Letter → LocalObject
-learnt_from local letter =
+-- what the node keeps after it hears of the layouts of a letter's position and of the next one
+abbrev pub layouts_learnt : LocalObject → Letter → LocalObject
+layouts_learnt local letter =
     learnt_if (with_heard local letter.message.position letter.layout) (suc letter.message.position) letter.next
+
+-- what the node keeps after it hears of the layouts in a letter, and of the start that the letter tells
+abbrev pub learnt_from : LocalObject → Letter → LocalObject
+learnt_from local letter = heard_start_if (layouts_learnt local letter) letter.start
 
 -- the letters that a call sends as it begins a phase at a position with this layout
 abbrev pub phase_letters : LocalObject → (call number : ℕ) → Kind → (position : ℕ) → Layout → (ℕ → Piece) → List Letter

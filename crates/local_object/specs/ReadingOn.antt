@@ -1,11 +1,11 @@
--- The contracts that docs/trusted.md lists do not depend on this file; other contracts and proofs do.
--- Whether a call that reads the sequence of layouts goes on at the node's start, and which starts a node hears of.
+-- Whether a call that reads the sequence of layouts goes on at the node's start.
 use Rattle.std.specs.Prelude.{ℕ, ◌^◌, ◌&&◌, ◌==◌, not, Bool, true, false, is_some, if◌then◌else◌, nat_lt}
 use Rattle.std.specs.Prelude.{List, [], ◌∷◌, Option, None, Some}
 use Rattle.layout.specs.Layout.{Layout, quorum_of}
 use Rattle.bank.specs.declared.kind.Kind.{Kind}
 use Rattle.bank.specs.declared.kind.Kind.TheVariants.{Next}
 use Rattle.record.specs.declared.stage.Stage.{Stage}
+use Rattle.record.specs.Legal.{is_move}
 use Rattle.record.specs.declared.stage.Stage.TheVariants.{ReadNext}
 use Rattle.call.specs.Call.{OpenCall as Machine}
 use Rattle.open_calls.specs.OpenCalls.{NodeCall, open_call}
@@ -29,13 +29,13 @@ abbrev pub has_quorum : Option Layout → (quorum : ℕ) → Bool
 has_quorum None quorum = false
 has_quorum (Some layout) quorum = quorum == quorum_of layout
 
--- whether the call has settled nothing, and its current phase reads the sequence of layouts at a position of which the
--- node has heard, and still lacks a quorum of replies
+-- whether the call is no move, has settled nothing, and its current phase reads the sequence of layouts at a position
+-- of which the node has heard, and still lacks a quorum of replies
 abbrev pub is_reading : List Place → Machine → Bool
 is_reading places call =
-    not (is_some call.phase.end) && (not (is_some call.settled)
+    not (is_move call.kind) && (not (is_some call.phase.end) && (not (is_some call.settled)
     && (is_reading_at call.stage call.phase.position && (is_next call.phase.kind
-    && has_quorum (layout_in (heard_place places call.phase.position)) call.phase.quorum)))
+    && has_quorum (layout_in (heard_place places call.phase.position)) call.phase.quorum))))
 
 -- whether there is a call, it reads at a position before the node's start, and there is a number for the phase in which
 -- it goes on at the start
@@ -49,8 +49,3 @@ reads_on local (Some call) =
 -- before it
 abbrev pub read_on_events : LocalObject → (id : ℕ) → List LocalEvent
 read_on_events local id = if reads_on local (open_call local.calls id) then LocalEvent.ReadOn id ∷ [] else []
-
--- what a node does when it hears of a start with its layout: nothing if phases of calls that begin there would have
--- numbers of more than 32 bits
-abbrev pub hear_events : (start : ℕ) → Layout → List LocalEvent
-hear_events start layout = if nat_lt start (2 ^ 31) then LocalEvent.Hear start layout ∷ [] else []

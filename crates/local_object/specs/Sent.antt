@@ -1,5 +1,5 @@
 -- The letters of a call's current phase.
-use Rattle.std.specs.Prelude.{not, if◌then◌else◌, List, map, filter}
+use Rattle.std.specs.Prelude.{ℕ, not, if◌then◌else◌, List, map, filter}
 use Rattle.encoder.specs.Fragment.{fragment}
 use Rattle.layout.specs.Layout.{Layout}
 use Rattle.mail.specs.Phase.{has_taken}
@@ -13,9 +13,9 @@ use Rattle.local_object.specs.Letters.{letter_in}
 use Rattle.local_object.specs.Local.{Place}
 
 -- the letters of the current phase of a call, to all members of a layout
-abbrev pub sent_letters : List Place → Machine → Layout → List Letter
-sent_letters places call layout =
-    map (letter_in places layout)
+abbrev pub sent_letters : List Place → (start : ℕ) → Machine → Layout → List Letter
+sent_letters places start call layout =
+    map (letter_in places start layout)
     (requests call.id call.phase.number call.phase.kind call.phase.position layout.members 0
     (fragment_piece fragment layout (call_value call)))
 
@@ -30,5 +30,5 @@ due_again call letters =
     if is_restart (next_here call) then letters else unanswered call.phase.replies letters
 
 -- the letters of the current phase of a call that it sends again to members of a layout
-abbrev pub missing_letters : List Place → Machine → Layout → List Letter
-missing_letters places call layout = due_again call (sent_letters places call layout)
+abbrev pub missing_letters : List Place → (start : ℕ) → Machine → Layout → List Letter
+missing_letters places start call layout = due_again call (sent_letters places start call layout)

@@ -1,10 +1,11 @@
 -- Exactly which events happen after a call took a reply. A call whose complete fetch lacks pieces does not begin anew
 -- at once, since it might lack pieces again, and so on for ever. It waits until it sends its requests again, and begins
 -- anew when a member replies that had replied before.
-use Rattle.std.specs.Prelude.{◌≡◌, ◌⊎◌, ℕ, suc, ◌+◌, ◌^◌, ◌&&◌, ◌==◌, Bool, true, false, is_some, nat_lt}
+use Rattle.std.specs.Prelude.{◌≡◌, ◌⊎◌, ℕ, suc, ◌+◌, ◌^◌, ◌&&◌, ◌||◌, ◌==◌, Bool, true, false, is_some, nat_lt}
 use Rattle.std.specs.Prelude.{not, if◌then◌else◌}
 use Rattle.std.specs.Prelude.{List, [], ◌∷◌, ◌++◌, Option, None, Some}
 use Rattle.bank.specs.declared.kind.Kind.{Kind}
+use Rattle.bank.specs.declared.kind.Kind.TheVariants.{Spread}
 use Rattle.encoder.specs.Fragment.{fragment}
 use Rattle.call.specs.declared.next.Next.{Next}
 use Rattle.call.specs.declared.next.Next.TheVariants as next
@@ -13,6 +14,7 @@ use Rattle.record.specs.Legal.{is_move}
 use Rattle.record.specs.declared.stage.Stage.{Stage}
 use Rattle.record.specs.declared.stage.Stage.TheVariants.{ReadBegin}
 use Rattle.mail.specs.declared.message.Message.{Message}
+use Rattle.mail.specs.Message.{status_names_next}
 use Rattle.mail.specs.Phase.{Phase, has_taken}
 use Rattle.open_calls.specs.OpenCalls.{NodeCall, open_call}
 use Rattle.letter.specs.declared.letter.Letter.{Letter}
@@ -37,12 +39,19 @@ machine_of call = record {
   phase = call.phase;
 }
 
--- whether a call can begin a phase of this kind at this position: the node has heard of the position, there is a number
--- for the phase, and the value can be encoded if its pieces are sent
+-- whether a phase of this kind does not say that there is a next position, or the node has heard of that position
+abbrev pub knows_next : List Place → Kind → (position : ℕ) → Bool
+knows_next places (Spread status) position =
+    not (status_names_next status) || is_some (layout_in (heard_place places (suc position)))
+knows_next places _ position = true
+
+-- whether a call can begin a phase of this kind at this position: the node has heard of the position, and of the next
+-- one if the phase says that there is one; there is a number for the phase, and the value can be encoded if its pieces
+-- are sent
 abbrev pub can_begin : List Place → Machine → Kind → (position : ℕ) → Bool
 can_begin places call kind position =
     is_some (layout_in (heard_place places position))
-    && (nat_lt (call.phase.number + 1) (2 ^ 32) && is_sendable kind call)
+    && (nat_lt (call.phase.number + 1) (2 ^ 32) && (is_sendable kind call && knows_next places kind position))
 
 -- a call begins a phase, if it can
 abbrev pub begin_events : List Place → Machine → Kind → (position : ℕ) → List LocalEvent

@@ -17,7 +17,7 @@ ghost use Rattle.local_object.specs.Taking.{can_begin};
 use crate::Ended;
 use crate::calls::Calls;
 use crate::coding::{coded_for, is_sendable};
-use crate::letters::letters_of;
+use crate::letters::{knows_next, letters_of};
 use crate::pieces::first_pieces;
 use crate::places::Places;
 use bank::Kind;
@@ -88,14 +88,15 @@ fn is_unsettled(call: &Call) -> bool
     }
 }
 
-/// The call at an index begins a phase of this kind at this position. Returns its requests. Returns no letters, and
-/// changes nothing, if the node has not heard of the position, if there is no number for the phase, or if the value is
-/// too long to be encoded.
+/// The call at an index begins a phase of this kind at this position, at a node with this start. Returns its requests.
+/// Returns no letters, and changes nothing, if the node has not heard of the position, or not of the next one of which
+/// the phase says that it is there, if there is no number for the phase, or if the value is too long to be encoded.
 ///
 /// `NoMemory` is the only refusal.
 pub(crate) fn advance(
     alloc: Global,
     places: &Places,
+    start: u32,
     calls: &mut Calls,
     index: usize,
     kind: Kind,
@@ -104,8 +105,8 @@ pub(crate) fn advance(
     requires within { index < length calls.old }
     requires limits { (call : Machine) → slice_get calls.old index ≡ Some call → IsWithinLimits call }
     ensures advanced { IfOk result (λ letters. (call : Machine) → slice_get calls.old index ≡ Some call
-        → IsAdvancedIf (can_begin places.now call kind position) places.now calls.old call index kind position
-        calls.new letters.items) }
+        → IsAdvancedIf (can_begin places.now call kind position) places.now start calls.old call index kind
+        position calls.new letters.items) }
 
     ensures refused { IfErr result (λ e. e ≡ NoMemory) }
 {
@@ -120,6 +121,9 @@ pub(crate) fn advance(
     if !is_sendable(kind, call) {
         return Ok(Vec::new(alloc));
     }
+    if !knows_next(places, kind, position) {
+        return Ok(Vec::new(alloc));
+    }
     let ask = Ask {
         call: call.id(),
         number: number + 1,
@@ -127,7 +131,7 @@ pub(crate) fn advance(
         kind,
     };
     let messages = coded_requests(alloc, ask, call, layout.layout())?;
-    let letters = letters_of(alloc, places, layout, messages)?;
+    let letters = letters_of(alloc, places, start, layout, messages)?;
     calls.begin_next(index, kind, position, layout.layout())?;
     Ok(letters)
 }

@@ -1,43 +1,65 @@
 //! Messages as letters, with the layouts that their receivers may not have heard of.
 
-ghost use Rattle.std.specs.Prelude.{◌≡◌, suc, map, IfOk, IfErr};
+ghost use Rattle.std.specs.Prelude.{◌≡◌, suc, map, is_some, IfOk, IfErr};
 ghost use Rattle.tag.specs.declared.refusal.Refusal.TheVariants.{NoMemory};
-ghost use Rattle.local_object.specs.Local.{layout_in, heard_place};
+ghost use Rattle.local_object.specs.Local.{layout_in, heard_place, told_start_in};
 ghost use Rattle.local_object.specs.Letters.{letter_in};
+ghost use Rattle.local_object.specs.Taking.{knows_next};
 ghost use Rattle.mail.specs.Message.{names_next, status_names_next};
 
 use crate::places::Places;
-use bank::{Answer, Request, Status};
-use letter::{Letter, SharedLayout};
+use bank::{Answer, Kind, Request, Status};
+use letter::{Letter, SharedLayout, Start};
 use mail::{Body, Message};
 use std::alloc::Global;
 use tag::Refusal;
 
-/// Returns a letter for each message to or from members of a position with this layout. `NoMemory` is the only refusal.
+/// Returns whether a phase of this kind does not say that there is a next position, or the node has heard of that
+/// position.
+pub(crate) fn knows_next(places: &Places, kind: Kind, position: u32) -> bool
+    ensures { result ≡ knows_next places.now kind position }
+{
+    match kind {
+        Kind::Spread(status) => !status_names_next(status) || is_known_after(places, position),
+        _ => true,
+    }
+}
+
+// Whether the node has heard of the position after this one.
+fn is_known_after(places: &Places, position: u32) -> bool
+    ensures { result ≡ is_some (layout_in (heard_place places.now (suc position))) }
+{
+    places.layout_of(u64::from(position) + 1).is_some()
+}
+
+/// Returns a letter for each message to or from members of a position with this layout, from a node with this start.
+/// `NoMemory` is the only refusal.
 pub(crate) fn letters_of(
     alloc: Global,
     places: &Places,
+    start: u32,
     layout: &SharedLayout,
     messages: Vec<Message>,
 ) -> Result<Vec<Letter>, Refusal>
-    ensures letters { IfOk result (λ ls. ls.items ≡ map (letter_in places.now layout.now) messages.items) }
+    ensures letters { IfOk result (λ ls. ls.items ≡ map (letter_in places.now start layout.now) messages.items) }
     ensures refused { IfErr result (λ e. e ≡ NoMemory) }
 {
     let mut letters = Vec::with_capacity(alloc, messages.len())?;
     for message in messages {
-        letters.push(letter_of(places, layout.clone()?, message)?)?;
+        letters.push(letter_of(places, start, layout.clone()?, message)?)?;
     }
     Ok(letters)
 }
 
-/// The message as a letter: with the layout of its position, and that of the next position if the message says that
-/// there is one. `NoMemory` is the only refusal.
+/// The message as a letter: with the layout of its position, that of the next position if the message says that there
+/// is one, and the node's start. `NoMemory` is the only refusal.
 pub(crate) fn letter_of(
     places: &Places,
+    start: u32,
     layout: SharedLayout,
     message: Message,
 ) -> Result<Letter, Refusal>
-    ensures letter { IfOk result (λ l. l ≡ letter_in places.now layout message) }
+    ensures letter { IfOk result (λ l. l ≡ letter_in places.now start layout message) }
     ensures refused { IfErr result (λ e. e ≡ NoMemory) }
 {
     let next = if names_next(&message.body) {
@@ -48,8 +70,27 @@ pub(crate) fn letter_of(
     Ok(Letter {
         layout,
         next,
+        start: told_start(places, start)?,
         message,
     })
+}
+
+/// The start of which a node tells others: this one with its layout, unless it is position 0. `NoMemory` is the only
+/// refusal.
+pub(crate) fn told_start(places: &Places, start: u32) -> Result<Option<Start>, Refusal>
+    ensures start { IfOk result (λ s. s ≡ told_start_in places.now start) }
+    ensures refused { IfErr result (λ e. e ≡ NoMemory) }
+{
+    if start == 0 {
+        return Ok(None);
+    }
+    match places.shared_layout_of(u64::from(start)) {
+        Some(layout) => Ok(Some(Start {
+            position: start,
+            layout: layout.clone()?,
+        })),
+        None => Ok(None),
+    }
 }
 
 // The layout of the position after this one, if the node has heard of it.

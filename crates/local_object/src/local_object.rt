@@ -18,6 +18,7 @@ use tag::Refusal;
 mod agreement;
 mod begin;
 mod go_on;
+mod hear;
 mod resend;
 mod starts;
 mod take;
@@ -102,9 +103,13 @@ impl LocalObject {
     }
 
     /// The node serves a request. The reply has to be sent to the node from which the request came. Returns none, and
-    /// changes nothing, if the letter is no request, if there is no number in 32 bits for the next position, or if this
-    /// node is not the member that the letter names. Returns none, too, if the node's bank is closed and declines the
+    /// changes nothing, if the letter is no request. Returns none, too, if the node's bank is closed and declines the
     /// request, which then changes no bank.
+    ///
+    /// If this node is not the member that the request names, it serves nothing. If then the letter tells of a start,
+    /// the node hears of the letter. If the request is at a position before this node's start, and tells of no start or
+    /// of an earlier one, the node returns the request itself, with its own start; otherwise it returns none. If there
+    /// is no number in 32 bits for the position after the request's, it returns none, and changes nothing.
     ///
     /// `NoMemory` is the only refusal.
     pub fn serve(&mut self, letter: Letter) -> Result<Option<Letter>, Refusal>
@@ -113,11 +118,11 @@ impl LocalObject {
 
         ensures refused { IfErr result (λ e. e ≡ NoMemory) }
     {
-        if !self.is_served(&letter) {
-            return Ok(None);
+        if self.is_served(&letter) {
+            self.learn(&letter)?;
+            return self.handle(letter);
         }
-        self.learn(&letter)?;
-        self.handle(letter)
+        self.answer_stray(letter)
     }
 
     /// The node hears of a position and its layout. Nothing changes if it had heard of the position before.
@@ -172,20 +177,6 @@ impl LocalObject {
         }
     }
 
-    // The node hears of the layouts in a letter.
-    fn learn(&mut self, letter: &Letter) -> Result<(), Refusal>
-        requires { letter.now.message.position + 1 < 2 ^ 32 }
-        ensures learnt { OnOk result (self.new ≡ learnt_from self.old letter.now) }
-        ensures refused { IfErr result (λ e. e ≡ NoMemory) }
-    {
-        let position = letter.message.position;
-        self.places.learn(position, &letter.layout)?;
-        if let Some(next) = &letter.next {
-            self.places.learn(position + 1, next)?;
-        }
-        Ok(())
-    }
-
     // The node's bank serves the request in a letter. None where it is none, or where the bank declines it.
     fn handle(&mut self, letter: Letter) -> Result<Option<Letter>, Refusal>
         requires { IsSome (heard_place self.old.places letter.message.position) }
@@ -198,6 +189,7 @@ impl LocalObject {
         let Letter {
             layout,
             next: _,
+            start: _,
             message,
         } = letter;
         let Message {
@@ -223,7 +215,7 @@ impl LocalObject {
                 reply,
             },
         };
-        Ok(Some(letter_of(&self.places, layout, answer)?))
+        Ok(Some(letter_of(&self.places, self.start, layout, answer)?))
     }
 }
 

@@ -14,21 +14,23 @@ use std::alloc::Global;
 use tag::Refusal;
 
 /// The requests of the call's current phase to the members of this layout whose replies are not recorded, in the order
-/// of the members. If the phase is a complete fetch that lacks pieces, they are those to all members.
+/// of the members, from a node with this start. If the phase is a complete fetch that lacks pieces, they are those to
+/// all members.
 ///
 /// `NoMemory` is the only refusal.
 pub(crate) fn missing(
     alloc: Global,
     places: &Places,
+    start: u32,
     call: &Call,
     layout: &SharedLayout,
 ) -> Result<Vec<Letter>, Refusal>
     requires { is_sendable call.now.phase.kind call.now ≡ true }
-    ensures letters { IfOk result (λ letters. letters.items ≡ missing_letters places.now call.now layout.now) }
+    ensures letters { IfOk result (λ letters. letters.items ≡ missing_letters places.now start call.now layout.now) }
     ensures refused { IfErr result (λ e. e ≡ NoMemory) }
 {
     let messages = coded_requests(alloc, call.ask(), call, layout.layout())?;
-    let mut letters = letters_of(alloc, places, layout, messages)?;
+    let mut letters = letters_of(alloc, places, start, layout, messages)?;
     if begins_anew(call) {
         return Ok(letters);
     }

@@ -62,7 +62,7 @@ pub(crate) fn begin_anew(
         }
         return read_at(alloc, places, calls, index, first_number(start), start);
     }
-    advance(alloc, places, calls, index, asked.0, asked.1)
+    advance(alloc, places, start, calls, index, asked.0, asked.1)
 }
 
 // Whether the call has reached the stage at which its first reading is to begin.
@@ -76,8 +76,8 @@ fn begins_reading(call: &Call) -> bool
     }
 }
 
-/// The call at an index, which has settled nothing, reads the sequence of layouts at a position of which the node has
-/// heard, in a phase whose number is higher by `more` than that of its phase now. Returns its requests. Returns no
+/// The call at an index, which has settled nothing, reads the sequence of layouts at the node's start, which is this
+/// position, in a phase whose number is higher by `more` than that of its phase now. Returns its requests. Returns no
 /// letters, and changes nothing, if there is no such number.
 ///
 /// `NoMemory` is the only refusal.
@@ -112,13 +112,13 @@ pub(crate) fn read_at(
         kind: Kind::Next,
     };
     let messages = requests(alloc, ask, layout.layout().n(), None)?;
-    let letters = letters_of(alloc, places, layout, messages)?;
+    let letters = letters_of(alloc, places, position, layout, messages)?;
     calls.read_at(index, ask, layout.layout())?;
     Ok(letters)
 }
 
-/// Returns whether the call has settled nothing, and its phase reads the sequence of layouts at a position of which the
-/// node has heard, and still lacks a quorum of replies.
+/// Returns whether the call is no move and has settled nothing, and its phase reads the sequence of layouts at a
+/// position of which the node has heard, and still lacks a quorum of replies.
 pub(crate) fn is_reading(places: &Places, call: &Call) -> bool
     ensures value { result ≡ is_reading places.now call.now }
     ensures named { call.now.phase.call ≡ call.now.id }
@@ -127,7 +127,8 @@ pub(crate) fn is_reading(places: &Places, call: &Call) -> bool
 {
     let phase = call.phase();
     let complete = phase.complete();
-    !complete
+    !is_move(call)
+        && !complete
         && !call.is_settled()
         && is_reading_at(call.stage(), phase.position())
         && is_next(phase.kind())

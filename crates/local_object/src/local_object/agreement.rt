@@ -1,11 +1,13 @@
 //! Whether the layouts in a letter are those that the node has heard of.
 
 ghost use Rattle.std.specs.Prelude.{◌≡◌, option_copied};
-ghost use Rattle.local_object.specs.Agreement.{agrees, is_heard, is_not_another, knows_all_of};
+ghost use Rattle.local_object.specs.Agreement.{agrees, if_there, is_heard, is_not_another, knows_all_of};
+ghost use Rattle.local_object.specs.Agreement.{start_passes};
+ghost use Rattle.local_object.specs.Local.{layout_here};
 
 use crate::LocalObject;
 use layout::Layout;
-use letter::Letter;
+use letter::{Letter, SharedLayout, Start};
 
 impl LocalObject {
     /// Whether no layout in the letter differs from the one that the node has heard of for its position. While all
@@ -14,12 +16,9 @@ impl LocalObject {
         ensures { result ≡ agrees self.now letter.now }
     {
         let position = u64::from(letter.message.position);
-        let agrees = is_not_another(self.places.layout_of(position), letter.layout.layout());
-        match &letter.next {
-            Some(next) => agrees
-                && is_not_another(self.places.layout_of(position + 1), next.layout()),
-            None => agrees,
-        }
+        is_not_another(self.places.layout_of(position), letter.layout.layout())
+            && self.agrees_with_next(position + 1, &letter.next)
+            && self.agrees_with_start(&letter.start)
     }
 
     /// Whether the node has heard of each position of which the letter has the layout, and with that layout. While all
@@ -29,10 +28,54 @@ impl LocalObject {
         ensures { result ≡ knows_all_of self.now letter.now }
     {
         let position = u64::from(letter.message.position);
-        let knows = is_heard(self.places.layout_of(position), letter.layout.layout());
-        match &letter.next {
-            Some(next) => knows && is_heard(self.places.layout_of(position + 1), next.layout()),
-            None => knows,
+        is_heard(self.places.layout_of(position), letter.layout.layout())
+            && self.knows_next(position + 1, &letter.next)
+            && self.knows_start(&letter.start)
+    }
+
+    // Whether the layout is not another one than the node has heard of for the position, if there is one.
+    fn agrees_with_next(&self, position: u64, layout: &Option<SharedLayout>) -> bool
+        ensures { result ≡ if_there (is_not_another (layout_here self.now position)) layout.now }
+    {
+        match layout {
+            Some(layout) => is_not_another(self.places.layout_of(position), layout.layout()),
+            None => true,
+        }
+    }
+
+    // Whether the start's layout is not another one than the node has heard of for its position, if there is a start.
+    fn agrees_with_start(&self, start: &Option<Start>) -> bool
+        ensures { result ≡ start_passes is_not_another self.now start.now }
+    {
+        match start {
+            Some(start) => {
+                let heard = self.places.layout_of(u64::from(start.position));
+                is_not_another(heard, start.layout.layout())
+            }
+            None => true,
+        }
+    }
+
+    // Whether the layout is the one that the node has heard of for the position, if there is one.
+    fn knows_next(&self, position: u64, layout: &Option<SharedLayout>) -> bool
+        ensures { result ≡ if_there (is_heard (layout_here self.now position)) layout.now }
+    {
+        match layout {
+            Some(layout) => is_heard(self.places.layout_of(position), layout.layout()),
+            None => true,
+        }
+    }
+
+    // Whether the start's layout is the one that the node has heard of for its position, if there is a start.
+    fn knows_start(&self, start: &Option<Start>) -> bool
+        ensures { result ≡ start_passes is_heard self.now start.now }
+    {
+        match start {
+            Some(start) => is_heard(
+                self.places.layout_of(u64::from(start.position)),
+                start.layout.layout(),
+            ),
+            None => true,
         }
     }
 }

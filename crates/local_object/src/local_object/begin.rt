@@ -160,7 +160,7 @@ impl LocalObject {
             unreachable!();
         };
         let messages = requests(self.alloc, ask, layout.layout().n(), None)?;
-        let letters = letters_of(self.alloc, &self.places, layout, messages)?;
+        let letters = letters_of(self.alloc, &self.places, self.start, layout, messages)?;
         let call = Call::begin(self.alloc, ask, kind, stage, layout.layout(), 0)?;
         self.calls.add(call)?;
         Ok(letters)

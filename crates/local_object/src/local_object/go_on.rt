@@ -84,6 +84,7 @@ impl LocalObject {
                 let letters = advance(
                     self.alloc,
                     &self.places,
+                    self.start,
                     &mut self.calls,
                     index,
                     kind,

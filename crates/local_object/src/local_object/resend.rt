@@ -37,7 +37,7 @@ impl LocalObject {
         if !is_sendable(phase.kind(), call) {
             return Ok(Vec::new(self.alloc));
         }
-        missing(self.alloc, &self.places, call, layout)
+        missing(self.alloc, &self.places, self.start, call, layout)
     }
 
     /// Ends the read or the write with this id without an answer, if one is open here. A write may still take effect.

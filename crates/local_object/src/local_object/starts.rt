@@ -1,42 +1,20 @@
 //! The start of an object: the position at which its calls begin.
 
-ghost use Rattle.std.specs.Prelude.{◌≡◌, ◌^◌, [], nat_lt, IfOk, IfErr, OnOk};
+ghost use Rattle.std.specs.Prelude.{◌≡◌, ◌^◌, [], nat_lt, IfOk, IfErr};
 ghost use Rattle.tag.specs.declared.refusal.Refusal.TheVariants.{NoMemory};
 ghost use Rattle.open_calls.specs.OpenCalls.{open_call};
 ghost use Rattle.local_object.specs.Doing.{IsOutcome};
 ghost use Rattle.local_object.specs.Anew.{can_grow};
-ghost use Rattle.local_object.specs.ReadingOn.{hear_events, read_on_events};
+ghost use Rattle.local_object.specs.ReadingOn.{read_on_events};
 ghost use Rattle.local_object.specs.Taking.{IsOutcomeWithAnswers, grow_events, grows_by};
 
 use crate::LocalObject;
 use crate::calls::has_raised;
 use crate::reading::{is_reading, read_at};
-use layout::Layout;
-use letter::{Letter, SharedLayout};
+use letter::Letter;
 use tag::{CallId, Refusal};
 
 impl LocalObject {
-    /// The node hears of a start of the object, with its layout: a position such that, at each position before it, the
-    /// pointer is final at a quorum. Its calls then begin there. Nothing changes if its own start is not earlier, or if
-    /// the position is not below 2^31.
-    ///
-    /// `NoMemory` is the only refusal.
-    pub fn hear_start(&mut self, position: u32, layout: Layout) -> Result<(), Refusal>
-        ensures heard { OnOk result (IsOutcome self.old (hear_events position layout) self.new []) }
-        ensures refused { IfErr result (λ e. e ≡ NoMemory) }
-    {
-        if !is_below_limit(position) {
-            return Ok(());
-        }
-        if position <= self.start {
-            return Ok(());
-        }
-        let layout = SharedLayout::new(self.alloc, layout)?;
-        self.places.learn(position, &layout)?;
-        self.start = position;
-        Ok(())
-    }
-
     /// The call with this id goes on at the object's start, if it is open here and reads the sequence of layouts at an
     /// earlier position. Returns its requests. Returns no letters, and changes nothing, if no such call is open here,
     /// if it has settled a value, if its phase has a quorum of replies, or if there is no number in 32 bits for its new
@@ -104,7 +82,7 @@ impl LocalObject {
 }
 
 // Whether the numbers of the phases of a call that begins at this start have 32 bits.
-fn is_below_limit(start: u32) -> bool
+pub(crate) fn is_below_limit(start: u32) -> bool
     ensures { result ≡ nat_lt start (2 ^ 31) }
 {
     start < 1 << 31

@@ -85,6 +85,7 @@ impl LocalObject {
         let Letter {
             layout: _,
             next: _,
+            start: _,
             message,
         } = letter;
         self.take_message(message);

@@ -96,10 +96,10 @@ impl LocalObject {
     }
 
     /// Whether serving a letter may change more than what the node has heard of: the node serves the letter, and its
-    /// request raises a pointer, brings a piece, or finalizes a tag that is not the greatest finalized one. If it is
-    /// false and the node serves the letter, the node hears of the layouts in the letter, and nothing else changes. It
-    /// is also true of some requests that change nothing: a pre-write whose piece came before, and a request that
-    /// finalizes a tag which is finalized already and not the greatest one.
+    /// request raises a pointer, brings a piece, or finalizes a tag that is not the greatest finalized one, or the
+    /// letter tells of a later start. If it is false, the node hears at most of the layouts in the letter and of its
+    /// start, and nothing else changes. It is also true of some requests that change nothing: a pre-write whose piece
+    /// came before, and a request that finalizes a tag which is finalized already and not the greatest one.
     ///
     /// So a log need not have a letter for which this is false. A bank that is not there counts as a newly opened one.
     /// A node that has forgotten layouts hears of them again from other letters. Only the node that moves objects must
@@ -109,10 +109,10 @@ impl LocalObject {
         ensures changed { result ≡ is_changed_by self.now letter.now }
         ensures unchanged { result ≡ false → IsUnchangedBy self.now letter.now }
     {
-        self.is_served(letter)
-            && changes(
-                self.places.bank_of(letter.message.position),
-                &letter.message.body,
-            )
+        if !self.is_served(letter) {
+            return false;
+        }
+        let bank = self.places.bank_of(letter.message.position);
+        changes(bank, &letter.message.body) || self.is_later_start_if(&letter.start)
     }
 }

@@ -19,9 +19,9 @@ returns-then-begins_anew-clause-letters c =
     let sent = λ (a : Ask). requests a.call a.number a.kind a.position layout.members 0
     (fragment_piece fragment layout (call_value call)) in
     c.in_ok-letters.ensures.letters
-    ∙ ap (λ (ms : List Message). map (letter_in c.args.places.now layout) ms)
+    ∙ ap (λ (ms : List Message). map (letter_in c.args.places.now c.args.start layout) ms)
     (c.in_ok-messages.ensures.requests ∙ ap (λ (l : Layout). of l c.ask.result) c.layout.ensures ∙ ap sent c.ask.ensures)
-    ∙ sym (all_again call (sent_letters c.args.places.now call layout) (sym c.begins_anew.ensures ∙ c.if-begins_anew.true))
+    ∙ sym (all_again call (sent_letters c.args.places.now c.args.start call layout) (sym c.begins_anew.ensures ∙ c.if-begins_anew.true))
 
 pub returns-clause-letters : goal.returns-clause-letters
 returns-clause-letters c =
@@ -34,6 +34,6 @@ returns-clause-letters c =
     c.keep_unanswered.ensures
     ∙ ap (unanswered call.phase.replies)
     (c.in_ok-letters.ensures.letters
-    ∙ ap (λ (ms : List Message). map (letter_in c.args.places.now layout) ms)
+    ∙ ap (λ (ms : List Message). map (letter_in c.args.places.now c.args.start layout) ms)
     (c.in_ok-messages.ensures.requests ∙ ap (λ (l : Layout). of l c.ask.result) c.layout.ensures ∙ ap sent c.ask.ensures))
-    ∙ sym (some_again call (sent_letters c.args.places.now call layout) (sym c.begins_anew.ensures ∙ c.if-begins_anew.false))
+    ∙ sym (some_again call (sent_letters c.args.places.now c.args.start call layout) (sym c.begins_anew.ensures ∙ c.if-begins_anew.false))

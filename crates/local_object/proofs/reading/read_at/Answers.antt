@@ -49,7 +49,7 @@ returns-clause-read c = λ call at.
           c.layout-2.ensures
           ∙ ap (λ n. slice_set calls c.args.index (reading_machine read n c.args.position layout)) later;
       sent = c.in_ok-letters.ensures.letters
-          ∙ ap (map (letter_in places layout))
+          ∙ ap (map (letter_in places c.args.position layout))
           (c.in_ok-messages.ensures.requests layout.members servers
           ∙ ap (λ id. requests id (c.number-number.result + c.args.more) Next c.args.position layout.members 0 empty_piece) c.id.ensures
           ∙ ap (λ n. requests read.id n Next c.args.position layout.members 0 empty_piece) later);

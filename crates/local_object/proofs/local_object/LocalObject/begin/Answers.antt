@@ -27,6 +27,6 @@ returns-clause-letters c =
     (begun_at c.args.stage c.args.ask.position) c.args.ask.kind c.args.ask.number c.args.ask.position there).sent in
     let number : length layout.members ≡ c.n.result = sym (c.n.ensures.value ∙ ap (λ (l : Layout). length l.members) c.layout.ensures) in
     c.in_ok-letters.ensures.letters
-    ∙ ap (map (letter_in o.places layout)) (c.in_ok-messages.ensures.requests layout.members number)
+    ∙ ap (map (letter_in o.places o.start layout)) (c.in_ok-messages.ensures.requests layout.members number)
     ∙ ap (begun local) (c.in-Some.ensures ∙ ap (λ n. layout_in (heard_place o.places n)) c.from.ensures)
     ∙ ap (λ (l : LocalObject). begun l (layout_here l c.args.ask.position)) c.self.view_is
