@@ -1,4 +1,4 @@
--- Letters that deeds serve and take.
+-- Letters that deeds serve, take, hear of or send back.
 use Rattle.std.proofs.Common.{ℕ, List, [], ◌∷◌, ◌++◌, sym, subst, append_assoc}
 use Rattle.std.proofs.lemmas.List.{append-nil}
 use Rattle.record.specs.Fragments.{Code}
@@ -16,7 +16,8 @@ pub event_fed_more : (got more : List NamedLetter) → AreAmong got more → (na
     IsEventLetterKnown got name event → IsEventLetterKnown more name event
 event_fed_more got more among name (LocalEvent.Serve letter) fed = among (record { name = name; letter = letter }) fed
 event_fed_more got more among name (LocalEvent.Take letter) fed = among (record { name = name; letter = letter }) fed
-event_fed_more got more among name (LocalEvent.Hear start layout) fed = absurd (fed)
+event_fed_more got more among name (LocalEvent.Hear letter) fed = among (record { name = name; letter = letter }) fed
+event_fed_more got more among name (LocalEvent.Redirect letter) fed = among (record { name = name; letter = letter }) fed
 event_fed_more got more among name _ fed = tt
 
 pub deed_fed_more : (got more : List NamedLetter) → AreAmong got more → (deed : Deed) → IsDeedLetterKnown got deed

@@ -72,7 +72,8 @@ begun_fed : (got : List NamedLetter) (name : List ℕ) (event : LocalEvent) (id 
     IsEventLetterKnown got name event
 begun_fed got name (LocalEvent.Serve letter) id begins = absurd (cc)
 begun_fed got name (LocalEvent.Take letter) id begins = absurd (cc)
-begun_fed got name (LocalEvent.Hear start layout) id begins = absurd (cc)
+begun_fed got name (LocalEvent.Hear letter) id begins = absurd (cc)
+begun_fed got name (LocalEvent.Redirect letter) id begins = absurd (cc)
 begun_fed got name _ id begins = tt
 
 -- a method that begins a call

@@ -21,20 +21,21 @@ MayAllBeDone fragment objects [] = Unit {0}
 MayAllBeDone fragment objects (deed ∷ deeds) =
     MayBeDone fragment objects deed × MayAllBeDone fragment (after_deed fragment objects deed).objects deeds
 
--- the letter that an event at the object of a name serves or takes, if there is one, is one of these; no letter tells a
--- node of a start
+-- the letter that an event at the object of a name serves, takes, hears of or sends back, if there is one, is one of
+-- these
 abbrev pub IsEventLetterKnown : List NamedLetter → (name : List ℕ) → LocalEvent → Type 0
 IsEventLetterKnown got name (LocalEvent.Serve letter) = IsOneOf got (record { name = name; letter = letter })
 IsEventLetterKnown got name (LocalEvent.Take letter) = IsOneOf got (record { name = name; letter = letter })
-IsEventLetterKnown got name (LocalEvent.Hear start layout) = ⊥
+IsEventLetterKnown got name (LocalEvent.Hear letter) = IsOneOf got (record { name = name; letter = letter })
+IsEventLetterKnown got name (LocalEvent.Redirect letter) = IsOneOf got (record { name = name; letter = letter })
 IsEventLetterKnown got name event = Unit {0}
 
--- the letter that a deed serves or takes, if there is one, is one of these
+-- the letter that a deed serves, takes, hears of or sends back, if there is one, is one of these
 abbrev pub IsDeedLetterKnown : List NamedLetter → Deed → Type 0
 IsDeedLetterKnown got (Deed.Does name event) = IsEventLetterKnown got name event
 IsDeedLetterKnown got (Deed.Resends name letters) = Unit {0}
 
--- each letter that a deed serves or takes is one of these, or one that an earlier deed sent
+-- each letter that a deed serves, takes, hears of or sends back is one of these, or one that an earlier deed sent
 abbrev pub AreDeedLettersKnown : Code → (objects : List ℕ → LocalObject) → (got : List NamedLetter) → List Deed → Type 0
 AreDeedLettersKnown fragment objects got [] = Unit {0}
 AreDeedLettersKnown fragment objects got (deed ∷ deeds) =
