@@ -10,6 +10,7 @@ use Rattle.closed_bank.specs.Restore.{requests_to_closed}
 use Rattle.closed_bank.proofs.ClosedBankLemmas.{comes_back_short}
 use Rattle.local_object.specs.declared.kept_bank.KeptBank.{KeptBank}
 use Rattle.local_object.specs.declared.kept_bank.KeptBank.TheVariants as kept
+use Rattle.local_object.specs.Distinct.{KnowsStart}
 use Rattle.local_object.specs.Events.{LocalEvent, all_done}
 use Rattle.local_object.specs.KeptBanks.{after_closing, closed_or, closing}
 use Rattle.local_object.specs.Local.{LocalObject, Place, bank_here, bank_in, bank_or_opened, heard_place, layout_here, layout_in}
@@ -18,7 +19,7 @@ use Rattle.local_object.proofs.HeardPlaceLemmas.{bank_with_here, bank_with_there
 use Rattle.object_letters.specs.Closing.{after_close, after_closing_all, after_place_closed, is_closed}
 use Rattle.object_letters.specs.Laws.{IsBlankOf}
 use Rattle.object_letters.specs.Leading.{HasNextPosition}
-use Rattle.object_letters.specs.Letters.{after_letters, letters_to}
+use Rattle.object_letters.specs.Letters.{after_letters, letters_to, start_after}
 use Rattle.object_letters.specs.Reached.{after_requests}
 use Rattle.object_letters.specs.Rebuildable.{AreElsewhere, HaveApartPositions, IsOwnIfOpen, IsOwnPlace, IsRebuildable}
 use Rattle.object_letters.proofs.PlaceLetterLemmas.{HasLed, at_place, led_bank, letters_placed}
@@ -53,6 +54,7 @@ module _ (moves : Type 0) (local : LocalObject) where
 
   record IsClosedAt (place : Place) (copy after : LocalObject) : Type 0 where
     pub towards : IsTowards moves local after
+    pub start : after.start ≡ copy.start
     pub own : HasKept after place
     pub others : (q j : ℕ) → (place.position ≡ q → ⊥) → bank_here after q j ≡ bank_here copy q j
 
@@ -69,6 +71,7 @@ module _ (moves : Type 0) (local : LocalObject) where
         (sym (ap (λ b. (all_done fragment copy (cond b (LocalEvent.Close p ∷ []) [])).local) (ap is_some closes)))
         (record {
           towards = put moves local copy p (after_closing old) towards;
+          start = refl;
           own = λ j named. bank_with_here copy p (after_closing old) j known
               ∙ ap (λ o. bank_or_opened (closed_or o old) j copy.delta) closes
               ∙ ap (λ o. bank_or_opened o j local.delta) (sym e);
@@ -79,11 +82,13 @@ module _ (moves : Type 0) (local : LocalObject) where
         → IsClosedAt place copy (cond (is_closed o) (after_close copy place.position) copy)
     place_closed None e own led = record {
       towards = towards;
+      start = refl;
       own = λ j named. led j named ∙ ap (λ o. led_bank o j local.delta) e ∙ ap (λ o. bank_or_opened o j local.delta) (sym e);
       others = λ q j apart. refl;
     }
     place_closed (Some (kept.Open bank)) e own led = record {
       towards = towards;
+      start = refl;
       own = λ j named. led j named ∙ ap (λ o. led_bank o j local.delta) e ∙ ap (λ o. bank_or_opened o j local.delta) (sym e);
       others = λ q j apart. refl;
     }
@@ -107,22 +112,35 @@ module _ (moves : Type 0) (local : LocalObject) where
 
   record AreClosed (places : List Place) (copy after : LocalObject) : Type 0 where
     pub towards : IsTowards moves local after
+    pub start : after.start ≡ copy.start
     pub own : AllByRecursion (HasKept after) places
     pub others : (q j : ℕ) → AreElsewhere q places → bank_here after q j ≡ bank_here copy q j
 
   all_closed : (places : List Place) → HaveApartPositions places → AllByRecursion (IsOwnPlace local.node local.delta) places
       → (copy : LocalObject) → IsTowards moves local copy → AllByRecursion (HasLed moves local copy) places
       → AreClosed places copy (after_closing_all copy places)
-  all_closed [] apart own copy towards led = record { towards = towards; own = tt; others = λ q j elsewhere. refl }
+  all_closed [] apart own copy towards led =
+      record { towards = towards; start = refl; own = tt; others = λ q j elsewhere. refl }
   all_closed (place ∷ places) apart own copy towards led =
       let one = place_closed place copy towards place.bank refl own.0.own led.0 in
       let middle = after_place_closed copy place in
       let rest = all_closed places apart.1 own.1 middle one.towards
       (still_led place copy middle one.others places apart.0 led.1) in record {
         towards = rest.towards;
+        start = rest.start ∙ one.start;
         own = (λ j named. rest.others place.position j apart.0 ∙ one.own j named, rest.own);
         others = λ q j elsewhere. rest.others q j elsewhere.1 ∙ one.others q j elsewhere.0;
       }
+
+  -- the start that the copy then has
+  pub letters_start : (copy : LocalObject) → IsRebuildable local → AllByRecursion HasNextPosition local.places
+      → KnowsStart local.places local.start → IsBlankOf moves local copy
+      → (after_closing_all (after_letters copy (letters_to local)) local.places).start
+      ≡ start_after (letters_to local) copy.start local.start
+  letters_start copy rebuildable room knows blank =
+      let led = letters_placed moves local copy rebuildable room blank in
+      let all = all_closed local.places rebuildable.apart rebuildable.places (after_letters copy (letters_to local)) led.towards led.own in
+      all.start ∙ led.start knows
 
   -- letters lead back
   pub letters_lead : (copy : LocalObject) → IsRebuildable local → AllByRecursion HasNextPosition local.places

@@ -1,12 +1,13 @@
--- Of an object whose banks came to be by requests to the node: a node that hears of a position keeps this so.
+-- Of an object whose banks came to be by requests to the node: a node that hears of a position or a start keeps this so.
 use Rattle.std.proofs.Common.{◌≡◌, ◌≢◌, ℕ, suc, Bool, true, false, cond, eqb, eq-eqb, List, [], ◌∷◌, ◌++◌}
 use Rattle.std.proofs.Common.{Option, Some, None, refl, sym, ◌∙◌}
 use Rattle.std.specs.List.{AllByRecursion}
 use Rattle.layout.specs.Layout.{Layout, IsLawful}
 use Rattle.letter.specs.declared.letter.Letter.{Letter}
-use Rattle.local_object.specs.Local.{LocalObject, Place, added_place, with_heard, learnt_if, heard_place}
-use Rattle.local_object.specs.Outcomes.{learnt_from}
-use Rattle.object_letters.specs.Rebuildable.{HaveApartPositions, AreElsewhere, HasLawfulLayouts, IsLawfulIfThere}
+use Rattle.letter.specs.declared.start.Start.{Start}
+use Rattle.local_object.specs.Local.{LocalObject, Place, added_place, with_heard, learnt_if, heard_place, heard_start_if}
+use Rattle.local_object.specs.Outcomes.{layouts_learnt, learnt_from}
+use Rattle.object_letters.specs.Rebuildable.{HaveApartPositions, AreElsewhere, HasLawfulLayouts, IsLawfulIfThere, IsLawfulStart}
 use Rattle.object_letters.specs.Rebuildable.{IsOwnPlace, IsRebuildable}
 
 elsewhere_none : (places : List Place) (p : ℕ) → heard_place places p ≡ None → AreElsewhere p places
@@ -50,8 +51,15 @@ heard_if : (local : LocalObject) (p : ℕ) (o : Option Layout) → IsLawfulIfThe
 heard_if local p None lawful is = is
 heard_if local p (Some layout) lawful is = heard_rebuildable local p layout lawful is
 
+start_rebuildable : (local : LocalObject) (o : Option Start) → IsLawfulStart o → IsRebuildable local
+    → IsRebuildable (heard_start_if local o)
+start_rebuildable local None lawful is = is
+start_rebuildable local (Some start) lawful is =
+    let heard = heard_rebuildable local start.position start.layout lawful is in record { apart = heard.apart; places = heard.places }
+
 pub letter_rebuildable : (local : LocalObject) (letter : Letter) → HasLawfulLayouts letter → IsRebuildable local
     → IsRebuildable (learnt_from local letter)
 letter_rebuildable local letter lawful is =
-    heard_if (with_heard local letter.message.position letter.layout) (suc letter.message.position) letter.next lawful.1
-    (heard_rebuildable local letter.message.position letter.layout lawful.0 is)
+    start_rebuildable (layouts_learnt local letter) letter.start lawful.2
+    (heard_if (with_heard local letter.message.position letter.layout) (suc letter.message.position) letter.next lawful.1
+    (heard_rebuildable local letter.message.position letter.layout lawful.0 is))

@@ -11,3 +11,4 @@ pub mod RebuildableLemmas
 pub mod RequestSizeLemmas
 pub mod RowsOfRequestsLemmas
 pub mod ServedCopyLemmas
+pub mod ToldStartLemmas

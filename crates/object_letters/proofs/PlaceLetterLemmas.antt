@@ -12,15 +12,18 @@ use Rattle.object_letters.specs.Reached.{after_requests}
 use Rattle.object_letters.specs.Requests.{requests_for, requests_to}
 use Rattle.object_letters.proofs.LeadingLemmas.{requests_lead}
 use Rattle.letter.specs.declared.letter.Letter.{Letter}
+use Rattle.local_object.specs.Distinct.{KnowsStart}
 use Rattle.local_object.specs.Local.{LocalObject, Place, bank_here, layout_here, layout_in, heard_place}
 use Rattle.local_object.proofs.FoundLemmas.{IsFirst, FailsBelow, first_of, element}
 use Rattle.local_object.proofs.OneMemberLemmas.{one_member}
 use Rattle.open_calls.proofs.CallsOfNodeLemmas.{differs}
 use Rattle.object_letters.specs.Letters.{after_letter, after_letters, bank_letters, letter_to, letters_to, place_letters, places_letters}
+use Rattle.object_letters.specs.Letters.{start_after}
 use Rattle.object_letters.specs.Leading.{HasNextPosition}
 use Rattle.object_letters.specs.Laws.{IsBlankOf}
 use Rattle.object_letters.specs.Rebuildable.{HaveApartPositions, AreElsewhere, IsOwnIfOpen, IsOwnKept, IsOwnPlace, IsRebuildable}
 use Rattle.object_letters.proofs.ServedCopyLemmas.{IsTowards, all_served}
+use Rattle.object_letters.proofs.ToldStartLemmas.{start_both}
 
 -- Lists
 
@@ -107,8 +110,9 @@ own_member node delta place (kept.Open bank) own = (
 own_member node delta place (kept.Closed closed) own = (own.0, own.1, refl)
 
 module _ (moves : Type 0) (local : LocalObject) where
-  pub record IsPlaced (place : Place) (copy after : LocalObject) : Type 0 where
+  pub record IsPlaced (place : Place) (letters : List Letter) (copy after : LocalObject) : Type 0 where
     pub towards : IsTowards moves local after
+    pub start : KnowsStart local.places local.start → after.start ≡ start_after letters copy.start local.start
     pub own : (j : ℕ) → slice_get place.layout.members j ≡ Some local.node
         → bank_here after place.position j ≡ led_bank place.bank j local.delta
     pub others : (q j : ℕ) → (place.position ≡ q → ⊥) → bank_here after q j ≡ bank_here copy q j
@@ -116,11 +120,14 @@ module _ (moves : Type 0) (local : LocalObject) where
   module _ (place : Place) (lawful : IsLawful place.layout) (room : HasNextPosition place)
       (known : layout_here local place.position ≡ Some place.layout) (copy : LocalObject) (towards : IsTowards moves local copy)
       (fresh : (j : ℕ) → bank_here copy place.position j ≡ kept.Open (opened_bank j local.delta 0)) where
+    abbrev IsPlacedBy : List Letter → Type 0
+    IsPlacedBy letters = IsPlaced place letters copy (after_letters copy letters)
+
     bank_placed : (o : Option KeptBank) → place.bank ≡ o → IsOwnIfOpen local.node local.delta place o
-        → IsPlaced place copy (after_letters copy (bank_letters local.places place
-        (position (λ server. eqb server local.node) place.layout.members) o))
+        → IsPlacedBy (bank_letters local place (position (λ server. eqb server local.node) place.layout.members) o)
     bank_placed None e own = record {
       towards = towards;
+      start = λ knows. refl;
       own = λ j named. fresh j ∙ ap (λ o. led_bank o j local.delta) (sym e);
       others = λ q j apart. refl;
     }
@@ -128,13 +135,14 @@ module _ (moves : Type 0) (local : LocalObject) where
         let is = own_member local.node local.delta place bank own in
         let member = is.0 in
         let qs = requests_for bank in
-        subst (λ o. IsPlaced place copy (after_letters copy (bank_letters local.places place o (Some bank))))
+        subst (λ o. IsPlacedBy (bank_letters local place o (Some bank)))
         (sym (member_found place.layout local.node member lawful is.1)) (
         let served = all_served moves local place member known is.1 room copy towards qs in record {
           towards = served.towards;
+          start = served.start;
           own = λ j named.
               let same : member ≡ j = one_member place.layout member j local.node lawful is.1 named in
-              let after = after_letters copy (map (letter_to local.places place member) qs) in
+              let after = after_letters copy (map (letter_to local place member) qs) in
               ap (bank_here after place.position) (sym same)
               ∙ served.bank (opened_bank member local.delta 0) (fresh member) ∙ is.2
               ∙ ap (λ n. led_bank (Some bank) n local.delta) same
@@ -143,7 +151,7 @@ module _ (moves : Type 0) (local : LocalObject) where
         })
 
     placed : IsOwnIfOpen local.node local.delta place place.bank
-        → IsPlaced place copy (after_letters copy (place_letters local.node local.places place))
+        → IsPlacedBy (place_letters local.node local place)
     placed own = bank_placed place.bank refl own
 
 -- All places
@@ -170,32 +178,38 @@ module _ (moves : Type 0) (local : LocalObject) where
     still_fresh first copy after others places elsewhere.1 fresh.1,
   )
 
-  pub record ArePlaced (places : List Place) (copy after : LocalObject) : Type 0 where
+  pub record ArePlaced (places : List Place) (letters : List Letter) (copy after : LocalObject) : Type 0 where
     pub towards : IsTowards moves local after
+    pub start : KnowsStart local.places local.start → after.start ≡ start_after letters copy.start local.start
     pub own : AllByRecursion (HasLed after) places
     pub others : (q j : ℕ) → AreElsewhere q places → bank_here after q j ≡ bank_here copy q j
 
   all_placed : (places : List Place) → HaveApartPositions places → AllByRecursion (IsOwnPlace local.node local.delta) places
       → AllByRecursion HasNextPosition places → AllByRecursion IsKnown places → (copy : LocalObject) → IsTowards moves local copy
       → AllByRecursion (IsFresh copy) places
-      → ArePlaced places copy (after_letters copy (places_letters local.node local.places places))
-  all_placed [] apart own room known copy towards fresh = record { towards = towards; own = tt; others = λ q j elsewhere. refl }
+      → ArePlaced places (places_letters local.node local places) copy
+      (after_letters copy (places_letters local.node local places))
+  all_placed [] apart own room known copy towards fresh =
+      record { towards = towards; start = λ knows. refl; own = tt; others = λ q j elsewhere. refl }
   all_placed (place ∷ places) apart own room known copy towards fresh =
       let one = placed moves local place own.0.lawful room.0 known.0 copy towards fresh.0 own.0.own in
-      let middle = after_letters copy (place_letters local.node local.places place) in
+      let letters = place_letters local.node local place in
+      let more = places_letters local.node local places in
+      let middle = after_letters copy letters in
       let rest = all_placed places apart.1 own.1 room.1 known.1 middle one.towards
       (still_fresh place copy middle one.others places apart.0 fresh.1) in
-      subst (ArePlaced (place ∷ places) copy)
-      (sym (after_append copy (place_letters local.node local.places place) (places_letters local.node local.places places)))
+      subst (ArePlaced (place ∷ places) (letters ++ more) copy) (sym (after_append copy letters more))
       (record {
         towards = rest.towards;
+        start = λ knows. rest.start knows ∙ ap (λ s. start_after more s local.start) (one.start knows)
+            ∙ sym (start_both letters more copy.start local.start);
         own = (λ j named. rest.others place.position j apart.0 ∙ one.own j named, rest.own);
         others = λ q j elsewhere. rest.others q j elsewhere.1 ∙ one.others q j elsewhere.0;
       })
 
   -- letters lead to all places
   pub letters_placed : (copy : LocalObject) → IsRebuildable local → AllByRecursion HasNextPosition local.places
-      → IsBlankOf moves local copy → ArePlaced local.places copy (after_letters copy (letters_to local))
+      → IsBlankOf moves local copy → ArePlaced local.places (letters_to local) copy (after_letters copy (letters_to local))
   letters_placed copy rebuildable room blank =
       let found = all_found local.places rebuildable.apart in
       let known = all_map {P = λ place. heard_place local.places place.position ≡ Some place} {Q = IsKnown}

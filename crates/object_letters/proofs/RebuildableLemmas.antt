@@ -1,5 +1,5 @@
 -- Whatever a node does with an object, its banks came to be by requests to the node.
-use Rattle.std.proofs.Common.{◌≡◌, ℕ, suc, Bool, true, false, cond, eqb, nat_lt, List, [], ◌∷◌}
+use Rattle.std.proofs.Common.{◌≡◌, ℕ, suc, Bool, true, false, cond, eqb, List, [], ◌∷◌}
 use Rattle.std.proofs.Common.{Option, Some, None, IsSome, slice_get, refl, sym, subst, ap, ◌∙◌}
 use Rattle.std.specs.List.{AllByRecursion}
 use Rattle.std.proofs.lemmas.Option.{same_Some}
@@ -21,7 +21,7 @@ use Rattle.open_calls.specs.OpenCalls.{NodeCall, due_phase, open_call, with_open
 use Rattle.letter.specs.declared.letter.Letter.{Letter}
 use Rattle.local_object.specs.ChangedBanks.{bank_after, changes_bank, kept_after, kept_bank}
 use Rattle.local_object.specs.KeptBanks.{after_closing, closed_or, closing}
-use Rattle.local_object.specs.Local.{LocalObject, Place, bank_in, bank_or_opened, heard_start, last_position}
+use Rattle.local_object.specs.Local.{LocalObject, Place, bank_in, bank_or_opened, last_position}
 use Rattle.local_object.specs.Local.{layout_here, layout_in, with_heard, new_local, heard_place, with_bank_here}
 use Rattle.local_object.specs.Events.{LocalEvent, advanced_at, advanced_here, closed_here, done_here, served_here}
 use Rattle.local_object.specs.Outcomes.{Outcome, begun_here, learnt_from, on_open_call, silent}
@@ -194,14 +194,6 @@ called_rebuildable : (local : LocalObject) (o : Option NodeCall) (change : NodeC
 called_rebuildable local None change is changed = is
 called_rebuildable local (Some call) change is changed = changed call
 
-start_rebuildable : (local : LocalObject) (start : ℕ) (layout : Layout) → IsLawful layout → IsRebuildable local
-    → IsRebuildable (heard_start local start layout)
-start_rebuildable local start layout lawful is = go (nat_lt local.start start)
-  where
-    go : (b : Bool) → IsRebuildable (cond b (record (with_heard local start layout) { start = start }) local)
-    go true = let heard = heard_rebuildable local start layout lawful is in record { apart = heard.apart; places = heard.places }
-    go false = is
-
 -- Any event
 pub stays_rebuildable : (local : LocalObject) (event : LocalEvent) → IsRebuildable local → MayHappenHere fragment local event
     → IsFit event → IsRebuildable (done_here fragment local event).local
@@ -234,7 +226,8 @@ stays_rebuildable local (LocalEvent.Answer id) is may fit = record { apart = is.
 stays_rebuildable local (LocalEvent.GiveUp id) is may fit = record { apart = is.apart; places = is.places }
 stays_rebuildable local (LocalEvent.Close position) is may fit = close_rebuildable local position is may
 stays_rebuildable local (LocalEvent.Grow id) is may fit = record { apart = is.apart; places = is.places }
-stays_rebuildable local (LocalEvent.Hear start layout) is may fit = start_rebuildable local start layout fit is
+stays_rebuildable local (LocalEvent.Hear letter) is may fit = letter_rebuildable local letter fit is
+stays_rebuildable local (LocalEvent.Redirect letter) is may fit = is
 stays_rebuildable local (LocalEvent.ReadOn id) is may fit =
     called_rebuildable local (open_call local.calls id) (λ call. reads_here local call (number_at call local.start)) is
     (λ call. reads_rebuildable local call (number_at call local.start) local.start (layout_here local local.start) is)

@@ -13,18 +13,21 @@ use Rattle.bank.specs.declared.status.Status.TheVariants.{Unset, Pending, Final}
 use Rattle.object_letters.specs.Reached.{after_requests}
 use Rattle.record.specs.Legal.{is_move}
 use Rattle.letter.specs.declared.letter.Letter.{Letter}
+use Rattle.letter.specs.declared.start.Start.{Start}
 use Rattle.local_object.specs.declared.kept_bank.KeptBank.{KeptBank}
 use Rattle.local_object.specs.declared.kept_bank.KeptBank.TheVariants as kept
 use Rattle.local_object.specs.ChangedBanks.{bank_after, kept_after, kept_bank}
-use Rattle.local_object.specs.Doing.{is_member, is_served, names_node}
+use Rattle.local_object.specs.Distinct.{KnowsStart}
+use Rattle.local_object.specs.Doing.{is_askable, is_member, is_served, names_node, stray_events}
 use Rattle.local_object.specs.Events.{LocalEvent, all_done, served_here}
-use Rattle.local_object.specs.Outcomes.{learnt_from, next_in_request}
-use Rattle.local_object.specs.Local.{LocalObject, Place, bank_here, bank_in, heard_place, layout_here, with_heard, learnt_if}
-use Rattle.local_object.specs.Local.{with_bank_here}
+use Rattle.local_object.specs.Outcomes.{layouts_learnt, learnt_from, next_in_request}
+use Rattle.local_object.specs.Local.{LocalObject, Place, bank_here, bank_in, heard_place, heard_start_if, layout_here, with_heard}
+use Rattle.local_object.specs.Local.{learnt_if, told_start, with_bank_here}
 use Rattle.local_object.proofs.UnchangedBankLemmas.{kept_served}
 use Rattle.local_object.proofs.HeardPlaceLemmas.{bank_learnt, bank_with_here, bank_with_there, layout_learnt, layout_new, layout_stays}
 use Rattle.local_object.proofs.HeardPlaceLemmas.{layout_with}
-use Rattle.object_letters.specs.Letters.{after_letter, after_letters, letter_to}
+use Rattle.object_letters.specs.Letters.{after_letter, after_letters, letter_to, start_after}
+use Rattle.object_letters.proofs.ToldStartLemmas.{bank_started, layout_started, same_start, start_told, told_is, told_order}
 
 -- the copy is as a restart has to keep the object, but for its banks
 pub record IsTowards (moves : Type 0) (local copy : LocalObject) : Type 0 where
@@ -98,6 +101,23 @@ module _ (moves : Type 0) (local : LocalObject) where
   heard_if copy p None known towards = towards
   heard_if copy p (Some layout) known towards = heard copy p layout (known layout refl) towards
 
+  heard_start_too : (copy : LocalObject) → IsTowards moves local copy → IsTowards moves local (heard_start_if copy (told_start local))
+  heard_start_too copy towards = go (told_start local) refl
+    where
+      go : (o : Option Start) → told_start local ≡ o → IsTowards moves local (heard_start_if copy o)
+      go None e = towards
+      go (Some start) e =
+          let is = told_is local start e in
+          let heard = heard copy start.position start.layout (ap (layout_here local) is.0 ∙ is.1) towards in record {
+            node = heard.node;
+            delta = heard.delta;
+            start = told_order copy start local.start towards.start is.0;
+            layouts = heard.layouts;
+            first = heard.first;
+            calls = heard.calls;
+            mover = heard.mover;
+          }
+
   pub put : (copy : LocalObject) (p : ℕ) (bank : Option KeptBank) → IsTowards moves local copy
       → IsTowards moves local (record copy { places = with_bank_here copy.places p bank })
   put copy p bank towards = record {
@@ -120,21 +140,30 @@ module _ (moves : Type 0) (local : LocalObject) (place : Place) (member : ℕ)
     p = place.position
 
     abbrev letter : Letter
-    letter = letter_to local.places place member asked
+    letter = letter_to local place member asked
+
+    abbrev learnt : LocalObject
+    learnt = layouts_learnt copy letter
 
     abbrev told : LocalObject
     told = learnt_from copy letter
 
     told_known : layout_here told p ≡ Some place.layout
-    told_known = stays_if (with_heard copy p place.layout) (suc p) letter.next p place.layout
-        (now_known copy p place.layout (λ other e. same_Some other place.layout (sym (towards.layouts p other e) ∙ known)))
+    told_known = layout_started learnt (told_start local) p place.layout
+        (stays_if (with_heard copy p place.layout) (suc p) letter.next p place.layout
+        (now_known copy p place.layout (λ other e. same_Some other place.layout (sym (towards.layouts p other e) ∙ known))))
 
-    told_towards : IsTowards moves local told
-    told_towards = heard_if moves local (with_heard copy p place.layout) (suc p) letter.next
+    learnt_towards : IsTowards moves local learnt
+    learnt_towards = heard_if moves local (with_heard copy p place.layout) (suc p) letter.next
         (λ layout e. next_known asked (layout_here local (suc p)) layout e) (heard moves local copy p place.layout known towards)
 
+    told_towards : IsTowards moves local told
+    told_towards = heard_start_too moves local learnt learnt_towards
+
     told_bank : (q other : ℕ) → bank_here told q other ≡ bank_here copy q other
-    told_bank q other = bank_if (with_heard copy p place.layout) (suc p) letter.next q other ∙ bank_learnt copy p place.layout q other
+    told_bank q other =
+        bank_started learnt (told_start local) q other
+        ∙ bank_if (with_heard copy p place.layout) (suc p) letter.next q other ∙ bank_learnt copy p place.layout q other
 
     is_to_copy : is_served copy letter ≡ true
     is_to_copy =
@@ -144,13 +173,19 @@ module _ (moves : Type 0) (local : LocalObject) (place : Place) (member : ℕ)
         ∙ eq-eqb local.node copy.node (sym towards.node)
 
     after_is : after_letter copy letter ≡ (served_here told letter letter.message.body).local
-    after_is = ap (λ b. (all_done fragment copy (cond b (LocalEvent.Serve letter ∷ []) [])).local) is_to_copy
+    after_is =
+        ap (λ b. (all_done fragment copy (cond b (LocalEvent.Serve letter ∷ [])
+        (cond (is_askable letter) (stray_events copy letter) []))).local) is_to_copy
 
     abbrev served : Option KeptBank
     served = kept_bank (bank_in (heard_place told.places p)) member told.delta asked
 
     step_towards : IsTowards moves local (after_letter copy letter)
     step_towards = subst (IsTowards moves local) (sym after_is) (put moves local told p served told_towards)
+
+    -- the copy has the start that the letter tells
+    step_start : KnowsStart local.places local.start → (after_letter copy letter).start ≡ local.start
+    step_start knows = ap (λ (c : LocalObject). c.start) after_is ∙ start_told local knows learnt learnt_towards.start
 
     step_bank : bank_here (after_letter copy letter) p member ≡ kept_after (bank_here copy p member) asked
     step_bank =
@@ -168,18 +203,23 @@ module _ (moves : Type 0) (local : LocalObject) (place : Place) (member : ℕ)
   -- All letters to the place
 
   pub record IsServed (copy : LocalObject) (qs : List Request) : Type 0 where
-    pub towards : IsTowards moves local (after_letters copy (map (letter_to local.places place member) qs))
+    pub towards : IsTowards moves local (after_letters copy (map (letter_to local place member) qs))
+    pub start : KnowsStart local.places local.start → (after_letters copy (map (letter_to local place member) qs)).start
+        ≡ start_after (map (letter_to local place member) qs) copy.start local.start
     pub bank : (b : Bank) → bank_here copy place.position member ≡ kept.Open b
-        → bank_here (after_letters copy (map (letter_to local.places place member) qs)) place.position member
+        → bank_here (after_letters copy (map (letter_to local place member) qs)) place.position member
         ≡ kept.Open (after_requests b qs)
     pub others : (q other : ℕ) → (place.position ≡ q → ⊥)
-        → bank_here (after_letters copy (map (letter_to local.places place member) qs)) q other ≡ bank_here copy q other
+        → bank_here (after_letters copy (map (letter_to local place member) qs)) q other ≡ bank_here copy q other
 
   pub all_served : (copy : LocalObject) → IsTowards moves local copy → (qs : List Request) → IsServed copy qs
-  all_served copy towards [] = record { towards = towards; bank = λ b e. e; others = λ q other apart. refl }
+  all_served copy towards [] = record { towards = towards; start = λ knows. refl; bank = λ b e. e; others = λ q other apart. refl }
   all_served copy towards (asked ∷ qs) =
-      let rest = all_served (after_letter copy (letter_to local.places place member asked)) (step_towards copy towards asked) qs in record {
+      let middle = after_letter copy (letter_to local place member asked) in
+      let rest = all_served middle (step_towards copy towards asked) qs in record {
         towards = rest.towards;
+        start = λ knows. rest.start knows ∙ same_start (map (letter_to local place member) qs) middle.start local.start
+            (step_start copy towards asked knows);
         bank = λ b e.
             rest.bank (bank_after b asked) (step_bank copy towards asked ∙ ap (λ (k : KeptBank). kept_after k asked) e);
         others = λ q other apart. rest.others q other apart ∙ step_others copy towards asked q other apart;

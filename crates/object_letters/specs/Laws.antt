@@ -9,13 +9,14 @@ use Rattle.record.specs.Legal.{is_move}
 use Rattle.local_object.specs.declared.kept_bank.KeptBank.TheVariants as kept
 use Rattle.local_object.specs.Local.{LocalObject, bank_here, layout_here, new_local}
 use Rattle.local_object.specs.Events.{LocalEvent, done_here}
+use Rattle.local_object.specs.Distinct.{KnowsStart}
 use Rattle.local_object.specs.Doing.{is_moving}
 use Rattle.local_object.specs.May.{MayHappenHere}
 use Rattle.local_object.specs.Restarts.{IsKeptHere}
 use Rattle.object_letters.specs.Closing.{after_closing_all}
 use Rattle.object_letters.specs.Hearing.{after_places}
 use Rattle.object_letters.specs.Leading.{HasNextPosition}
-use Rattle.object_letters.specs.Letters.{after_letters, letters_to}
+use Rattle.object_letters.specs.Letters.{after_letters, letters_to, start_after}
 use Rattle.object_letters.specs.Rebuildable.{IsFit, IsRebuildable}
 
 -- all but the banks is as a restart has to keep it, and no bank has served a request
@@ -37,6 +38,14 @@ abbrev pub LettersLeadBack : Type 0
 LettersLeadBack = (mover : ℕ) (local copy : LocalObject) → IsRebuildable local →
     AllByRecursion HasNextPosition local.places → IsBlankOf (local.node ≡ mover) local copy →
     IsKeptHere (local.node ≡ mover) local (after_closing_all (after_letters copy (letters_to local)) local.places)
+
+-- such a copy then has the start of the object, if there are letters, and otherwise the start that it had
+abbrev pub LettersTellStart : Type 0
+LettersTellStart = (mover : ℕ) (local copy : LocalObject) → IsRebuildable local →
+    AllByRecursion HasNextPosition local.places → KnowsStart local.places local.start →
+    IsBlankOf (local.node ≡ mover) local copy →
+    (after_closing_all (after_letters copy (letters_to local)) local.places).start
+    ≡ start_after (letters_to local) copy.start local.start
 
 -- a new object, where nothing but position 0 matters, and no move is open
 abbrev pub NewIsBlank : Type 0

@@ -5,6 +5,7 @@ use Rattle.layout.specs.Layout.{Layout, IsLawful}
 use Rattle.bank.specs.Bank.{Bank}
 use Rattle.object_letters.specs.Reached.{IsReachedBank}
 use Rattle.letter.specs.declared.letter.Letter.{Letter}
+use Rattle.letter.specs.declared.start.Start.{Start}
 use Rattle.local_object.specs.declared.kept_bank.KeptBank.{KeptBank}
 use Rattle.local_object.specs.declared.kept_bank.KeptBank.TheVariants as kept
 use Rattle.local_object.specs.Local.{LocalObject, Place}
@@ -53,13 +54,19 @@ abbrev pub IsLawfulIfThere : Option Layout → Type 0
 IsLawfulIfThere None = Unit {0}
 IsLawfulIfThere (Some layout) = IsLawful layout
 
+-- the layout of a start is lawful, if there is a start
+abbrev pub IsLawfulStart : Option Start → Type 0
+IsLawfulStart None = Unit {0}
+IsLawfulStart (Some start) = IsLawful start.layout
+
 -- the layouts in a letter are lawful
 abbrev pub HasLawfulLayouts : Letter → Type 0
-HasLawfulLayouts letter = IsLawful letter.layout × IsLawfulIfThere letter.next
+HasLawfulLayouts letter = IsLawful letter.layout × IsLawfulIfThere letter.next × IsLawfulStart letter.start
 
--- the layouts in the letter of an event, or of the start that the node hears of, are lawful
+-- the layouts in the letter of an event are lawful
 abbrev pub IsFit : LocalEvent → Type 0
 IsFit (LocalEvent.Serve letter) = HasLawfulLayouts letter
 IsFit (LocalEvent.Take letter) = HasLawfulLayouts letter
-IsFit (LocalEvent.Hear start layout) = IsLawful layout
+IsFit (LocalEvent.Hear letter) = HasLawfulLayouts letter
+IsFit (LocalEvent.Redirect letter) = HasLawfulLayouts letter
 IsFit event = Unit {0}

@@ -1,11 +1,17 @@
 //! That letters lead back to an object, and of which objects this holds.
-ghost use Rattle.object_letters.specs.Laws.{HeardIsBlank, LettersLeadBack, NewIsBlank, NewIsRebuildable};
-ghost use Rattle.object_letters.specs.Laws.{StaysRebuildable};
+ghost use Rattle.object_letters.specs.Laws.{HeardIsBlank, LettersLeadBack, LettersTellStart, NewIsBlank};
+ghost use Rattle.object_letters.specs.Laws.{NewIsRebuildable, StaysRebuildable};
 
 /// A law: if a copy of a rebuildable object is as a restart has to keep it, but for its banks, which have served
 /// nothing, and the node serves the letters to the object, then the copy is as a restart has to keep it.
 pub fn letters_lead_back()
     ensures { LettersLeadBack }
+{}
+
+/// A law: the start of such a copy is then that of the object, if the node served any letter; otherwise it is the one
+/// that the copy had.
+pub fn letters_tell_start()
+    ensures { LettersTellStart }
 {}
 
 /// A law: a new object is such a copy, where no move is open, and where a node that moves objects has heard of no

@@ -7,7 +7,8 @@
 
 pub use bank_laws::{newly_opened_is_reached, requests_lead_there, serving_reaches};
 pub use laws::{
-    heard_is_blank, letters_lead_back, new_is_blank, new_is_rebuildable, stays_rebuildable,
+    heard_is_blank, letters_lead_back, letters_tell_start, new_is_blank, new_is_rebuildable,
+    stays_rebuildable,
 };
 pub use leading::can_be_led_to;
 pub use letters::letters_of;
