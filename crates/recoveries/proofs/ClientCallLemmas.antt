@@ -1,5 +1,5 @@
 -- What a node does alone, and its copy does not: a read or a write takes a reply and goes on.
-use Rattle.std.proofs.Common.{◌≡◌, ℕ, ◌+◌, ◌^◌, inl, inr, Bool, true, false, ◌&&◌, cond, is_some, nat_lt, List, [], ◌∷◌}
+use Rattle.std.proofs.Common.{◌≡◌, ℕ, ◌+◌, ◌^◌, inl, inr, Bool, true, false, ◌&&◌, not, cond, is_some, nat_lt, List, [], ◌∷◌}
 use Rattle.std.proofs.Common.{Option, Some, None, refl, sym, subst, ap, ◌∙◌}
 use Rattle.bank.specs.declared.kind.Kind.{Kind}
 use Rattle.encoder.specs.Fragment.{fragment}
@@ -18,12 +18,13 @@ use Rattle.local_object.specs.Events.{LocalEvent, advanced_at, advanced_here, al
 use Rattle.local_object.specs.Outcomes.{learnt_from, on_open_call}
 use Rattle.local_object.specs.Going.{next_if}
 use Rattle.local_object.specs.Local.{LocalObject, layout_here}
-use Rattle.local_object.specs.Starting.{anew_number, reads_at, reads_here}
+use Rattle.local_object.specs.ReadingOn.{read_on_events, reads_on}
+use Rattle.local_object.specs.Starting.{anew_number, number_at, reads_at, reads_here}
 use Rattle.local_object.specs.Taking.{AreSettling, GoesOn, IsReplyOutcome, begin_anew_events, begin_events, call_events, can_begin}
 use Rattle.local_object.specs.Taking.{can_begin_anew, going_events, is_read_begin, lead_events, machine_of, repeats, restart_events}
 use Rattle.local_object.specs.Taking.{step_events}
 use Rattle.local_object.proofs.HeardLayoutLemmas.{calls_heard}
-use Rattle.recoveries.proofs.KeptPlaceLemmas.{letter_alone}
+use Rattle.recoveries.proofs.HeardLetterLemmas.{letter_alone}
 use Rattle.recoveries.proofs.KeptCallLemmas.{IsObjectCopy, found_id, moves_call, with_client, without_client}
 use Rattle.recoveries.proofs.TwinLemmas.{advanced_is, found_new, settled_is, taken_is}
 use Rattle.recoveries.proofs.GrownStartLemmas.{grow_alone, grown, grown_found}
@@ -57,6 +58,12 @@ module _ (moves : Type 0) (local copy : LocalObject) (is : IsObjectCopy moves lo
       subst (λ o. IsObjectCopy moves
       (on_open_call local o (λ call. reads_here local call (anew_number call local.start))).local copy) (sym found)
       (read_alone (anew_number call local.start) (layout_here local local.start))
+
+  client_reads_on : IsObjectCopy moves (done_here fragment local (LocalEvent.ReadOn id)).local copy
+  client_reads_on =
+      subst (λ o. IsObjectCopy moves
+      (on_open_call local o (λ call. reads_here local call (number_at call local.start))).local copy) (sym found)
+      (read_alone (number_at call local.start) (layout_here local local.start))
 
   client_ends : IsObjectCopy moves (done_here fragment local (LocalEvent.Answer id)).local copy
   client_ends = without_client moves local copy is id call found client
@@ -176,3 +183,24 @@ module _ (moves : Type 0) (local copy : LocalObject) (is : IsObjectCopy moves lo
           absurd (untaken (open_call local.calls letter.message.call) f (is_request letter.message.body)
           (nat_lt (letter.message.position + 1) (2 ^ 32)) e)
       go true e taken (Some call) f client = client_taken call f client new sent ended taken
+
+-- A read or a write goes on at the start
+
+-- a call that goes on there is no move
+not_move : (move more rest : Bool) → ((not move && more) && rest) ≡ true → move ≡ false
+not_move true more rest e = absurd (cc)
+not_move false more rest e = refl
+
+pub reads_on_alone : (moves : Type 0) (local copy : LocalObject) → IsObjectCopy moves local copy → (id : ℕ) →
+    IsObjectCopy moves (all_done fragment local (read_on_events local id)).local copy
+reads_on_alone moves local copy is id = go (open_call local.calls id) refl
+  where
+    by : (call : NodeCall) → open_call local.calls id ≡ Some call → (b : Bool) → reads_on local (Some call) ≡ b →
+        IsObjectCopy moves (all_done fragment local (cond b (LocalEvent.ReadOn id ∷ []) [])).local copy
+    by call found true e = client_reads_on moves local copy is id call found (not_move (moves_call call) _ _ e)
+    by call found false e = is
+
+    go : (o : Option NodeCall) → open_call local.calls id ≡ o →
+        IsObjectCopy moves (all_done fragment local (cond (reads_on local o) (LocalEvent.ReadOn id ∷ []) [])).local copy
+    go None none = is
+    go (Some call) found = by call found (reads_on local (Some call)) refl

@@ -9,8 +9,9 @@ use Rattle.std.proofs.lemmas.Bool.Decides.{Decides-eqb}
 use Rattle.std.proofs.lemmas.Slice.Eq.{slice_eq-Decides}
 use Rattle.layout.specs.Layout.{Layout}
 use Rattle.letter.specs.declared.letter.Letter.{Letter}
-use Rattle.local_object.specs.Local.{LocalObject, layout_here, with_heard}
-use Rattle.local_object.specs.Agreement.{agrees, if_there, is_heard, is_not_another, knows_all_of, same_layout}
+use Rattle.letter.specs.declared.start.Start.{Start}
+use Rattle.local_object.specs.Local.{LocalObject, heard_start_if, layout_here, learnt_if, with_heard}
+use Rattle.local_object.specs.Agreement.{agrees, if_there, is_heard, is_not_another, knows_all_of, same_layout, start_passes}
 use Rattle.local_object.proofs.HeardPlaceLemmas.{layout_learnt, layout_new, layout_stays}
 
 -- the node has heard of no layout for the position, or of this one
@@ -44,36 +45,68 @@ there_by : (test : Layout → Bool) (o : Option Layout) (layout : Layout) → if
 there_by test None layout e is = absurd (cc)
 there_by test (Some other) layout e is = ap test (sym (same_Some other layout is)) ∙ e
 
+passes_by : (test : Option Layout → Layout → Bool) (local : LocalObject) (o : Option Start) (start : Start) →
+    start_passes test local o ≡ true → o ≡ Some start → test (layout_here local start.position) start.layout ≡ true
+passes_by test local None start e is = absurd (cc)
+passes_by test local (Some other) start e is =
+    ap (λ (s : Start). test (layout_here local s.position) s.layout) (sym (same_Some other start is)) ∙ e
+
+-- the three tests of a letter
+three : (a b c : Bool) → (a && (b && c)) ≡ true → (a ≡ true) × (b ≡ true) × (c ≡ true)
+three a b c e = let first = both a (b && c) e in let rest = both b c first.1 in (first.0, rest.0, rest.1)
+
+agree_by : (local : LocalObject) (letter : Letter) → agrees local letter ≡ true →
+    (is_not_another (layout_here local letter.message.position) letter.layout ≡ true)
+    × (if_there (is_not_another (layout_here local (suc letter.message.position))) letter.next ≡ true)
+    × (start_passes is_not_another local letter.start ≡ true)
+agree_by local letter e =
+    three (is_not_another (layout_here local letter.message.position) letter.layout)
+    (if_there (is_not_another (layout_here local (suc letter.message.position))) letter.next)
+    (start_passes is_not_another local letter.start) e
+
 -- a letter with which the node agrees fits what it has heard of
 pub letter_fits : (local : LocalObject) (letter : Letter) → agrees local letter ≡ true →
     Fits local letter.message.position letter.layout
 letter_fits local letter e =
-    let o = layout_here local letter.message.position in
-    let next = if_there (is_not_another (layout_here local (suc letter.message.position))) letter.next in
-    fits_by o letter.layout (both (is_not_another o letter.layout) next e).0
+    fits_by (layout_here local letter.message.position) letter.layout (agree_by local letter e).0
 
 pub next_fits : (local : LocalObject) (letter : Letter) → agrees local letter ≡ true → (next : Layout) → letter.next ≡ Some next →
     Fits local (suc letter.message.position) next
 next_fits local letter e next is =
     let o = layout_here local (suc letter.message.position) in
-    let rest =
-    both (is_not_another (layout_here local letter.message.position) letter.layout) (if_there (is_not_another o) letter.next) e in
-    fits_by o next (there_by (is_not_another o) letter.next next rest.1 is)
+    fits_by o next (there_by (is_not_another o) letter.next next (agree_by local letter e).1 is)
+
+pub start_fits : (local : LocalObject) (letter : Letter) → agrees local letter ≡ true → (start : Start) → letter.start ≡ Some start →
+    Fits local start.position start.layout
+start_fits local letter e start is =
+    fits_by (layout_here local start.position) start.layout
+    (passes_by is_not_another local letter.start start (agree_by local letter e).2 is)
+
+know_by : (local : LocalObject) (letter : Letter) → knows_all_of local letter ≡ true →
+    (is_heard (layout_here local letter.message.position) letter.layout ≡ true)
+    × (if_there (is_heard (layout_here local (suc letter.message.position))) letter.next ≡ true)
+    × (start_passes is_heard local letter.start ≡ true)
+know_by local letter e =
+    three (is_heard (layout_here local letter.message.position) letter.layout)
+    (if_there (is_heard (layout_here local (suc letter.message.position))) letter.next) (start_passes is_heard local letter.start) e
 
 -- the layouts of a letter are heard of, if the node knows all of them
 pub letter_heard : (local : LocalObject) (letter : Letter) → knows_all_of local letter ≡ true →
     layout_here local letter.message.position ≡ Some letter.layout
 letter_heard local letter e =
-    let o = layout_here local letter.message.position in
-    let next = if_there (is_heard (layout_here local (suc letter.message.position))) letter.next in
-    heard_by o letter.layout (both (is_heard o letter.layout) next e).0
+    heard_by (layout_here local letter.message.position) letter.layout (know_by local letter e).0
 
 pub next_heard : (local : LocalObject) (letter : Letter) → knows_all_of local letter ≡ true → (next : Layout) → letter.next ≡ Some next →
     layout_here local (suc letter.message.position) ≡ Some next
 next_heard local letter e next is =
     let o = layout_here local (suc letter.message.position) in
-    let rest = both (is_heard (layout_here local letter.message.position) letter.layout) (if_there (is_heard o) letter.next) e in
-    heard_by o next (there_by (is_heard o) letter.next next rest.1 is)
+    heard_by o next (there_by (is_heard o) letter.next next (know_by local letter e).1 is)
+
+pub start_heard : (local : LocalObject) (letter : Letter) → knows_all_of local letter ≡ true → (start : Start) →
+    letter.start ≡ Some start → layout_here local start.position ≡ Some start.layout
+start_heard local letter e start is =
+    heard_by (layout_here local start.position) start.layout
+    (passes_by is_heard local letter.start start (know_by local letter e).2 is)
 
 -- the layout of a position after the node hears of one
 abbrev pub or_heard : Option Layout → Bool → Layout → Option Layout
@@ -127,3 +160,54 @@ fits_later local p layout next fits = go fits
     go : Fits local (suc p) next → Fits (with_heard local p layout) (suc p) next
     go (inl none) = inl (same ∙ none)
     go (inr known) = inr (same ∙ known)
+
+-- What stays known, and what a copy that has not heard of a position tells of the node
+
+pub stays_if : (local : LocalObject) (p : ℕ) (o : Option Layout) (q : ℕ) (layout : Layout) → layout_here local q ≡ Some layout →
+    layout_here (learnt_if local p o) q ≡ Some layout
+stays_if local p None q layout e = e
+stays_if local p (Some other) q layout e = layout_stays local p other q layout e
+
+pub stays_started : (local : LocalObject) (o : Option Start) (q : ℕ) (layout : Layout) → layout_here local q ≡ Some layout →
+    layout_here (heard_start_if local o) q ≡ Some layout
+stays_started local None q layout e = e
+stays_started local (Some start) q layout e = layout_stays local start.position start.layout q layout e
+
+unheard_by : (o : Option Layout) (b : Bool) (layout : Layout) → or_heard o b layout ≡ None → (o ≡ None) × (b ≡ false)
+unheard_by None true layout e = absurd (cc)
+unheard_by None false layout e = (refl, refl)
+unheard_by (Some known) b layout e = absurd (cc)
+
+or_same : (o : Option Layout) (layout : Layout) → or_heard o false layout ≡ o
+or_same None layout = refl
+or_same (Some known) layout = refl
+
+-- a position that is not known after the copy heard of another one was not known before, and is no other for the node
+module _ (local copy : LocalObject) (p : ℕ) (layout : Layout) (q : ℕ) where
+  pub unheard : layout_here (with_heard copy p layout) q ≡ None → layout_here copy q ≡ None
+  unheard none = (unheard_by (layout_here copy q) (eqb p q) layout (sym (layout_after copy p layout q) ∙ none)).0
+
+  pub fits_still : (other : Layout) → layout_here (with_heard copy p layout) q ≡ None → Fits local q other →
+      Fits (with_heard local p layout) q other
+  fits_still other none fits = go fits
+    where
+      same : layout_here (with_heard local p layout) q ≡ layout_here local q
+      same =
+          layout_after local p layout q
+          ∙ ap (λ b. or_heard (layout_here local q) b layout)
+          (unheard_by (layout_here copy q) (eqb p q) layout (sym (layout_after copy p layout q) ∙ none)).1
+          ∙ or_same (layout_here local q) layout
+
+      go : Fits local q other → Fits (with_heard local p layout) q other
+      go (inl unknown) = inl (same ∙ unknown)
+      go (inr known) = inr (same ∙ known)
+
+module _ (local copy : LocalObject) (p : ℕ) (q : ℕ) where
+  pub unheard_if : (o : Option Layout) → layout_here (learnt_if copy p o) q ≡ None → layout_here copy q ≡ None
+  unheard_if None none = none
+  unheard_if (Some layout) none = unheard local copy p layout q none
+
+  pub fits_still_if : (o : Option Layout) (other : Layout) → layout_here (learnt_if copy p o) q ≡ None → Fits local q other →
+      Fits (learnt_if local p o) q other
+  fits_still_if None other none fits = fits
+  fits_still_if (Some layout) other none fits = fits_still local copy p layout q other none fits

@@ -1,18 +1,14 @@
 -- What a restart keeps of the positions of one object, where the node hears of positions, and where a bank changes.
-use Rattle.std.proofs.Common.{◌≡◌, ℕ, suc, ◌⊎◌, inl, inr, Bool, true, false, eqb, eqb-true, eq-eqb, Option, Some, None, IsSome, is_some}
+use Rattle.std.proofs.Common.{◌≡◌, ℕ, ◌⊎◌, inl, inr, Bool, true, false, eqb, eqb-true, eq-eqb, Option, Some, None, IsSome, is_some}
 use Rattle.std.proofs.Common.{slice_get, refl, sym, subst, ap, ◌∙◌}
 use Rattle.std.proofs.lemmas.Option.{same_Some}
 use Rattle.layout.specs.Layout.{Layout}
-use Rattle.letter.specs.declared.letter.Letter.{Letter}
 use Rattle.local_object.specs.declared.kept_bank.KeptBank.{KeptBank}
-use Rattle.local_object.specs.Local.{LocalObject, bank_here, bank_or_opened, layout_here, with_heard, learnt_if, with_bank_here}
-use Rattle.local_object.specs.Outcomes.{learnt_from}
-use Rattle.local_object.specs.Agreement.{agrees, knows_all_of}
+use Rattle.local_object.specs.Local.{LocalObject, bank_here, bank_or_opened, layout_here, with_heard, with_bank_here}
 use Rattle.local_object.specs.Restarts.{IsKeptHere}
 use Rattle.local_object.proofs.HeardPlaceLemmas.{bank_learnt, bank_with_here, bank_with_there, layout_learnt, layout_stays, layout_with}
 use Rattle.local_object.proofs.HeardPlaceLemmas.{no_bank_here}
-use Rattle.recoveries.proofs.HeardLayoutLemmas.{Fits, fits_known, fits_later, layout_after, letter_fits, letter_heard, next_fits}
-use Rattle.recoveries.proofs.HeardLayoutLemmas.{next_heard, or_heard}
+use Rattle.recoveries.proofs.HeardLayoutLemmas.{Fits, fits_known, layout_after, or_heard}
 
 -- where the node moves objects, the copy has heard of the same layouts
 pub layouts_kept : (moves : Type 0) (local copy : LocalObject) → IsKeptHere moves local copy → moves → (q : ℕ) →
@@ -93,17 +89,22 @@ module _ (moves : Type 0) (local copy : LocalObject) (kept : IsKeptHere moves lo
       go (Some other) e (inl none) = absurd (let wrong : None ≡ Some other = sym none ∙ kept.layouts p other e in cc)
       go (Some other) e (inr known) = inr (e ∙ ap Some (same_Some other layout (sym (kept.layouts p other e) ∙ known)))
 
-  pub both_fitting : Fits local p layout → IsKeptHere moves (with_heard local p layout) (with_heard copy p layout)
+  -- where it fits, if the copy had not heard of the position
+  pub both_fitting : (layout_here copy p ≡ None → Fits local p layout) →
+      IsKeptHere moves (with_heard local p layout) (with_heard copy p layout)
   both_fitting fits =
       both_by
-      (λ q other e. within q other (layout_learnt copy p layout q other e))
+      (λ q other e. within q other (layout_here copy q) refl (eqb p q) refl (sym (layout_after copy p layout q) ∙ e))
       (λ here q other e. same_after here q ∙ e)
     where
-      within : (q : ℕ) (other : Layout) → (layout_here copy q ≡ Some other) ⊎ ((p ≡ q) × (layout ≡ other)) →
-          layout_here (with_heard local p layout) q ≡ Some other
-      within q other (inl known) = layout_stays local p layout q other (kept.layouts q other known)
-      within q other (inr new) =
-          ap (layout_here (with_heard local p layout)) (sym new.0) ∙ fits_known local p layout fits ∙ ap Some new.1
+      within : (q : ℕ) (other : Layout) (o : Option Layout) → layout_here copy q ≡ o → (b : Bool) → eqb p q ≡ b →
+          or_heard o b layout ≡ Some other → layout_here (with_heard local p layout) q ≡ Some other
+      within q other (Some known) at b t is = layout_stays local p layout q other (kept.layouts q other (at ∙ is))
+      within q other None none true t is =
+          let here = eqb-true p q t in
+          ap (layout_here (with_heard local p layout)) (sym here)
+          ∙ fits_known local p layout (fits (ap (layout_here copy) here ∙ none)) ∙ is
+      within q other None none false t is = absurd (cc)
 
   -- the node alone hears of a position
   pub heard_alone : (moves → layout_here local p ≡ Some layout) → IsKeptHere moves (with_heard local p layout) copy
@@ -122,47 +123,6 @@ module _ (moves : Type 0) (local copy : LocalObject) (kept : IsKeptHere moves lo
           layout_here copy q ≡ Some other
       back here q other (inl is) = kept.mover here q other is
       back here q other (inr new) = kept.mover here q other (ap (layout_here local) (sym new.0) ∙ known here ∙ ap Some new.1)
-
--- Both hear of the layouts in a letter
-
-both_moving_if : (moves : Type 0) (local copy : LocalObject) → IsKeptHere moves local copy → (p : ℕ) (o : Option Layout) → moves →
-    IsKeptHere moves (learnt_if local p o) (learnt_if copy p o)
-both_moving_if moves local copy kept p None here = kept
-both_moving_if moves local copy kept p (Some layout) here = both_moving moves local copy kept p layout here
-
-both_fitting_if : (moves : Type 0) (local copy : LocalObject) → IsKeptHere moves local copy → (p : ℕ) (o : Option Layout) →
-    ((layout : Layout) → o ≡ Some layout → Fits local p layout) → IsKeptHere moves (learnt_if local p o) (learnt_if copy p o)
-both_fitting_if moves local copy kept p None fits = kept
-both_fitting_if moves local copy kept p (Some layout) fits = both_fitting moves local copy kept p layout (fits layout refl)
-
-heard_alone_if : (moves : Type 0) (local copy : LocalObject) → IsKeptHere moves local copy → (p : ℕ) (o : Option Layout) →
-    (moves → (layout : Layout) → o ≡ Some layout → layout_here local p ≡ Some layout) → IsKeptHere moves (learnt_if local p o) copy
-heard_alone_if moves local copy kept p None known = kept
-heard_alone_if moves local copy kept p (Some layout) known =
-    heard_alone moves local copy kept p layout (λ here. known here layout refl)
-
-module _ (moves : Type 0) (local copy : LocalObject) (kept : IsKeptHere moves local copy) (letter : Letter) where
-  pub letter_moving : moves → IsKeptHere moves (learnt_from local letter) (learnt_from copy letter)
-  letter_moving here =
-      let position = letter.message.position in
-      both_moving_if moves (with_heard local position letter.layout) (with_heard copy position letter.layout)
-      (both_moving moves local copy kept position letter.layout here) (suc position) letter.next here
-
-  pub letter_fitting : agrees local letter ≡ true → IsKeptHere moves (learnt_from local letter) (learnt_from copy letter)
-  letter_fitting agreed =
-      let position = letter.message.position in
-      both_fitting_if moves (with_heard local position letter.layout) (with_heard copy position letter.layout)
-      (both_fitting moves local copy kept position letter.layout (letter_fits local letter agreed)) (suc position) letter.next
-      (λ next is. fits_later local position letter.layout next (next_fits local letter agreed next is))
-
-  pub letter_alone : (moves → knows_all_of local letter ≡ true) → IsKeptHere moves (learnt_from local letter) copy
-  letter_alone knows =
-      let position = letter.message.position in
-      heard_alone_if moves (with_heard local position letter.layout) copy
-      (heard_alone moves local copy kept position letter.layout (λ here. letter_heard local letter (knows here))) (suc position)
-      letter.next
-      (λ here next is.
-      layout_stays local position letter.layout (suc position) next (next_heard local letter (knows here) next is))
 
 -- A bank changes
 

@@ -1,5 +1,6 @@
 -- The letters that a node sends have lawful layouts, if its objects are its own.
-use Rattle.std.proofs.Common.{◌≡◌, ℕ, zero, suc, List, [], ◌∷◌, map, Option, None, Some, slice_get, refl, subst}
+use Rattle.std.proofs.Common.{◌≡◌, ℕ, zero, suc, Bool, true, false, cond, eqb, List, [], ◌∷◌, map, Option, None, Some, slice_get}
+use Rattle.std.proofs.Common.{refl, subst}
 use Rattle.std.specs.List.{AllByRecursion}
 use Rattle.bank.specs.Bank.{empty_piece}
 use Rattle.bank.specs.declared.kind.Kind.{Kind}
@@ -22,15 +23,17 @@ use Rattle.record.specs.declared.call.CallKind.{CallKind}
 use Rattle.record.specs.declared.stage.Stage.{Stage}
 use Rattle.record.specs.Sending.{request_to, requests}
 use Rattle.letter.specs.declared.letter.Letter.{Letter}
+use Rattle.letter.specs.declared.start.Start.{Start}
 use Rattle.local_object.specs.Events.{LocalEvent, advanced_at, advanced_here, done_here, pieces_here, reply_letters, served_here}
 use Rattle.local_object.specs.Outcomes.{begun_here, if_pointed, learnt_from, letter_of, next_in_answer, next_in_request}
 use Rattle.local_object.specs.Outcomes.{on_open_call, silent}
 use Rattle.local_object.specs.Starting.{anew_number, number_at, reads_at, reads_here}
 use Rattle.local_object.specs.KeptBanks.{kept_reply}
-use Rattle.local_object.specs.Local.{LocalObject, Place, bank_here, heard_place, last_position, layout_here, layout_in, with_heard}
+use Rattle.local_object.specs.Local.{LocalObject, Place, bank_here, heard_place, last_position, layout_here, layout_in, start_at}
+use Rattle.local_object.specs.Local.{told_start, with_heard}
 use Rattle.local_object.specs.May.{MayHappenHere}
 use Rattle.local_object.specs.Resent.{IsResent, current_letters}
-use Rattle.object_letters.specs.Rebuildable.{HasLawfulLayouts, IsFit, IsLawfulIfThere, IsOwnPlace, IsRebuildable}
+use Rattle.object_letters.specs.Rebuildable.{HasLawfulLayouts, IsFit, IsLawfulIfThere, IsLawfulStart, IsOwnPlace, IsRebuildable}
 use Rattle.object_letters.proofs.PlaceLetterLemmas.{at_place}
 use Rattle.object_letters.proofs.HeardPositionLemmas.{heard_rebuildable, letter_rebuildable}
 
@@ -42,6 +45,18 @@ known_lawful local is q = go (heard_place local.places q) refl
     go : (o : Option Place) → heard_place local.places q ≡ o → IsLawfulIfThere (layout_in o)
     go None e = tt
     go (Some place) e = (at_place (IsOwnPlace local.node local.delta) local.places q place is.places e).0.lawful
+
+start_lawful : (position : ℕ) (o : Option Layout) → IsLawfulIfThere o → IsLawfulStart (start_at position o)
+start_lawful position None lawful = tt
+start_lawful position (Some layout) lawful = go (eqb position 0)
+  where
+    go : (b : Bool) → IsLawfulStart (cond b None (Some (let s : Start = record { position = position; layout = layout } in s)))
+    go true = tt
+    go false = lawful
+
+-- the start that a node tells
+told_lawful : (local : LocalObject) → IsRebuildable local → IsLawfulStart (told_start local)
+told_lawful local is = start_lawful local.start (layout_here local local.start) (known_lawful local is local.start)
 
 pointed_lawful : (said : Status) (o : Option Layout) → IsLawfulIfThere o → IsLawfulIfThere (if_pointed said o)
 pointed_lawful status.Unset o lawful = tt
@@ -70,7 +85,7 @@ requests_lawful : (local : LocalObject) (layout : Layout) (call number : ℕ) (k
 requests_lawful local layout call number kind position [] member piece is lawful = tt
 requests_lawful local layout call number kind position (server ∷ servers) member piece is lawful =
     let next = request_lawful (request_to kind (piece member)) (layout_here local (suc position)) (known_lawful local is (suc position)) in
-    ((lawful, next), requests_lawful local layout call number kind position servers (suc member) piece is lawful)
+    ((lawful, next, told_lawful local is), requests_lawful local layout call number kind position servers (suc member) piece is lawful)
 
 begun_lawful : (local : LocalObject) (id : ℕ) (call_kind : CallKind) (stage : Stage) (kind : Kind) (number position : ℕ)
     (o : Option Layout) → IsRebuildable local → IsLawfulIfThere o →
@@ -122,7 +137,8 @@ served_lawful local letter (body.Request asked) is lawful = go (kept_reply (bank
 
     go : (o : Option Reply) → AllByRecursion HasLawfulLayouts (reply_letters local letter o)
     go None = tt
-    go (Some reply) = ((lawful, answer_lawful reply.answer (layout_here local (suc q)) (known_lawful local is (suc q))), tt)
+    go (Some reply) =
+        ((lawful, answer_lawful reply.answer (layout_here local (suc q)) (known_lawful local is (suc q)), told_lawful local is), tt)
 served_lawful local letter (body.Reply kind made) is lawful = tt
 
 pub event_lawful : (local : LocalObject) (event : LocalEvent) → IsRebuildable local → MayHappenHere fragment local event →
@@ -146,7 +162,8 @@ event_lawful local (LocalEvent.Answer id) is may fit = tt
 event_lawful local (LocalEvent.GiveUp id) is may fit = tt
 event_lawful local (LocalEvent.Close position) is may fit = tt
 event_lawful local (LocalEvent.Grow id) is may fit = tt
-event_lawful local (LocalEvent.Hear start layout) is may fit = tt
+event_lawful local (LocalEvent.Hear letter) is may fit = tt
+event_lawful local (LocalEvent.Redirect letter) is may fit = ((fit.0, fit.1, told_lawful local is), tt)
 event_lawful local (LocalEvent.ReadOn id) is may fit =
     reading_lawful local (open_call local.calls id) (λ call. number_at call local.start) is
 event_lawful local (LocalEvent.BeginAnew id) is may fit =

@@ -1,5 +1,6 @@
 pub mod HeardLayoutLemmas
 pub mod KeptPlaceLemmas
+pub mod HeardLetterLemmas
 pub mod KeptCallLemmas
 pub mod TwinLemmas
 pub mod GrownStartLemmas

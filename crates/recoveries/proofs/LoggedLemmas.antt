@@ -7,16 +7,17 @@ use Rattle.encoder.specs.Fragment.{fragment}
 use Rattle.local_object.specs.Doing.{close_events, give_up_events, serve_events}
 use Rattle.local_object.specs.Events.{LocalEvent, all_done}
 use Rattle.local_object.specs.Local.{LocalObject}
+use Rattle.local_object.specs.ReadingOn.{read_on_events}
 use Rattle.local_object.specs.Restarts.{IsKeptHere}
 use Rattle.deeds.specs.Kept.{KeptNode}
 use Rattle.recoveries.specs.Copies.{IsCopyOf, IsLogged}
-use Rattle.recoveries.specs.Laws.{ClosesAreLogged}
-use Rattle.recoveries.specs.Laws.{GivenUpNeedsNoRecord, MovesAreLogged, ReadsNeedNoRecord, SameNeedsNoRecord, ServedIsLogged}
+use Rattle.recoveries.specs.Laws.{ClosesAreLogged, GivenUpNeedsNoRecord, MovesAreLogged, ReadingOnNeedsNoRecord, ReadsNeedNoRecord}
+use Rattle.recoveries.specs.Laws.{SameNeedsNoRecord, ServedIsLogged}
 use Rattle.recoveries.specs.Laws.{StartsAreLogged, TakenIsLogged, TakenNeedsNoRecord, UnchangedNeedsNoRecord, WritesNeedNoRecord}
 use Rattle.recoveries.specs.Records.{IsNamedOutcome, IsKeptUnder, IsStarted, LogRecord, RecoversOne}
 use Rattle.recoveries.proofs.KeptCallLemmas.{IsObjectCopy}
 use Rattle.recoveries.proofs.TakenReplyLemmas.{move_takes}
-use Rattle.recoveries.proofs.ClientCallLemmas.{client_takes}
+use Rattle.recoveries.proofs.ClientCallLemmas.{client_takes, reads_on_alone}
 use Rattle.recoveries.proofs.ServedLetterLemmas.{both_serve, serves_alone}
 use Rattle.recoveries.proofs.BegunCallLemmas.{given_up, move_begins, read_begins, write_begins}
 use Rattle.recoveries.proofs.ClosedBankLemmas.{both_close}
@@ -153,6 +154,11 @@ pub writes_unlogged : WritesNeedNoRecord
 writes_unlogged old new name id value free done =
     done_alone old new name (LocalEvent.BeginWrite id value ∷ []) done
     (λ copy is. write_begins (Moves old) (old.objects name) copy is id value free)
+
+pub reading_on_unlogged : ReadingOnNeedsNoRecord
+reading_on_unlogged old new name id done =
+    done_alone old new name (read_on_events (old.objects name) id) done
+    (λ copy is. reads_on_alone (Moves old) (old.objects name) copy is id)
 
 pub given_up_unlogged : GivenUpNeedsNoRecord
 given_up_unlogged old new name id done =

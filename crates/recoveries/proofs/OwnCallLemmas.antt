@@ -14,14 +14,14 @@ use Rattle.layout.specs.Layout.{Layout}
 use Rattle.local_object.specs.Events.{LocalEvent, advanced_here, done_here}
 use Rattle.local_object.specs.Outcomes.{begun_here, learnt_from, silent}
 use Rattle.local_object.specs.Starting.{anew_number, number_at, reads_here}
-use Rattle.local_object.specs.Local.{LocalObject, heard_start, last_position, layout_here, with_heard}
+use Rattle.local_object.specs.Local.{LocalObject, last_position, layout_here, with_heard}
 use Rattle.open_calls.specs.OpenCalls.{taking_open, NodeCall, due_phase, open_call, with_open, without_call}
 use Rattle.deeds.proofs.UsedIdLemmas.{next_unused}
 use Rattle.record.specs.Legal.{is_move}
 use Rattle.record.specs.declared.call.CallKind.{CallKind}
 use Rattle.record.specs.declared.stage.Stage.{Stage}
 use Rattle.open_calls.proofs.DistinctCallLemmas.{distinct_push}
-use Rattle.recoveries.proofs.StayingCallLemmas.{due_own, filter_own, letter_same, on_open_same, reads_own, served_own, start_own, with_own}
+use Rattle.recoveries.proofs.StayingCallLemmas.{due_own, filter_own, letter_same, on_open_same, reads_own, served_own, with_own}
 use Rattle.recoveries.specs.OwnCalls.{AreOwnCalls, HandlingKeepsOwnCalls, NewNodesHaveOwnCalls, RestartingKeepsOwnCalls, WasGiven}
 
 -- Ids
@@ -118,8 +118,9 @@ event_own local (LocalEvent.GiveUp id) before after same within own =
     subst (λ ids. AreOwnCalls ids (without_call id local.calls)) same
     (filter_own (λ call. not (eqb call.id id)) local.calls before own)
 event_own local (LocalEvent.Grow id) before after same within own = subst (λ ids. AreOwnCalls ids local.calls) same own
-event_own local (LocalEvent.Hear start layout) before after same within own =
-    subst (λ ids. AreOwnCalls ids (heard_start local start layout).calls) same (start_own local start layout before own)
+event_own local (LocalEvent.Hear letter) before after same within own =
+    subst (λ ids. AreOwnCalls ids (learnt_from local letter).calls) same (letter_same local letter before own)
+event_own local (LocalEvent.Redirect letter) before after same within own = subst (λ ids. AreOwnCalls ids local.calls) same own
 event_own local (LocalEvent.ReadOn id) before after same within own =
     subst (λ ids. AreOwnCalls ids (done_here fragment local (LocalEvent.ReadOn id)).local.calls) same
     (on_open_same local (open_call local.calls id) (λ call. reads_here local call (number_at call local.start))

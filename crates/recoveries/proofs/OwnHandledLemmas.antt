@@ -41,7 +41,8 @@ event_fit got name (LocalEvent.Answer id) lawful fed = tt
 event_fit got name (LocalEvent.GiveUp id) lawful fed = tt
 event_fit got name (LocalEvent.Close position) lawful fed = tt
 event_fit got name (LocalEvent.Grow id) lawful fed = tt
-event_fit got name (LocalEvent.Hear start layout) lawful fed = absurd (fed)
+event_fit got name (LocalEvent.Hear letter) lawful fed = of_one IsLawfulLetter got lawful fed.0 _ fed.1
+event_fit got name (LocalEvent.Redirect letter) lawful fed = of_one IsLawfulLetter got lawful fed.0 _ fed.1
 event_fit got name (LocalEvent.ReadOn id) lawful fed = tt
 event_fit got name (LocalEvent.BeginAnew id) lawful fed = tt
 

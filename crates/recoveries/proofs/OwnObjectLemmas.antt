@@ -1,6 +1,5 @@
 -- All objects of a node are its own.
 use Rattle.std.proofs.Common.{◌≡◌, ℕ, suc, Bool, true, false, cond, List, [], ◌∷◌, Option, Some, None, refl, sym, subst, ◌∙◌}
-use Rattle.std.proofs.Common.{nat_lt}
 use Rattle.std.specs.List.{AllByRecursion}
 use Rattle.layout.specs.Layout.{Layout}
 use Rattle.bank.specs.declared.kind.Kind.{Kind}
@@ -11,10 +10,11 @@ use Rattle.record.specs.declared.call.CallKind.{CallKind}
 use Rattle.record.specs.declared.stage.Stage.{Stage}
 use Rattle.open_calls.specs.OpenCalls.{NodeCall, due_phase, open_call, with_open, taking_open}
 use Rattle.letter.specs.declared.letter.Letter.{Letter}
+use Rattle.letter.specs.declared.start.Start.{Start}
 use Rattle.local_object.specs.Events.{LocalEvent, advanced_at, advanced_here, all_done, done_here, served_here}
-use Rattle.local_object.specs.Outcomes.{Outcome, begun_here, learnt_from, on_open_call, silent}
+use Rattle.local_object.specs.Outcomes.{Outcome, begun_here, layouts_learnt, learnt_from, on_open_call, silent}
 use Rattle.local_object.specs.Starting.{anew_number, number_at, reads_at, reads_here}
-use Rattle.local_object.specs.Local.{LocalObject, heard_start, last_position, layout_here, learnt_if, with_heard}
+use Rattle.local_object.specs.Local.{LocalObject, heard_start_if, last_position, layout_here, learnt_if, with_heard}
 use Rattle.local_object.specs.Doing.{IsOutcome}
 use Rattle.local_object.specs.May.{MayAllHappen, MayHappenHere}
 use Rattle.local_object.proofs.HeardPlaceLemmas.{layout_stays, layout_with}
@@ -53,11 +53,22 @@ module _ (q : ℕ) (layout : Layout) where
   heard_if_same local p None = itself local
   heard_if_same local p (Some other) = heard_same local p other
 
+  start_same : (local : LocalObject) (o : Option Start) → StaysSame q layout local (heard_start_if local o)
+  start_same local None = itself local
+  start_same local (Some start) = record {
+    node = refl;
+    delta = refl;
+    known = λ e. layout_stays local start.position start.layout q layout e;
+  }
+
   letter_same : (local : LocalObject) (letter : Letter) → StaysSame q layout local (learnt_from local letter)
   letter_same local letter =
       let first = with_heard local letter.message.position letter.layout in
-      then_same local first (learnt_from local letter) (heard_same local letter.message.position letter.layout)
-      (heard_if_same first (suc letter.message.position) letter.next)
+      let second = layouts_learnt local letter in
+      then_same local second (learnt_from local letter)
+      (then_same local first second (heard_same local letter.message.position letter.layout)
+      (heard_if_same first (suc letter.message.position) letter.next))
+      (start_same second letter.start)
 
   begun_same : (local : LocalObject) (id : ℕ) (kind : CallKind) (stage : Stage) (asked : Kind) (number p : ℕ)
       (o : Option Layout) → StaysSame q layout local (begun_here local id kind stage asked number p o).local
@@ -82,13 +93,6 @@ module _ (q : ℕ) (layout : Layout) where
       → StaysSame q layout local (reads_at local call number start o).local
   reads_same local call number start None = itself local
   reads_same local call number start (Some other) = record { node = refl; delta = refl; known = λ e. e }
-
-  start_same : (local : LocalObject) (start : ℕ) (other : Layout) → StaysSame q layout local (heard_start local start other)
-  start_same local start other = go (nat_lt local.start start)
-    where
-      go : (b : Bool) → StaysSame q layout local (cond b (record (with_heard local start other) { start = start }) local)
-      go true = record { node = refl; delta = refl; known = λ e. layout_stays local start other q layout e }
-      go false = itself local
 
   served_same : (local : LocalObject) (letter : Letter) (b : Body) → StaysSame q layout local (served_here local letter b).local
   served_same local letter (body.Request asked) = record {
@@ -133,7 +137,8 @@ module _ (q : ℕ) (layout : Layout) where
     known = λ e. layout_with local position _ q ∙ e;
   }
   event_same local (LocalEvent.Grow id) = record { node = refl; delta = refl; known = λ e. e }
-  event_same local (LocalEvent.Hear start other) = start_same local start other
+  event_same local (LocalEvent.Hear letter) = letter_same local letter
+  event_same local (LocalEvent.Redirect letter) = itself local
   event_same local (LocalEvent.ReadOn id) =
       called_same local (open_call local.calls id) (λ call. reads_here local call (number_at call local.start))
       (λ call. reads_same local call (number_at call local.start) local.start (layout_here local local.start))

@@ -1,5 +1,5 @@
 -- What a node carries out again from a log leaves all objects its own.
-use Rattle.std.proofs.Common.{inl, inr, ℕ, Bool, true, false, cond, List, [], ◌∷◌, ◌++◌, Option, None, Some, sym, subst}
+use Rattle.std.proofs.Common.{inl, inr, ℕ, Bool, true, false, cond, List, [], ◌∷◌, ◌++◌, Option, None, Some, is_some, sym, subst}
 use Rattle.std.specs.List.{AllByRecursion}
 use Rattle.bank.specs.declared.kind.Kind.{Kind}
 use Rattle.call.specs.Call.{OpenCall as Machine, reached}
@@ -10,7 +10,7 @@ use Rattle.open_calls.proofs.ListLemmas.{all_append}
 use Rattle.encoder.specs.Fragment.{fragment}
 use Rattle.letter.specs.declared.letter.Letter.{Letter}
 use Rattle.local_object.specs.declared.progress.Ended.{Ended}
-use Rattle.local_object.specs.Doing.{can_close, close_events, is_served, is_taken, serve_events}
+use Rattle.local_object.specs.Doing.{can_close, close_events, is_askable, is_sent_back, is_served, is_taken, serve_events, stray_events}
 use Rattle.local_object.specs.Events.{LocalEvent, all_done}
 use Rattle.local_object.specs.Going.{next_if}
 use Rattle.layout.specs.Layout.{Layout}
@@ -28,11 +28,20 @@ use Rattle.recoveries.specs.RewritingNodes.{HasOwnObjects}
 use Rattle.recoveries.proofs.OwnObjectLemmas.{done_own, put_own, same_own, starts_own}
 
 serve_fit : (local : LocalObject) (letter : Letter) → HasLawfulLayouts letter → AllByRecursion IsFit (serve_events local letter)
-serve_fit local letter lawful = go (is_served local letter)
+serve_fit local letter lawful = go (is_served local letter) (is_askable letter)
   where
-    go : (b : Bool) → AllByRecursion IsFit (cond b (LocalEvent.Serve letter ∷ []) [])
-    go true = (lawful, tt)
-    go false = tt
+    stray : (told back : Bool) →
+        AllByRecursion IsFit (cond told (LocalEvent.Hear letter ∷ []) [] ++ cond back (LocalEvent.Redirect letter ∷ []) [])
+    stray true true = (lawful, (lawful, tt))
+    stray true false = (lawful, tt)
+    stray false true = (lawful, tt)
+    stray false false = tt
+
+    go : (served asks : Bool) →
+        AllByRecursion IsFit (cond served (LocalEvent.Serve letter ∷ []) (cond asks (stray_events local letter) []))
+    go true asks = (lawful, tt)
+    go false true = stray (is_some letter.start) (is_sent_back local letter)
+    go false false = tt
 
 close_fit : (local : LocalObject) (position : ℕ) → AllByRecursion IsFit (close_events local position)
 close_fit local position = go (can_close local position)

@@ -1,6 +1,6 @@
 -- A node serves a letter: its copy serves it too, or need not.
-use Rattle.std.proofs.Common.{◌≡◌, ◌≤◌, ℕ, suc, ◌+◌, ◌^◌, Bool, true, false, ◌&&◌, cond, eqb-true, nat_lt, [], ◌∷◌, Option, Some, None}
-use Rattle.std.proofs.Common.{is_some, slice_get, refl, sym, subst, ap, ◌∙◌}
+use Rattle.std.proofs.Common.{◌≡◌, ℕ, suc, ◌+◌, ◌^◌, Bool, true, false, ◌&&◌, cond, eqb-true, nat_lt, [], ◌∷◌, ◌++◌, Option, Some, None}
+use Rattle.std.proofs.Common.{is_some, slice_get, refl, sym, subst, ap, ◌∙◌, arith}
 use Rattle.std.proofs.lemmas.Option.{same_Some}
 use Rattle.std.specs.List.{filter, list_any}
 use Rattle.bank.specs.declared.request.Request.{Request}
@@ -13,33 +13,42 @@ use Rattle.local_object.specs.Agreement.{agrees, knows_all_of}
 use Rattle.local_object.specs.declared.kept_bank.KeptBank.{KeptBank}
 use Rattle.local_object.specs.ChangedBanks.{kept_after, kept_bank}
 use Rattle.local_object.specs.Changing.{IsUnchangedBy, after_serving}
-use Rattle.local_object.specs.Doing.{is_member, is_served, names_node, serve_events}
+use Rattle.local_object.specs.Doing.{is_askable, is_member, is_sent_back, is_served, names_node, serve_events, stray_events}
 use Rattle.mail.specs.Message.{is_request}
 use Rattle.local_object.specs.Events.{LocalEvent, all_done, served_here}
-use Rattle.local_object.specs.Outcomes.{learnt_from}
-use Rattle.local_object.specs.Local.{LocalObject, bank_here, bank_in, bank_or_opened, heard_place, layout_here, with_heard, learnt_if}
+use Rattle.local_object.specs.Outcomes.{layouts_learnt, learnt_from}
+use Rattle.local_object.specs.Local.{LocalObject, bank_here, bank_in, bank_or_opened, heard_place, layout_here, with_heard}
 use Rattle.local_object.specs.Restarts.{IsKeptHere}
 use Rattle.open_calls.specs.OpenCalls.{NodeCallsDiffer}
 use Rattle.local_object.proofs.OneMemberLemmas.{one_member}
 use Rattle.local_object.proofs.UnchangedBankLemmas.{kept_served}
 use Rattle.local_object.proofs.HeardLayoutLemmas.{calls_heard, node_heard}
-use Rattle.local_object.proofs.HeardPlaceLemmas.{layout_stays}
-use Rattle.recoveries.proofs.HeardLayoutLemmas.{Fits, both, fits_known, letter_fits}
-use Rattle.recoveries.proofs.KeptPlaceLemmas.{bank_kept, both_banks, fits_copy, letter_alone, letter_fitting}
+use Rattle.recoveries.proofs.HeardLayoutLemmas.{Fits, both, fits_known, letter_fits, stays_if, stays_started}
+use Rattle.recoveries.proofs.HeardLetterLemmas.{letter_alone, letter_fitting}
+use Rattle.recoveries.proofs.KeptPlaceLemmas.{bank_kept, both_banks, fits_copy}
 use Rattle.recoveries.proofs.KeptCallLemmas.{IsObjectCopy, moves_call}
-
-stays_if : (local : LocalObject) (p : ℕ) (o : Option Layout) (q : ℕ) (layout : Layout) → layout_here local q ≡ Some layout →
-    layout_here (learnt_if local p o) q ≡ Some layout
-stays_if local p None q layout e = e
-stays_if local p (Some other) q layout e = layout_stays local p other q layout e
 
 -- after the node hears of the layouts in a letter, it knows that of the letter's position
 from_letter : (local : LocalObject) (letter : Letter) → Fits local letter.message.position letter.layout →
     layout_here (learnt_from local letter) letter.message.position ≡ Some letter.layout
 from_letter local letter fits =
     let position = letter.message.position in
-    stays_if (with_heard local position letter.layout) (suc position) letter.next position letter.layout
-    (fits_known local position letter.layout fits)
+    stays_started (layouts_learnt local letter) letter.start position letter.layout
+    (stays_if (with_heard local position letter.layout) (suc position) letter.next position letter.layout
+    (fits_known local position letter.layout fits))
+
+-- what the node keeps after a request that it does not serve
+stray_is : (local : LocalObject) (letter : Letter) →
+    (all_done fragment local (stray_events local letter)).local ≡ cond (is_some letter.start) (learnt_from local letter) local
+stray_is local letter = go (is_some letter.start) (is_sent_back local letter)
+  where
+    go : (told back : Bool) → (all_done fragment local
+        (cond told (LocalEvent.Hear letter ∷ []) [] ++ cond back (LocalEvent.Redirect letter ∷ []) [])).local
+        ≡ cond told (learnt_from local letter) local
+    go true true = refl
+    go true false = refl
+    go false true = refl
+    go false false = refl
 
 named_by : (o : Option ℕ) (node : ℕ) → names_node o node ≡ true → o ≡ Some node
 named_by None node e = absurd (cc)
@@ -121,30 +130,49 @@ module _ (moves : Type 0) (local copy : LocalObject) (is : IsObjectCopy moves lo
     mover = learnt_both.mover;
   }
 
+  -- both hear of a request that neither serves, or neither does
+  stray_both : IsObjectCopy moves
+      (all_done fragment local (stray_events local letter)).local (all_done fragment copy (stray_events copy letter)).local
+  stray_both =
+      subst (λ l. IsObjectCopy moves l (all_done fragment copy (stray_events copy letter)).local) (sym (stray_is local letter))
+      (subst (IsObjectCopy moves (cond (is_some letter.start) first local)) (sym (stray_is copy letter)) (go (is_some letter.start)))
+    where
+      go : (told : Bool) → IsObjectCopy moves (cond told first local) (cond told second copy)
+      go true = learnt_both
+      go false = is
+
+  -- what one of them does, by whether it serves the letter
+  abbrev does : Bool → LocalObject → LocalObject
+  does served it =
+      (all_done fragment it (cond served (LocalEvent.Serve letter ∷ []) (cond (is_askable letter) (stray_events it letter) []))).local
+
   -- both serve the letter, or neither does
   pub both_serve : IsObjectCopy moves
       (all_done fragment local (serve_events local letter)).local (all_done fragment copy (serve_events copy letter)).local
   both_serve =
-      subst (λ b. IsObjectCopy moves (all_done fragment local (serve_events local letter)).local
-      (all_done fragment copy (cond b (LocalEvent.Serve letter ∷ []) [])).local) (sym same_served) (go (is_served local letter) refl)
+      subst (λ b. IsObjectCopy moves (does (is_served local letter) local) (does b copy)) (sym same_served)
+      (go (is_served local letter) refl)
     where
-      go : (b : Bool) → is_served local letter ≡ b → IsObjectCopy moves
-          (all_done fragment local (cond b (LocalEvent.Serve letter ∷ []) [])).local
-          (all_done fragment copy (cond b (LocalEvent.Serve letter ∷ []) [])).local
-      go true e = served_both e letter.message.body
-      go false e = is
+      unserved : (asks : Bool) → IsObjectCopy moves (all_done fragment local (cond asks (stray_events local letter) [])).local
+          (all_done fragment copy (cond asks (stray_events copy letter) [])).local
+      unserved true = stray_both
+      unserved false = is
 
-  -- Nothing but the layouts that were heard of
+      go : (b : Bool) → is_served local letter ≡ b → IsObjectCopy moves (does b local) (does b copy)
+      go true e = served_both e letter.message.body
+      go false e = unserved (is_askable letter)
+
+  -- Nothing but what was heard of
 
   module _ (knows : moves → knows_all_of local letter ≡ true) (only : IsUnchangedBy local letter) where
     abbrev after : LocalObject
     after = after_serving local letter
 
-    still_kept : is_served local letter ≡ true → IsKeptHere moves after copy
-    still_kept e = record {
+    still_kept : IsKeptHere moves after copy
+    still_kept = record {
       node = is.kept.node ∙ sym only.node;
       delta = is.kept.delta ∙ sym only.delta;
-      start = subst (λ s. copy.start ≤ s) (sym only.start) is.kept.start;
+      start = let order = is.kept.start in let later = only.start in omega (arith, order, later);
       layouts = λ q layout at. only.kept q layout (is.kept.layouts q layout at);
       first = is.kept.first;
       banks = λ q member layout at holds.
@@ -158,17 +186,8 @@ module _ (moves : Type 0) (local copy : LocalObject) (is : IsObjectCopy moves lo
     }
 
     pub serves_alone : IsObjectCopy moves after copy
-    serves_alone = go (is_served local letter) refl
-      where
-        served : is_served local letter ≡ true → IsObjectCopy moves after copy
-        served e = record {
-          kept = still_kept e;
-          distinct = subst NodeCallsDiffer (sym only.calls) is.distinct;
-          mover = λ moving. is.mover (ap (list_any moves_call) (sym only.calls) ∙ moving);
-        }
-
-        go : (b : Bool) → is_served local letter ≡ b → IsObjectCopy moves after copy
-        go true e = served e
-        go false e =
-            subst (λ b. IsObjectCopy moves (all_done fragment local (cond b (LocalEvent.Serve letter ∷ []) [])).local copy)
-            (sym e) is
+    serves_alone = record {
+      kept = still_kept;
+      distinct = subst NodeCallsDiffer (sym only.calls) is.distinct;
+      mover = λ moving. is.mover (ap (list_any moves_call) (sym only.calls) ∙ moving);
+    }

@@ -1,5 +1,5 @@
 -- What changes the open calls of a node, but begins none, leaves them with ids that the node gave.
-use Rattle.std.proofs.Common.{◌≡◌, ℕ, suc, Bool, true, false, cond, eqb, eqb-true, nat_lt, List, [], ◌∷◌}
+use Rattle.std.proofs.Common.{◌≡◌, ℕ, suc, Bool, true, false, cond, eqb, eqb-true, List, [], ◌∷◌}
 use Rattle.std.proofs.Common.{Option, None, Some, refl, subst}
 use Rattle.std.specs.List.{AllByRecursion, filter}
 use Rattle.bank.specs.declared.kind.Kind.{Kind}
@@ -7,10 +7,11 @@ use Rattle.deeds.specs.CallId.{CallIds}
 use Rattle.encoder.specs.Fragment.{fragment}
 use Rattle.layout.specs.Layout.{Layout}
 use Rattle.letter.specs.declared.letter.Letter.{Letter}
+use Rattle.letter.specs.declared.start.Start.{Start}
 use Rattle.local_object.specs.Events.{advanced_at, advanced_here, served_here}
-use Rattle.local_object.specs.Outcomes.{Outcome, learnt_from, on_open_call}
+use Rattle.local_object.specs.Outcomes.{Outcome, layouts_learnt, learnt_from, on_open_call}
 use Rattle.local_object.specs.Starting.{reads_at}
-use Rattle.local_object.specs.Local.{LocalObject, heard_start, layout_here, learnt_if, with_heard}
+use Rattle.local_object.specs.Local.{LocalObject, heard_start_if, layout_here, learnt_if, with_heard}
 use Rattle.mail.specs.declared.message.Body.{Body}
 use Rattle.mail.specs.declared.message.Body.TheVariants as body
 use Rattle.open_calls.specs.OpenCalls.{NodeCall, with_open}
@@ -48,9 +49,14 @@ learnt_same : (local : LocalObject) (p : ℕ) (o : Option Layout) → StaysOwn l
 learnt_same local p None ids own = own
 learnt_same local p (Some layout) ids own = own
 
+start_own : (local : LocalObject) (o : Option Start) → StaysOwn local (heard_start_if local o)
+start_own local None ids own = own
+start_own local (Some start) ids own = own
+
 pub letter_same : (local : LocalObject) (letter : Letter) → StaysOwn local (learnt_from local letter)
 letter_same local letter ids own =
-    learnt_same (with_heard local letter.message.position letter.layout) (suc letter.message.position) letter.next ids own
+    start_own (layouts_learnt local letter) letter.start ids
+    (learnt_same (with_heard local letter.message.position letter.layout) (suc letter.message.position) letter.next ids own)
 
 pub on_open_same : (local : LocalObject) (o : Option NodeCall) (change : NodeCall → Outcome) →
     ((call : NodeCall) → StaysOwn local (change call).local) → StaysOwn local (on_open_call local o change).local
@@ -70,13 +76,6 @@ pub reads_own : (local : LocalObject) (call : NodeCall) (number start : ℕ) (o 
     StaysOwn local (reads_at local call number start o).local
 reads_own local call number start None ids own = own
 reads_own local call number start (Some layout) ids own = with_own _ local.calls ids own
-
-pub start_own : (local : LocalObject) (start : ℕ) (layout : Layout) → StaysOwn local (heard_start local start layout)
-start_own local start layout ids own = go (nat_lt local.start start)
-  where
-    go : (b : Bool) → AreOwnCalls ids (cond b (record (with_heard local start layout) { start = start }) local).calls
-    go true = own
-    go false = own
 
 pub served_own : (local : LocalObject) (letter : Letter) (b : Body) → StaysOwn local (served_here local letter b).local
 served_own local letter (body.Request asked) ids own = own

@@ -11,7 +11,8 @@ use Rattle.local_object.specs.Local.{LocalObject, layout_here}
 use Rattle.local_object.specs.Events.{LocalEvent, advanced_at, advanced_here, done_here}
 use Rattle.local_object.specs.Outcomes.{learnt_from, on_open_call, silent}
 use Rattle.local_object.proofs.HeardLayoutLemmas.{calls_heard}
-use Rattle.recoveries.proofs.KeptPlaceLemmas.{layouts_kept, letter_moving}
+use Rattle.recoveries.proofs.HeardLetterLemmas.{letter_moving}
+use Rattle.recoveries.proofs.KeptPlaceLemmas.{layouts_kept}
 use Rattle.recoveries.proofs.KeptCallLemmas.{IsObjectCopy, found_id, moves_call, with_move, without_move}
 
 -- the call that is found after it changed

@@ -8,6 +8,7 @@ use Rattle.local_object.specs.Changing.{IsUnchangedBy}
 use Rattle.local_object.specs.Doing.{close_events, give_up_events, has_move_open, move_refusal, read_refusal}
 use Rattle.local_object.specs.Doing.{serve_events, write_refusal}
 use Rattle.local_object.specs.Events.{LocalEvent}
+use Rattle.local_object.specs.ReadingOn.{read_on_events}
 use Rattle.deeds.specs.Kept.{FileOfNames, KeptNode, new_node}
 use Rattle.deeds.specs.Restarts.{IsRestarted}
 use Rattle.recoveries.specs.Copies.{IsCopyOf, IsHeeded, IsLogged, IsRecorded}
@@ -50,7 +51,7 @@ ClosesAreLogged = (old new : KeptNode) (name : List ℕ) (position : ℕ) →
 abbrev pub SameNeedsNoRecord : Type 0
 SameNeedsNoRecord = (old new : KeptNode) → IsSame old new → IsLogged old [] new
 
--- a letter that is served and changes no bank
+-- a letter that is served and changes no bank, or that is not served: at most its layouts and its start are heard of
 abbrev pub UnchangedNeedsNoRecord : Type 0
 UnchangedNeedsNoRecord = (old new : KeptNode) (name : List ℕ) (letter : Letter) → IsHeeded old name letter →
     IsUnchangedBy (old.objects name) letter → IsNamedOutcome old name (serve_events (old.objects name) letter) new →
@@ -72,6 +73,11 @@ abbrev pub WritesNeedNoRecord : Type 0
 WritesNeedNoRecord = (old new : KeptNode) (name : List ℕ) (id : ℕ) (value : List ℕ) →
     write_refusal (old.objects name) id value ≡ None →
     IsNamedOutcome old name (LocalEvent.BeginWrite id value ∷ []) new → IsLogged old [] new
+
+-- a read or a write that goes on at the object's start
+abbrev pub ReadingOnNeedsNoRecord : Type 0
+ReadingOnNeedsNoRecord = (old new : KeptNode) (name : List ℕ) (id : ℕ) →
+    IsNamedOutcome old name (read_on_events (old.objects name) id) new → IsLogged old [] new
 
 -- a read or a write that is given up
 abbrev pub GivenUpNeedsNoRecord : Type 0

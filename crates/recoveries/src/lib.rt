@@ -23,8 +23,8 @@ pub use stops::{
     more_is_safe, one_record_is_safe, stopped_nodes_restart, two_are_safe, unlogged_is_safe,
 };
 pub use unlogged::{
-    given_up_needs_no_record, reads_need_no_record, same_needs_no_record, taken_needs_no_record,
-    unchanged_needs_no_record, writes_need_no_record,
+    given_up_needs_no_record, reading_on_needs_no_record, reads_need_no_record,
+    same_needs_no_record, taken_needs_no_record, unchanged_needs_no_record, writes_need_no_record,
 };
 
 mod logged;

@@ -1,13 +1,15 @@
 //! What a node does that its log need not record.
-ghost use Rattle.recoveries.specs.Laws.{GivenUpNeedsNoRecord, ReadsNeedNoRecord, SameNeedsNoRecord};
-ghost use Rattle.recoveries.specs.Laws.{TakenNeedsNoRecord, UnchangedNeedsNoRecord, WritesNeedNoRecord};
+ghost use Rattle.recoveries.specs.Laws.{GivenUpNeedsNoRecord, ReadingOnNeedsNoRecord, ReadsNeedNoRecord};
+ghost use Rattle.recoveries.specs.Laws.{SameNeedsNoRecord, TakenNeedsNoRecord, UnchangedNeedsNoRecord};
+ghost use Rattle.recoveries.specs.Laws.{WritesNeedNoRecord};
 
 /// A law: if nothing happens to an object, no record is needed, even if ids are used up.
 pub fn same_needs_no_record()
     ensures { SameNeedsNoRecord }
 {}
 
-/// A law: no record is needed for a letter that the node serves, if it changes no bank.
+/// A law: no record is needed for a letter that the node serves, if it changes no bank, nor for one that it does not
+/// serve.
 pub fn unchanged_needs_no_record()
     ensures { UnchangedNeedsNoRecord }
 {}
@@ -25,6 +27,11 @@ pub fn reads_need_no_record()
 /// A law: no record is needed for a write that begins.
 pub fn writes_need_no_record()
     ensures { WritesNeedNoRecord }
+{}
+
+/// A law: no record is needed for a read or a write that goes on at the object's start.
+pub fn reading_on_needs_no_record()
+    ensures { ReadingOnNeedsNoRecord }
 {}
 
 /// A law: no record is needed for a call that is given up.
