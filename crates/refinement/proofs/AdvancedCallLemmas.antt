@@ -11,7 +11,7 @@ use Rattle.record.specs.Records.{no_layout}
 use Rattle.record.specs.Sending.{requests}
 use Rattle.record.specs.Steps.{new_phase}
 use Rattle.network.specs.Worlds.{World, known_layout, known_layouts}
-use Rattle.open_calls.specs.OpenCalls.{NodeCall, due_phase, open_call, stage_reached}
+use Rattle.open_calls.specs.OpenCalls.{NodeCall, due_phase, open_call, stage_reached, with_open}
 use Rattle.network.specs.Events.{Event, advanced_world, on_open}
 use Rattle.local_object.specs.Local.{LocalObject, layout_here}
 use Rattle.local_object.specs.Events.{LocalEvent, advanced_at, advanced_here, pieces_here}
@@ -21,7 +21,7 @@ use Rattle.refinement.specs.Parts.{IsPartOf}
 use Rattle.refinement.specs.WellFormed.{IsWellFormed}
 use Rattle.refinement.proofs.BegunCallLemmas.{ticked}
 use Rattle.refinement.proofs.ChangedCallLemmas.{IsCarried, carried, changed_kept, changed_to}
-use Rattle.refinement.proofs.PartLemmas.{IsKept, refined, unchanged}
+use Rattle.refinement.proofs.PartLemmas.{IsKept, refined, start_still, unchanged}
 use Rattle.refinement.proofs.LetterLemmas.{behind, in_front, letters_were_sent, requests_speak}
 use Rattle.refinement.proofs.LearntPartLemmas.{known_by_all}
 use Rattle.local_object.proofs.LastPositionLemmas.{some_layout}
@@ -56,6 +56,7 @@ module _ (fragment : Code) (world : World) (local : LocalObject) (id : ℕ) (cal
       (λ place message there. behind world.sent messages place message there)
       (requests_speak (λ p. slice_get (known_layouts world 0) p ≡ Some layout) call.id (suc call.phase.number) next.0 next.1
       layout.members 0 piece (known_by_all world formed.one local.node next.1 layout at))
+      (start_still world (with_open (advanced_call layout) world.calls) sent world.history (suc world.now) local.start part.start)
       (λ p other e. known_by_all world formed.one local.node p other (part.layouts p other e)))
       (λ had. record {
         layout = layout;

@@ -128,7 +128,7 @@ module _ (fragment : Code) (world : World) (local : LocalObject) (id : ℕ) (for
       refl refl) refl start starts layout there)
 
 pub anew_has_events : (id : ℕ) → IsEventOfWorld (LocalEvent.BeginAnew id)
-anew_has_events id fragment world local formed part may starts =
+anew_has_events id fragment world local formed part may premised =
     let start = local.start in
     let call = may.0 in
     let first = some_layout (layout_here local 0) part.first in
@@ -136,4 +136,4 @@ anew_has_events id fragment world local formed part may starts =
     subst (λ after. HasEvents fragment world after world.history (suc (start * most_events)))
     (ap (reads_at local call (anew_number call start) start) (sym there.1)
     ∙ ap (λ o. on_open_call local o (λ c. reads_at local c (anew_number c start) start (layout_here local start))) (sym may.1))
-    (begins_anew fragment world local id formed part call may.1 may.2 may.3 first.0 first.1 start there.0 there.1 starts)
+    (begins_anew fragment world local id formed part call may.1 may.2 may.3 first.0 first.1 start there.0 there.1 part.start)

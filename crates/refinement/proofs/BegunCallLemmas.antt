@@ -34,7 +34,7 @@ use Rattle.open_calls.proofs.CallsOfNodeLemmas.{append_nothing, calls_of, differ
 use Rattle.open_calls.proofs.DistinctCallLemmas.{distinct_push}
 use Rattle.refinement.proofs.CallEntryLemmas.{entry_new, entry_push, unused_apart}
 use Rattle.refinement.proofs.PartLemmas.{IsKept, asked_still, changed_world, formed_still}
-use Rattle.refinement.proofs.PartLemmas.{part_still, part_with, refined, sent_still}
+use Rattle.refinement.proofs.PartLemmas.{part_still, part_with, refined, sent_still, start_still}
 use Rattle.refinement.proofs.LetterLemmas.{behind, in_front, letters_were_sent, requests_speak}
 use Rattle.refinement.proofs.LearntPartLemmas.{known_by_all}
 
@@ -110,6 +110,7 @@ module _ (fragment : Code) (world : World) (local : LocalObject) (id : ℕ) (kin
             (λ place message is. behind world.sent messages place message is)
             (requests_speak (λ p. slice_get (known_layouts world 0) p ≡ Some layout) id 1 first position layout.members 0 empty_piece
             (known_by_all world formed.one local.node position layout at))
+            (start_still world calls sent begun_history (suc world.now) local.start part.start)
             (λ p other e. known_by_all world formed.one local.node p other (part.layouts p other e));
         others = λ other apart is. part_still world calls sent begun_history (suc world.now) other is
             (filter_push (λ call. eqb call.node other.node) new false (differs local.node other.node (λ e. apart (sym e))) world.calls

@@ -24,7 +24,7 @@ use Rattle.refinement.specs.WellFormed.{IsWellFormed}
 use Rattle.refinement.proofs.BegunCallLemmas.{begun_kept, ticked}
 use Rattle.refinement.proofs.PartLemmas.{IsKept, refined}
 use Rattle.local_object.proofs.HeardPlaceLemmas.{layout_stays}
-use Rattle.refinement.proofs.GrownWorldLemmas.{grown, grown_formed, known_still, last_is, other_grown, own_grown}
+use Rattle.refinement.proofs.GrownWorldLemmas.{grown, grown_formed, last_is, letter_grown, other_grown, own_grown}
 
 -- what is so of each call of a node
 all_of_node : (P : NodeCall → Type 0) (test : NodeCall → Bool) (calls : List NodeCall) → AllByRecursion P (filter test calls) →
@@ -80,11 +80,7 @@ moved_kept fragment world local id layout formed part lawful unused moves =
       others = λ other apart is. kept.others other apart
           (other_grown fragment world layout formed other is
           (λ also. apart (one_mover fragment world formed local.node other.node moves also)));
-      kept = λ letter was. kept.kept letter (record {
-        sent = was.sent;
-        layout = known_still fragment world layout formed 0 letter.message.position letter.layout was.layout;
-        next = λ other e. known_still fragment world layout formed 0 (suc letter.message.position) other (was.next other e);
-      });
+      kept = λ letter was. kept.kept letter (letter_grown fragment world layout formed letter was);
       files = kept.files;
       now = kept.now;
       entries = kept.entries;

@@ -46,6 +46,7 @@ module _ (world : World) (local : LocalObject) (part : IsPartOf world local) (po
   pub closed_part : IsPartOf world (closed_here local position)
   closed_part = record {
     delta = part.delta;
+    start = part.start;
     layouts = λ q layout e. part.layouts q layout (sym (layout_with local position after q) ∙ e);
     first = subst IsSome (sym (layout_with local position after 0)) part.first;
     banks = own_bank;

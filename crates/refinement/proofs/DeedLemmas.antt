@@ -68,7 +68,8 @@ noticed_beside name other local (LocalEvent.Answer id) apart = told_beside name 
 noticed_beside name other local (LocalEvent.GiveUp id) apart = tt
 noticed_beside name other local (LocalEvent.Close position) apart = tt
 noticed_beside name other local (LocalEvent.Grow id) apart = tt
-noticed_beside name other local (LocalEvent.Hear start layout) apart = tt
+noticed_beside name other local (LocalEvent.Hear letter) apart = tt
+noticed_beside name other local (LocalEvent.Redirect letter) apart = tt
 noticed_beside name other local (LocalEvent.ReadOn id) apart = tt
 noticed_beside name other local (LocalEvent.BeginAnew id) apart = tt
 

@@ -208,7 +208,12 @@ module _ (fragment : Code) (name : List ℕ) (system : System) (ids : ℕ → Ca
   acted (LocalEvent.BeginAnew id) may fed allowed given =
       leads (LocalEvent.BeginAnew id) [] may tt (still_used (given_later mine now None within given))
       (quiet (after (LocalEvent.BeginAnew id)).now (not_less system.now (event_count local (LocalEvent.BeginAnew id))))
-  acted (LocalEvent.Hear start layout) may fed allowed given = absurd fed
+  acted (LocalEvent.Hear letter) may fed allowed given =
+      leads (LocalEvent.Hear letter) [] may (follows.posted letter fed) (still_used (given_later mine now None within given))
+      (quiet (after (LocalEvent.Hear letter)).now (not_less system.now (event_count local (LocalEvent.Hear letter))))
+  acted (LocalEvent.Redirect letter) may fed allowed given =
+      leads (LocalEvent.Redirect letter) [] may (follows.posted letter fed) (still_used (given_later mine now None within given))
+      (quiet (after (LocalEvent.Redirect letter)).now (not_less system.now (event_count local (LocalEvent.Redirect letter))))
   acted (LocalEvent.Answer id) may fed allowed given =
       leads (LocalEvent.Answer id) (map (Notice.Tells name) (told_if (open_call local.calls id))) may tt
       (answered_used (open_call local.calls id) (still_used (given_later mine now None within given)))

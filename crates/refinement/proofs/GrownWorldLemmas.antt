@@ -5,14 +5,17 @@ use Rattle.std.proofs.lemmas.List.{get_or_append_left, length-map, map-append}
 use Rattle.std.proofs.lemmas.Option.{same_Some, slice_get-get_or, slice_get_past, slice_get_within}
 use Rattle.std.proofs.Math.Seq.{get_or-append_seam}
 use Rattle.layout.specs.Layout.{Layout, IsLawful}
-use Rattle.bank.specs.Bank.{opened_bank}
+use Rattle.bank.specs.Bank.{Bank, opened_bank}
+use Rattle.bank.specs.Pointer.{status_of}
 use Rattle.bank.proofs.RememberedBankLemmas.{remembered-opened}
 use Rattle.record.specs.Records.{no_bank, no_layout}
 use Rattle.soundness.proofs.ListLemmas.{all_push, all_weaker}
 use Rattle.record.specs.Fragments.{Code}
 use Rattle.network.specs.Worlds.{ClusterFile, World, member_bank, known_layouts, new_banks}
 use Rattle.local_object.specs.Local.{LocalObject, bank_here, bank_or_opened, last_position, layout_here, with_heard}
-use Rattle.refinement.specs.Parts.{IsKeptOf, IsPartOf}
+use Rattle.starts.specs.Starts.{HasFinal, IsStart}
+use Rattle.letter.specs.declared.letter.Letter.{Letter}
+use Rattle.refinement.specs.Parts.{IsKeptOf, IsPartOf, WasSentAs}
 use Rattle.refinement.specs.WellFormed.{HasAsked, IsWellFormed, member_count}
 use Rattle.local_object.proofs.HeardPlaceLemmas.{bank_learnt, layout_learnt, layout_new, layout_stays, no_bank_here}
 use Rattle.starts.proofs.BankRowLemmas.{new_count}
@@ -79,7 +82,7 @@ module _ (fragment : Code) (world : World) (layout : Layout) (formed : IsWellFor
         }) world.calls formed.asked;
       }
 
-  pub known_still : (node q : ℕ) (other : Layout) → slice_get (known_layouts world node) q ≡ Some other →
+  known_still : (node q : ℕ) (other : Layout) → slice_get (known_layouts world node) q ≡ Some other →
       slice_get (known_layouts grown node) q ≡ Some other
   known_still node q other e = in_front (known_layouts world node) (layout ∷ []) q other e
 
@@ -108,6 +111,30 @@ module _ (fragment : Code) (world : World) (layout : Layout) (formed : IsWellFor
       ∙ ap (λ row. get_or row member no_bank) (get_or-append_seam world.banks (new_banks world.files layout.members 0) [] [])
       ∙ new_bank world.files layout.members 0 member server at
       ∙ (let same : 0 + member ≡ member = omega arith in ap (λ n. opened_bank n (world.files server).delta 0) same)
+
+  -- starts and letters are those of the grown world too
+  start_grown : (start : ℕ) → IsStart world start → IsStart grown start
+  start_grown start is position less =
+      let final = is position less in record {
+        layout = final.layout;
+        at = known_still 0 position final.layout final.at;
+        members = final.members;
+        quorum = final.quorum;
+        final = all_weaker (HasFinal world position) (HasFinal grown position)
+            (λ member there. ap (λ (b : Bank). status_of b.pointer) (bank_still 0 position member final.layout final.at) ∙ there)
+            final.members final.final;
+      }
+
+  pub letter_grown : (letter : Letter) → WasSentAs world letter → WasSentAs grown letter
+  letter_grown letter was = record {
+    sent = was.sent;
+    layout = known_still 0 letter.message.position letter.layout was.layout;
+    next = λ other e. known_still 0 (suc letter.message.position) other (was.next other e);
+    start = λ start e. let is = was.start start e in record {
+      starts = start_grown start.position is.starts;
+      layout = known_still 0 start.position start.layout is.layout;
+    };
+  }
 
   -- no node has heard of the new position
   unheard : (other : LocalObject) → IsPartOf world other → layout_here other new_position ≡ None
@@ -142,6 +169,7 @@ module _ (fragment : Code) (world : World) (layout : Layout) (formed : IsWellFor
   pub other_grown : (other : LocalObject) → IsPartOf world other → (other.node ≡ (world.files other.node).mover → ⊥) → IsPartOf grown other
   other_grown other part no_mover = record {
     delta = part.delta;
+    start = start_grown other.start part.start;
     layouts = λ q known e. known_still other.node q known (part.layouts q known e);
     first = part.first;
     banks = banks_grown other part;
@@ -153,6 +181,7 @@ module _ (fragment : Code) (world : World) (layout : Layout) (formed : IsWellFor
   pub own_grown : (local : LocalObject) → IsPartOf world local → IsPartOf grown (with_heard local new_position layout)
   own_grown local part = record {
     delta = part.delta;
+    start = start_grown local.start part.start;
     layouts = λ q other e. known q other (layout_learnt local new_position layout q other e);
     first = first_still (layout_here local 0) refl part.first;
     banks = λ q member other at is.

@@ -19,7 +19,9 @@ use Rattle.network.specs.Worlds.{World, known_layouts}
 use Rattle.network.specs.Premises.{WasSent}
 use Rattle.local_object.specs.Local.{LocalObject, layout_here}
 use Rattle.local_object.specs.Outcomes.{if_pointed, letter_of, next_in_answer, next_in_body, next_in_request}
+use Rattle.starts.specs.Starts.{IsStart}
 use Rattle.refinement.specs.Parts.{WasSentAs}
+use Rattle.refinement.proofs.StartLemmas.{told_is_start}
 
 pub in_front : {A : Type 0} (xs ys : List A) (i : ℕ) (x : A) → slice_get xs i ≡ Some x → slice_get (xs ++ ys) i ≡ Some x
 in_front [] ys i x e = absurd (cc)
@@ -54,26 +56,27 @@ in_body : (b : Body) (o : Option Layout) (layout : Layout) → next_in_body b o 
 in_body (body.Request asked) o layout e = in_request asked o layout e
 in_body (body.Reply kind made) o layout e = in_answer made.answer o layout e
 
--- a message that was sent is a letter with the layouts of the position and the next
+-- a message that was sent is a letter with the layouts of the position and the next, and with the node's start
 pub letter_was_sent : (world : World) (local : LocalObject) (layout : Layout) (message : Message) → WasSent world message →
-    slice_get (known_layouts world 0) message.position ≡ Some layout →
+    slice_get (known_layouts world 0) message.position ≡ Some layout → IsStart world local.start →
     ((position : ℕ) (other : Layout) → layout_here local position ≡ Some other → slice_get (known_layouts world 0) position ≡ Some other) →
     WasSentAs world (letter_of local layout message)
-letter_was_sent world local layout message sent at known = record {
+letter_was_sent world local layout message sent at starts known = record {
   sent = sent;
   layout = at;
   next = λ other e. known (suc message.position) other (in_body message.body (layout_here local (suc message.position)) other e);
+  start = told_is_start world local starts known;
 }
 
 pub letters_were_sent : (world : World) (local : LocalObject) (layout : Layout) (messages : List Message) →
     ((place : ℕ) (message : Message) → slice_get messages place ≡ Some message → WasSent world message) →
-    AllByRecursion (λ message. slice_get (known_layouts world 0) message.position ≡ Some layout) messages →
+    AllByRecursion (λ message. slice_get (known_layouts world 0) message.position ≡ Some layout) messages → IsStart world local.start →
     ((position : ℕ) (other : Layout) → layout_here local position ≡ Some other → slice_get (known_layouts world 0) position ≡ Some other) →
     AllByRecursion (WasSentAs world) (map (letter_of local layout) messages)
-letters_were_sent world local layout [] sent at known = tt
-letters_were_sent world local layout (message ∷ messages) sent at known = (
-  letter_was_sent world local layout message (sent 0 message refl) at.0 known,
-  letters_were_sent world local layout messages (λ place other is. sent (suc place) other is) at.1 known,
+letters_were_sent world local layout [] sent at starts known = tt
+letters_were_sent world local layout (message ∷ messages) sent at starts known = (
+  letter_was_sent world local layout message (sent 0 message refl) at.0 starts known,
+  letters_were_sent world local layout messages (λ place other is. sent (suc place) other is) at.1 starts known,
 )
 
 -- the requests of a phase speak of its position

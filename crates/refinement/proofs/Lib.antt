@@ -35,12 +35,14 @@ pub mod SeenAnswerLemmas
 pub mod SeenHistoryLemmas
 pub mod ServedLetterLemmas
 pub mod SettledValueLemmas
+pub mod StartLemmas
 pub mod StartedCallLemmas
+pub mod StrayLetterLemmas
 pub mod SystemEventLemmas
 pub mod SystemLawLemmas
 pub mod SystemLemmas
+pub mod SystemPremiseLemmas
 pub mod SystemRunLemmas
-pub mod SystemStartLemmas
 pub mod SystemValueLemmas
 pub mod TakenLetterLemmas
 pub mod TimedLemmas

@@ -10,6 +10,8 @@ use Rattle.network.specs.Worlds.{World}
 use Rattle.open_calls.specs.OpenCalls.{NodeCall, NodeCallsDiffer}
 use Rattle.network.specs.Events.{Event, world_after}
 use Rattle.network.specs.Premises.{MayHappenInTurn, WasSent}
+use Rattle.starts.specs.Starts.{IsStart}
+use Rattle.starts.proofs.FinalPointerLemmas.{Keeps, kept_same}
 use Rattle.letter.specs.declared.letter.Letter.{Letter}
 use Rattle.local_object.specs.Local.{LocalObject}
 use Rattle.local_object.specs.Outcomes.{Outcome, silent}
@@ -17,6 +19,7 @@ use Rattle.refinement.specs.Parts.{IsPartOf, WasSentAs}
 use Rattle.refinement.specs.Refined.{IsRefined}
 use Rattle.refinement.specs.WellFormed.{HasAsked, HasEntry, IsWellFormed}
 use Rattle.open_calls.proofs.CallsOfNodeLemmas.{calls_of}
+use Rattle.refinement.proofs.StartLemmas.{letter_kept, start_kept}
 
 -- What an event leads to
 
@@ -57,6 +60,12 @@ module _ (world : World) (calls : List NodeCall) (sent : List Message) (history 
   abbrev pub changed_world : World
   changed_world = record world { calls = calls; sent = sent; history = history; now = now }
 
+  still_final : Keeps world changed_world
+  still_final = kept_same world changed_world refl refl refl
+
+  pub start_still : (start : ℕ) → IsStart world start → IsStart changed_world start
+  start_still = start_kept world changed_world still_final
+
   -- calls that asked before have asked
   pub asked_still : (fragment : Code) → ((message : Message) → WasSent world message → WasSent changed_world message) →
       (call : NodeCall) → HasAsked fragment world call → HasAsked fragment changed_world call
@@ -82,6 +91,7 @@ module _ (world : World) (calls : List NodeCall) (sent : List Message) (history 
       IsPartOf changed_world other
   part_still other part same = record {
     delta = part.delta;
+    start = start_still other.start part.start;
     layouts = part.layouts;
     first = part.first;
     banks = part.banks;
@@ -94,6 +104,7 @@ module _ (world : World) (calls : List NodeCall) (sent : List Message) (history 
       IsPartOf changed_world (record local { calls = own })
   part_with local own part same = record {
     delta = part.delta;
+    start = start_still local.start part.start;
     layouts = part.layouts;
     first = part.first;
     banks = part.banks;
@@ -103,7 +114,7 @@ module _ (world : World) (calls : List NodeCall) (sent : List Message) (history 
 
   pub sent_still : ((message : Message) → WasSent world message → WasSent changed_world message) → (letter : Letter) →
       WasSentAs world letter → WasSentAs changed_world letter
-  sent_still grows letter was = record { sent = grows letter.message was.sent; layout = was.layout; next = was.next }
+  sent_still = letter_kept world changed_world still_final
 
 -- Nothing else changes
 

@@ -4,10 +4,11 @@ use Rattle.refinement.specs.Laws.{PlainEventsAreWorldEvents}
 use Rattle.refinement.proofs.AdvancedCallLemmas.{advance_refined}
 use Rattle.refinement.proofs.BegunMoveLemmas.{move_refined}
 use Rattle.refinement.proofs.ClosedPlaceLemmas.{close_refined}
-use Rattle.refinement.proofs.GrownStartLemmas.{grow_refined, hear_refined}
+use Rattle.refinement.proofs.GrownStartLemmas.{grow_refined}
 use Rattle.refinement.proofs.LeftCallLemmas.{answer_refined, give_up_refined}
 use Rattle.refinement.proofs.ServedLetterLemmas.{serve_refined}
 use Rattle.refinement.proofs.SettledValueLemmas.{settle_refined}
+use Rattle.refinement.proofs.StrayLetterLemmas.{hear_refined, redirect_refined}
 use Rattle.refinement.proofs.TakenLetterLemmas.{take_refined}
 
 pub each_plain : PlainEventsAreWorldEvents
@@ -22,6 +23,7 @@ each_plain (LocalEvent.Answer id) plain = answer_refined id
 each_plain (LocalEvent.GiveUp id) plain = give_up_refined id
 each_plain (LocalEvent.Close position) plain = close_refined position
 each_plain (LocalEvent.Grow id) plain = grow_refined id
-each_plain (LocalEvent.Hear start layout) plain = hear_refined start layout
+each_plain (LocalEvent.Hear letter) plain = hear_refined letter
+each_plain (LocalEvent.Redirect letter) plain = redirect_refined letter
 each_plain (LocalEvent.ReadOn id) plain = absurd (cc)
 each_plain (LocalEvent.BeginAnew id) plain = absurd (cc)

@@ -1,5 +1,5 @@
 -- A call that reads before a start goes on there.
-use Rattle.std.proofs.Common.{◌≡◌, ℕ, ◌+◌, ◌*◌, ◌-◌, ◌<◌, List, ◌++◌, length, Some}
+use Rattle.std.proofs.Common.{◌≡◌, ℕ, suc, ◌+◌, ◌*◌, ◌-◌, ◌<◌, List, ◌++◌, length, Some}
 use Rattle.std.proofs.Common.{refl, sym, subst, ap, ◌∙◌, slice_get}
 use Rattle.std.proofs.lemmas.Option.{get_or_from_slice_get}
 use Rattle.layout.specs.Layout.{Layout, quorum_of}
@@ -10,7 +10,7 @@ use Rattle.mail.specs.declared.message.Message.{Message}
 use Rattle.record.specs.Fragments.{Code}
 use Rattle.record.specs.Records.{no_layout}
 use Rattle.record.specs.Sending.{request_to, requests}
-use Rattle.open_calls.specs.OpenCalls.{NodeCall, open_call}
+use Rattle.open_calls.specs.OpenCalls.{NodeCall, open_call, with_open}
 use Rattle.open_calls.proofs.OpenCallLemmas.{found}
 use Rattle.network.specs.Worlds.{World, known_layout, known_layouts}
 use Rattle.network.specs.Events.{phase_requests, world_after}
@@ -33,7 +33,7 @@ use Rattle.refinement.proofs.ChangedCallLemmas.{IsCarried, carried, changed_kept
 use Rattle.refinement.proofs.EventCountLemmas.{count_after}
 use Rattle.refinement.proofs.LearntPartLemmas.{known_by_all, known_to_all}
 use Rattle.refinement.proofs.LetterLemmas.{in_front, letters_were_sent, requests_speak}
-use Rattle.refinement.proofs.PartLemmas.{kept_after, refined}
+use Rattle.refinement.proofs.PartLemmas.{kept_after, refined, start_still}
 use Rattle.refinement.proofs.WaitingLemmas.{filled}
 
 module _ (fragment : Code) (world : World) (local : LocalObject) (id : ℕ) (call : NodeCall) (formed : IsWellFormed fragment world)
@@ -143,12 +143,13 @@ module _ (fragment : Code) (world : World) (local : LocalObject) (id : ℕ) (cal
         (letters_were_sent later local layout asking were_sent
         (requests_speak (λ p. slice_get (known_layouts world 0) p ≡ Some layout) call.id (number_at call start) Next start
         layout.members 0 empty_piece at_start)
+        (start_still world (with_open new world.calls) sent world.history (suc world.now) local.start part.start)
         (λ p other e. known_by_all world formed.one local.node p other (part.layouts p other e)))
         (λ had. asked_there))) in
         filled fragment world after world.history leads.events ((start - call.phase.position) * most_events) done.0 done.1 leads.few
 
 pub read_on_has_events : (id : ℕ) → IsEventOfWorld (LocalEvent.ReadOn id)
-read_on_has_events id fragment world local formed part may starts =
+read_on_has_events id fragment world local formed part may premised =
     let start = local.start in
     let call = may.0 in
     let known = some_layout (layout_here local start) may.4 in
@@ -157,4 +158,4 @@ read_on_has_events id fragment world local formed part may starts =
     (subst (λ after. HasEvents fragment world after world.history ((start - call.phase.position) * most_events))
     (ap (reads_at local call (number_at call start) start) (sym known.1)
     ∙ ap (λ o. on_open_call local o (λ c. reads_at local c (number_at c start) start (layout_here local start))) (sym may.1))
-    (reads_on_there fragment world local id call formed part may.1 may.2 start may.3 starts known.0 known.1))
+    (reads_on_there fragment world local id call formed part may.1 may.2 start may.3 part.start known.0 known.1))

@@ -44,5 +44,5 @@ letters_sent fragment world local letter formed part again =
     (requests_speak (λ p. slice_get (known_layouts world 0) p ≡ Some layout) call.id call.phase.number call.phase.kind position
     layout.members 0 (pieces_here fragment layout call) known) there.1 in
     subst (WasSentAs world) there.2
-    (letter_was_sent world local layout there.0 sent speaks
+    (letter_was_sent world local layout there.0 sent speaks part.start
     (λ p other e. known_by_all world formed.one local.node p other (part.layouts p other e)))

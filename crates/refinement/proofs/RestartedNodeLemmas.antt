@@ -1,5 +1,5 @@
 -- A node stops and starts again from its log.
-use Rattle.std.proofs.Common.{◌≡◌, ℕ, suc, Bool, true, false, ◌&&◌, not, eqb, eqb-true}
+use Rattle.std.proofs.Common.{◌≡◌, ◌<◌, ◌≤◌, ℕ, suc, Bool, true, false, ◌&&◌, not, eqb, eqb-true}
 use Rattle.std.proofs.Common.{List, [], ◌∷◌, Some, refl, sym, ap, ◌∙◌, arith, Option, None}
 use Rattle.std.proofs.Common.{slice_get}
 use Rattle.std.proofs.lemmas.Option.{same_Some}
@@ -22,7 +22,7 @@ use Rattle.local_object.proofs.HeardPlaceLemmas.{no_bank_here}
 use Rattle.open_calls.proofs.CallsOfNodeLemmas.{calls_of, differs, filter_swap, filter_within}
 use Rattle.open_calls.proofs.DistinctCallLemmas.{distinct_filter}
 use Rattle.refinement.proofs.KeptBankLemmas.{kept_as}
-use Rattle.refinement.proofs.PartLemmas.{IsKept, asked_still, changed_world, formed_still, part_still, refined, sent_still}
+use Rattle.refinement.proofs.PartLemmas.{IsKept, asked_still, changed_world, formed_still, part_still, refined, sent_still, start_still}
 
 -- whether a call is there after the node started again
 abbrev stays : (node : ℕ) → NodeCall → Bool
@@ -87,9 +87,15 @@ module _ (fragment : Code) (world : World) (before after : LocalObject)
           is.banks q member known e
           (ap (λ (l : Layout). slice_get l.members member) (same_Some known layout (sym (part.layouts q known e) ∙ at)) ∙ holds)
 
+  before_start : (position start was : ℕ) → position < start → start ≤ was → position < was
+  before_start position start was less more = omega (arith, less, more)
+
   restarted_part : IsPartOf restarted_to after
   restarted_part = record {
     delta = is.delta ∙ part.delta ∙ ap (λ n. (world.files n).delta) (sym is.node);
+    start = λ position less.
+        start_still world (after_restart before.node world.calls) world.sent world.history (suc world.now) before.start part.start
+        position (before_start position after.start before.start less is.start);
     layouts = λ q layout e.
         ap (λ n. slice_get (known_layouts world n) q) is.node ∙ part.layouts q layout (is.layouts q layout e);
     first = is.first;

@@ -27,10 +27,12 @@ use Rattle.refinement.specs.Parts.{IsKeptOf, IsPartOf, WasSentAs}
 use Rattle.refinement.specs.Refined.{IsRefined, if_replied, served_events}
 use Rattle.refinement.specs.WellFormed.{HasAsked, IsWellFormed}
 use Rattle.starts.proofs.BankRowLemmas.{bank_set_here, bank_set_there, counts_set, has_bank, with_served}
+use Rattle.starts.proofs.FinalPointerLemmas.{Keeps, kept_served as final_served}
 use Rattle.local_object.proofs.OneMemberLemmas.{one_member}
 use Rattle.refinement.proofs.BegunCallLemmas.{ticked}
 use Rattle.refinement.proofs.KeptBankLemmas.{kept_as, kept_declined, kept_on, same_as_whole}
 use Rattle.refinement.proofs.PartLemmas.{IsKept, refined}
+use Rattle.refinement.proofs.StartLemmas.{letter_kept, start_kept}
 use Rattle.refinement.proofs.TakenLetterLemmas.{still_kept}
 use Rattle.local_object.proofs.UnchangedBankLemmas.{kept_served}
 use Rattle.local_object.proofs.ClosingLemmas.{put_back}
@@ -88,6 +90,10 @@ module _ (fragment : Code) (world : World) (local : LocalObject) (letter : Lette
   abbrev whole : Bank
   whole = member_bank world letter.message.position letter.message.member
 
+  -- final pointers stay
+  still_final : Keeps world (served_to whole)
+  still_final = final_served world letter.message (body.Request asked)
+
   kept_of_whole : IsKeptOf whole bank
   kept_of_whole =
       part.banks letter.message.position letter.message.member addressed.0
@@ -131,6 +137,7 @@ module _ (fragment : Code) (world : World) (local : LocalObject) (letter : Lette
   served_part reply answers =
       let position = letter.message.position in record {
         delta = part.delta;
+        start = start_kept world (served_to whole) still_final local.start part.start;
         layouts = λ q layout e. part.layouts q layout (sym (layout_with local position kept q) ∙ e);
         first = subst IsSome (sym (layout_with local position kept 0)) part.first;
         banks = own_bank reply answers;
@@ -141,6 +148,7 @@ module _ (fragment : Code) (world : World) (local : LocalObject) (letter : Lette
   other_part : (other : LocalObject) → (other.node ≡ local.node → ⊥) → IsPartOf world other → IsPartOf (served_to whole) other
   other_part other apart is = record {
     delta = is.delta;
+    start = start_kept world (served_to whole) still_final other.start is.start;
     layouts = is.layouts;
     first = is.first;
     banks = λ q member layout at holds.
@@ -176,15 +184,13 @@ module _ (fragment : Code) (world : World) (local : LocalObject) (letter : Lette
     sent = (
       letter_was_sent (served_to whole) local letter.layout (reply_of whole)
           (behind world.sent (reply_of whole ∷ []) 0 (reply_of whole) refl)
-          was.layout (λ q layout e. known_by_all world formed.one local.node q layout (part.layouts q layout e)),
+          was.layout (start_kept world (served_to whole) still_final local.start part.start)
+          (λ q layout e. known_by_all world formed.one local.node q layout (part.layouts q layout e)),
       tt,
     );
     others = other_part;
-    kept = λ other sent. record {
-      sent = (sent.sent.0, in_front world.sent (reply_of whole ∷ []) sent.sent.0 other.message sent.sent.1);
-      layout = sent.layout;
-      next = sent.next;
-    };
+    kept = letter_kept world (served_to whole) still_final
+        (λ message was. (was.0, in_front world.sent (reply_of whole ∷ []) was.0 message was.1));
     files = refl;
     now = omega arith;
     entries = refl;

@@ -21,21 +21,21 @@ read_has_events id fragment world local formed part may premised =
     let first = some_layout (layout_here local 0) part.first in
     let there = some_layout (layout_here local local.start) may in
     let history = world.history ++ begun_entry id Read (suc world.now) ∷ [] in
-    let one = read_begun fragment world local id formed part premised.0 first.0 first.1 in
+    let one = read_begun fragment world local id formed part premised first.0 first.1 in
     subst (λ o. HasEvents fragment world (called_at local id Read local.start o) history (suc (local.start * most_events))) (sym there.1)
-    (begins fragment world local id Read formed part premised.0 first.0 first.1 (Event.BeginRead local.node id) history one.0 one.1
-    local.start there.0 there.1 premised.1)
+    (begins fragment world local id Read formed part premised first.0 first.1 (Event.BeginRead local.node id) history one.0 one.1
+    local.start there.0 there.1 part.start)
 
 pub write_has_events : (id : ℕ) (value : List ℕ) → IsEventOfWorld (LocalEvent.BeginWrite id value)
 write_has_events id value fragment world local formed part may premised =
     let first = some_layout (layout_here local 0) part.first in
     let there = some_layout (layout_here local local.start) may.0 in
     let history = world.history ++ begun_entry id (Write value) (suc world.now) ∷ [] in
-    let one = write_begun fragment world local id value may.1 formed part premised.0 first.0 first.1 in
+    let one = write_begun fragment world local id value may.1 formed part premised first.0 first.1 in
     subst (λ o. HasEvents fragment world (called_at local id (Write value) local.start o) history (suc (local.start * most_events)))
     (sym there.1)
-    (begins fragment world local id (Write value) formed part premised.0 first.0 first.1 (Event.BeginWrite local.node id value) history
-    one.0 one.1 local.start there.0 there.1 premised.1)
+    (begins fragment world local id (Write value) formed part premised first.0 first.1 (Event.BeginWrite local.node id value) history
+    one.0 one.1 local.start there.0 there.1 part.start)
 
 -- Starts grow
 

@@ -1,5 +1,5 @@
 -- An event of all nodes leads to their world.
-use Rattle.std.proofs.Common.{◌≡◌, ◌≤◌, ◌<◌, ℕ, suc, ◌+◌, Bool, true, false, cond, eqb, eq-eqb, eqb-true, List, [], ◌∷◌}
+use Rattle.std.proofs.Common.{◌≡◌, ℕ, suc, ◌+◌, Bool, true, false, cond, eqb, eq-eqb, eqb-true, List, [], ◌∷◌}
 use Rattle.std.proofs.Common.{refl, sym, ap, ◌∙◌, arith}
 use Rattle.record.specs.Fragments.{Code}
 use Rattle.soundness.proofs.ListLemmas.{all_weaker}
@@ -7,8 +7,6 @@ use Rattle.network.specs.Worlds.{World}
 use Rattle.network.specs.Events.{world_after}
 use Rattle.network.specs.Laws.{IsReached}
 use Rattle.letter.specs.declared.letter.Letter.{Letter}
-use Rattle.starts.specs.Starts.{IsStart}
-use Rattle.starts.proofs.FinalPointerLemmas.{finals_stay_final}
 use Rattle.local_object.specs.Local.{LocalObject}
 use Rattle.local_object.specs.Events.{LocalEvent, done_here}
 use Rattle.local_object.specs.Resent.{IsResent}
@@ -16,7 +14,7 @@ use Rattle.refinement.specs.Parts.{IsPartOf, WasSentAs}
 use Rattle.local_object.specs.Restarts.{IsKeptHere}
 use Rattle.refinement.specs.Refined.{history_after, restart_event}
 use Rattle.refinement.specs.Starting.{event_count}
-use Rattle.refinement.specs.Systems.{IsStartOf, IsWorldOf, MayHappenIn, System, SystemEvent, system_after}
+use Rattle.refinement.specs.Systems.{IsWorldOf, MayHappenIn, System, SystemEvent, system_after}
 use Rattle.refinement.specs.Systems.{with_object_at}
 use Rattle.refinement.specs.WellFormed.{IsWellFormed}
 use Rattle.refinement.proofs.KeptNodeLemmas.{node_kept}
@@ -24,7 +22,7 @@ use Rattle.refinement.proofs.LocalEventLemmas.{each_refined}
 use Rattle.refinement.proofs.ResentLetterLemmas.{letters_sent}
 use Rattle.refinement.proofs.RestartedNodeLemmas.{restarts_refined}
 use Rattle.refinement.proofs.EventRunLemmas.{HasWorld}
-use Rattle.refinement.proofs.SystemStartLemmas.{mover_here, premised_there, starts_done, told_later, told_there}
+use Rattle.refinement.proofs.SystemPremiseLemmas.{mover_here, premised_there}
 use Rattle.open_calls.proofs.ListLemmas.{all_append}
 
 module _ (fragment : Code) (world : World) (system : System) (reached : IsReached fragment world) (formed : IsWellFormed fragment world)
@@ -37,14 +35,6 @@ module _ (fragment : Code) (world : World) (system : System) (reached : IsReache
       go : (b : Bool) → eqb other node ≡ b → (cond b local (system.objects other)).node ≡ other
       go true e = own ∙ sym (eqb-true other node e)
       go false e = is.nodes other
-
-  starts_after : (later : World) (node : ℕ) (local : LocalObject) → ((start : ℕ) → IsStart world start → IsStart later start) →
-      IsStart world local.start → (other : ℕ) → IsStart later (with_object_at system.objects node local other).start
-  starts_after later node local stay own other = go (eqb other node)
-    where
-      go : (b : Bool) → IsStart later (cond b local (system.objects other)).start
-      go true = stay local.start own
-      go false = stay (system.objects other).start (is.starts other)
 
   parts_after : (later : World) (node : ℕ) (local : LocalObject) → local.node ≡ node → IsPartOf later local →
       ((other : LocalObject) → (other.node ≡ local.node → ⊥) → IsPartOf world other → IsPartOf later other) → (other : ℕ) →
@@ -76,11 +66,6 @@ module _ (fragment : Code) (world : World) (system : System) (reached : IsReache
           parts = parts_after later node done.local own led.refined.part led.refined.others;
           letters = all_append (WasSentAs later) system.letters done.sent
               (all_weaker (WasSentAs world) (WasSentAs later) led.refined.kept system.letters is.letters) led.refined.sent;
-          starts = starts_after later node done.local
-              (λ start first position less. finals_stay_final fragment world led.events position led.refined.may (first position less))
-              (starts_done fragment world system reached formed is node event may.0 may.1);
-          told = all_weaker (IsStartOf world) (IsStartOf later) (told_later fragment world led.events led.refined.may) system.starts
-              is.told;
           history = led.entries ∙ ap (λ now. history_after local event (suc now) world.history) is.now
               ∙ ap (history_after local event (suc system.now)) is.history;
           now = led.refined.now ∙ ap (λ n. world.now + n) led.number ∙ ap (λ now. now + event_count local event) is.now;
@@ -101,29 +86,10 @@ module _ (fragment : Code) (world : World) (system : System) (reached : IsReache
           letters = all_append (WasSentAs world) system.letters letters is.letters
               (all_weaker (IsResent fragment local) (WasSentAs world)
               (λ letter again. letters_sent fragment world local letter formed (is.parts node) again) letters may);
-          starts = is.starts;
-          told = is.told;
           history = is.history;
           now = is.now;
         };
       }
-
-  tells : (node : ℕ) → HasWorld fragment world (system_after fragment system (SystemEvent.Tells node))
-  tells node = record {
-    events = [];
-    may = tt;
-    formed = formed;
-    is = record {
-      files = is.files;
-      nodes = is.nodes;
-      parts = is.parts;
-      letters = is.letters;
-      starts = is.starts;
-      told = told_there fragment world system reached formed is node;
-      history = is.history;
-      now = is.now;
-    };
-  }
 
   restarted : (node : ℕ) (after : LocalObject) → MayHappenIn fragment system (SystemEvent.Restarts node after) →
       HasWorld fragment world (system_after fragment system (SystemEvent.Restarts node after))
@@ -152,20 +118,12 @@ module _ (fragment : Code) (world : World) (system : System) (reached : IsReache
           nodes = nodes_after node after own;
           parts = parts_after later node after own led.0.part led.0.others;
           letters = all_weaker (WasSentAs world) (WasSentAs later) led.0.kept system.letters is.letters;
-          starts = starts_after later node after
-              (λ start first position less. finals_stay_final fragment world events position led.0.may (first position less))
-              (λ position less. is.starts node position (before_start position after.start before.start less may.start));
-          told = all_weaker (IsStartOf world) (IsStartOf later) (told_later fragment world events led.0.may) system.starts is.told;
           history = led.1 ∙ is.history;
           now = one;
         };
       }
-    where
-      before_start : (position start was : ℕ) → position < start → start ≤ was → position < was
-      before_start position start was less more = omega arith
 
   pub one_event : (event : SystemEvent) → MayHappenIn fragment system event → HasWorld fragment world (system_after fragment system event)
   one_event (SystemEvent.Acts node event) may = acted node event may
   one_event (SystemEvent.Resends node letters) may = resent node letters may
-  one_event (SystemEvent.Tells node) may = tells node
   one_event (SystemEvent.Restarts node after) may = restarted node after may

@@ -53,9 +53,13 @@ module _ (files : ℕ → ClusterFile) (one : IsOneFile files) where
       let first : Place = record { position = 0; layout = (files node).first; bank = None } in
       ap (λ b. layout_in (cond b (Some first) None)) (differs 0 (suc q) (λ same. absurd (omega arith)))
 
+  none_before : (position : ℕ) → position < 0 → ⊥
+  none_before position less = absurd (omega (arith, less))
+
   opened_part : (node : ℕ) → IsPartOf (opened_world files) (opened_local node)
   opened_part node = record {
     delta = refl;
+    start = λ position less. absurd (none_before position less);
     layouts = layouts;
     first = refl;
     banks = banks;
@@ -85,17 +89,12 @@ module _ (files : ℕ → ClusterFile) (one : IsOneFile files) where
       mover zero layout e = e
       mover (suc q) layout e = absurd (cc)
 
-  none_before : (position : ℕ) → position < 0 → ⊥
-  none_before position less = absurd (omega (arith, less))
-
   opened_is : IsWorldOf (opened_world files) (opened_system files)
   opened_is = record {
     files = refl;
     nodes = λ node. refl;
     parts = opened_part;
     letters = tt;
-    starts = λ node position less. absurd (none_before position less);
-    told = tt;
     history = refl;
     now = refl;
   }

@@ -1,6 +1,6 @@
 -- The contracts that docs/trusted.md lists do not depend on this file; other contracts and proofs do.
 -- Which events of the world an event at a node is, and when the world after them agrees with what all nodes keep.
-use Rattle.std.specs.Prelude.{◌≡◌, ◌≢◌, ◌+◌, ℕ, suc, List, [], ◌∷◌, ◌++◌, length, map, Option, None, Some, slice_get}
+use Rattle.std.specs.Prelude.{◌≡◌, ◌≢◌, ◌+◌, ℕ, suc, List, [], ◌∷◌, ◌++◌, length, map, Option, None, Some}
 use Rattle.std.specs.List.{AllByRecursion}
 use Rattle.bank.specs.declared.reply.Reply.{Reply}
 use Rattle.mail.specs.declared.message.Body.{Body}
@@ -10,7 +10,7 @@ use Rattle.record.specs.declared.call.CallKind.TheVariants.{Read, Write, Move}
 use Rattle.record.specs.declared.call.Entry.{Entry}
 use Rattle.record.specs.Fragments.{Code}
 use Rattle.record.specs.Journals.{operation_of, entry_value}
-use Rattle.network.specs.Worlds.{World, after_restart, known_layouts}
+use Rattle.network.specs.Worlds.{World, after_restart}
 use Rattle.open_calls.specs.OpenCalls.{NodeCall, open_call}
 use Rattle.network.specs.Events.{Event, world_after, answered_entry}
 use Rattle.network.specs.Premises.{IsUnused, MayHappenInTurn}
@@ -43,7 +43,7 @@ served_events local letter (body.Reply kind made) = []
 
 -- the events of the world that an event at a node is, unless a call begins or goes on at the node's start: one; or none
 -- if the node takes a reply to a call that it does not carry out, gives such a call up, serves a request that its bank
--- declines, closes a bank, or knows a later start
+-- declines, hears of a letter or sends one back, closes a bank, or its start grows
 abbrev pub world_events : LocalObject → LocalEvent → List Event
 world_events local (LocalEvent.BeginMove id layout) = Event.BeginMove local.node id layout ∷ []
 world_events local (LocalEvent.Advance id) = Event.Advance id ∷ []
@@ -56,19 +56,17 @@ world_events local (LocalEvent.GiveUp id) = if_carried (open_call local.calls id
 world_events local _ = []
 
 -- what is assumed of an event at a node: a letter is one that was sent, the id of a call is new, only the node that
--- moves objects begins a move, a position at which calls begin or will begin is a start of the world, and the layout of
--- a start of which the node hears is the world's
+-- moves objects begins a move, and a start grows to a start of the world
 abbrev pub IsPremisedHere : World → LocalObject → LocalEvent → Type 0
-IsPremisedHere world local (LocalEvent.BeginRead id) = IsUnused world id × IsStart world local.start
-IsPremisedHere world local (LocalEvent.BeginWrite id value) = IsUnused world id × IsStart world local.start
+IsPremisedHere world local (LocalEvent.BeginRead id) = IsUnused world id
+IsPremisedHere world local (LocalEvent.BeginWrite id value) = IsUnused world id
 IsPremisedHere world local (LocalEvent.BeginMove id layout) =
     IsUnused world id × (local.node ≡ (world.files local.node).mover)
 IsPremisedHere world local (LocalEvent.Serve letter) = WasSentAs world letter
 IsPremisedHere world local (LocalEvent.Take letter) = WasSentAs world letter
 IsPremisedHere world local (LocalEvent.Grow id) = IsStart world (suc local.start)
-IsPremisedHere world local (LocalEvent.Hear start layout) = slice_get (known_layouts world 0) start ≡ Some layout
-IsPremisedHere world local (LocalEvent.ReadOn id) = IsStart world local.start
-IsPremisedHere world local (LocalEvent.BeginAnew id) = IsStart world local.start
+IsPremisedHere world local (LocalEvent.Hear letter) = WasSentAs world letter
+IsPremisedHere world local (LocalEvent.Redirect letter) = WasSentAs world letter
 IsPremisedHere world local _ = Unit {0}
 
 -- The history

@@ -1,15 +1,14 @@
 -- All nodes of a cluster for one object, each with what it keeps itself, and what may happen to them.
-use Rattle.std.specs.Prelude.{◌≡◌, ◌≢◌, ◌+◌, ℕ, suc, ◌==◌, if◌then◌else◌, Option, None, Some}
+use Rattle.std.specs.Prelude.{◌≡◌, ◌≢◌, ◌+◌, ℕ, suc, ◌==◌, if◌then◌else◌, Some}
 use Rattle.std.specs.Prelude.{List, [], ◌∷◌, ◌++◌, map, slice_get}
 use Rattle.std.specs.List.{AllByRecursion}
-use Rattle.layout.specs.Layout.{IsLawful, Layout}
+use Rattle.layout.specs.Layout.{IsLawful}
 use Rattle.record.specs.declared.call.Entry.{Entry}
 use Rattle.record.specs.Fragments.{Code}
-use Rattle.network.specs.Worlds.{ClusterFile, World, known_layouts}
+use Rattle.network.specs.Worlds.{ClusterFile, World}
 use Rattle.network.specs.Premises.{IsOneFile}
-use Rattle.starts.specs.Starts.{IsStart}
 use Rattle.letter.specs.declared.letter.Letter.{Letter}
-use Rattle.local_object.specs.Local.{LocalObject, layout_here, new_local}
+use Rattle.local_object.specs.Local.{LocalObject, new_local}
 use Rattle.local_object.specs.Events.{LocalEvent, done_here}
 use Rattle.local_object.specs.Outcomes.{Outcome}
 use Rattle.local_object.specs.May.{MayHappenHere}
@@ -19,18 +18,12 @@ use Rattle.local_object.specs.Restarts.{IsKeptHere}
 use Rattle.refinement.specs.Refined.{history_after}
 use Rattle.refinement.specs.Starting.{event_count}
 
--- a start that a node told of: the position, and its layout
-pub record Start : Type 0 where
-  pub position : ℕ
-  pub layout : Layout
-
--- all nodes: the cluster file that each runs with, what each keeps of the object, all letters ever sent, and all starts
--- ever told of; and as history the entries of the calls, and how many events there were
+-- all nodes: the cluster file that each runs with, what each keeps of the object, and all letters ever sent; and as
+-- history the entries of the calls, and how many events there were
 pub record System : Type 0 where
   pub files : (node : ℕ) → ClusterFile
   pub objects : (node : ℕ) → LocalObject
   pub letters : List Letter
-  pub starts : List Start
   pub history : List Entry
   pub now : ℕ
 
@@ -40,27 +33,19 @@ opened_system files = record {
   files = files;
   objects = λ node. new_local node (files node).delta (files node).first;
   letters = [];
-  starts = [];
   history = [];
   now = 0;
 }
 
--- what happens: a node does something, it sends letters again, it tells of its start, or it stops and starts again, and
--- then keeps this
+-- what happens: a node does something, it sends letters again, or it stops and starts again, and then keeps this
 pub data SystemEvent : Type 0 where
   Acts : (node : ℕ) → LocalEvent → SystemEvent
   Resends : (node : ℕ) → List Letter → SystemEvent
-  Tells : (node : ℕ) → SystemEvent
   Restarts : (node : ℕ) → LocalObject → SystemEvent
 
 -- what the nodes keep, with this at one of them
 abbrev pub with_object_at : (objects : ℕ → LocalObject) → (node : ℕ) → LocalObject → (other : ℕ) → LocalObject
 with_object_at objects node local other = if other == node then local else objects other
-
--- a position as a start to tell of, if the node has heard of its layout
-abbrev pub start_told : (position : ℕ) → Option Layout → List Start
-start_told position None = []
-start_told position (Some layout) = record { position = position; layout = layout } ∷ []
 
 -- all nodes after an event
 abbrev pub system_after : Code → System → SystemEvent → System
@@ -70,15 +55,11 @@ system_after fragment system (SystemEvent.Acts node event) =
       files = system.files;
       objects = with_object_at system.objects node done.local;
       letters = system.letters ++ done.sent;
-      starts = system.starts;
       history = history_after local event (suc system.now) system.history;
       now = system.now + event_count local event;
     }
 system_after fragment system (SystemEvent.Resends node letters) =
     record system { letters = system.letters ++ letters }
-system_after fragment system (SystemEvent.Tells node) =
-    let local = system.objects node in
-    record system { starts = system.starts ++ start_told local.start (layout_here local local.start) }
 system_after fragment system (SystemEvent.Restarts node after) =
     record system { objects = with_object_at system.objects node after; now = suc system.now }
 
@@ -86,16 +67,12 @@ system_after fragment system (SystemEvent.Restarts node after) =
 abbrev pub WasPosted : System → Letter → Type 0
 WasPosted system letter = (place : ℕ) × (slice_get system.letters place ≡ Some letter)
 
--- a node told of the start
-abbrev pub WasTold : System → Start → Type 0
-WasTold system start = (place : ℕ) × (slice_get system.starts place ≡ Some start)
-
 -- no call of the history has this id
 abbrev pub IsFree : System → (id : ℕ) → Type 0
 IsFree system id = AllByRecursion (λ entry. entry.call ≢ id) system.history
 
--- what is assumed of an event at a node: a letter is one that was sent, a start of which the node hears is one that a
--- node told of, the id of a call is new, and only the node that moves objects begins a move
+-- what is assumed of an event at a node: a letter is one that was sent, the id of a call is new, and only the node that
+-- moves objects begins a move
 abbrev pub IsPremisedIn : System → (node : ℕ) → LocalEvent → Type 0
 IsPremisedIn system node (LocalEvent.BeginRead id) = IsFree system id
 IsPremisedIn system node (LocalEvent.BeginWrite id value) = IsFree system id
@@ -103,8 +80,8 @@ IsPremisedIn system node (LocalEvent.BeginMove id layout) =
     IsFree system id × (node ≡ (system.files node).mover)
 IsPremisedIn system node (LocalEvent.Serve letter) = WasPosted system letter
 IsPremisedIn system node (LocalEvent.Take letter) = WasPosted system letter
-IsPremisedIn system node (LocalEvent.Hear start layout) =
-    WasTold system (record { position = start; layout = layout })
+IsPremisedIn system node (LocalEvent.Hear letter) = WasPosted system letter
+IsPremisedIn system node (LocalEvent.Redirect letter) = WasPosted system letter
 IsPremisedIn system node _ = Unit {0}
 
 -- the event may happen, and meets the premises: a node sends again only letters of the current phases of its calls, and
@@ -114,7 +91,6 @@ MayHappenIn fragment system (SystemEvent.Acts node event) =
     MayHappenHere fragment (system.objects node) event × IsPremisedIn system node event
 MayHappenIn fragment system (SystemEvent.Resends node letters) =
     AllByRecursion (IsResent fragment (system.objects node)) letters
-MayHappenIn fragment system (SystemEvent.Tells node) = Unit {0}
 MayHappenIn fragment system (SystemEvent.Restarts node after) =
     IsKeptHere (node ≡ (system.files node).mover) (system.objects node) after
 
@@ -138,20 +114,12 @@ pub record IsReachedSystem (fragment : Code) (system : System) : Type 0 where
   pub may : MayRunIn fragment events (opened_system files)
   pub result : system_run fragment events (opened_system files) ≡ system
 
--- a start of the world, with its layout there
-pub record IsStartOf (world : World) (start : Start) : Type 0 where
-  pub starts : IsStart world start.position
-  pub layout : slice_get (known_layouts world 0) start.position ≡ Some start.layout
-
--- the world is that of all nodes: what each keeps is its part, the letters were sent in it, the start of each node and
--- those that nodes told of are starts of the world, and the history is the same
+-- the world is that of all nodes: what each keeps is its part, the letters were sent in it, and the history is the same
 pub record IsWorldOf (world : World) (system : System) : Type 0 where
   pub files : world.files ≡ system.files
   pub nodes : (node : ℕ) → (system.objects node).node ≡ node
   pub parts : (node : ℕ) → IsPartOf world (system.objects node)
   pub letters : AllByRecursion (WasSentAs world) system.letters
-  pub starts : (node : ℕ) → IsStart world (system.objects node).start
-  pub told : AllByRecursion (IsStartOf world) system.starts
   pub history : world.history ≡ system.history
   pub now : world.now ≡ system.now
 

@@ -1,0 +1,67 @@
+-- The premises of an event at a node hold in the world of all nodes.
+use Rattle.std.proofs.Common.{◌≡◌, ℕ, suc, Some, slice_get, sym, subst, ap, ◌∙◌}
+use Rattle.std.specs.List.{AllByRecursion}
+use Rattle.record.specs.declared.call.Entry.{Entry}
+use Rattle.record.specs.Fragments.{Code}
+use Rattle.soundness.proofs.ListLemmas.{all_get}
+use Rattle.network.specs.Worlds.{ClusterFile, World}
+use Rattle.network.specs.Laws.{IsReached}
+use Rattle.letter.specs.declared.letter.Letter.{Letter}
+use Rattle.starts.specs.Starts.{IsStart}
+use Rattle.local_object.specs.Events.{LocalEvent}
+use Rattle.local_object.specs.May.{MayHappenHere}
+use Rattle.refinement.specs.Parts.{WasSentAs}
+use Rattle.refinement.specs.Refined.{IsPremisedHere}
+use Rattle.refinement.specs.Systems.{IsPremisedIn, IsWorldOf, System}
+use Rattle.refinement.specs.WellFormed.{IsWellFormed}
+use Rattle.refinement.proofs.StartedCallLemmas.{starts_are_grown}
+
+module _ (fragment : Code) (world : World) (system : System) (reached : IsReached fragment world) (formed : IsWellFormed fragment world)
+    (is : IsWorldOf world system) where
+  unused_there : (id : ℕ) → AllByRecursion (λ entry. entry.call ≡ id → ⊥) system.history →
+      AllByRecursion (λ entry. entry.call ≡ id → ⊥) world.history
+  unused_there id free = subst (AllByRecursion (λ (entry : Entry). entry.call ≡ id → ⊥)) (sym is.history) free
+
+  -- the node that moves objects by the system's files does so by the world's
+  mover_there : (node : ℕ) → node ≡ (system.files node).mover →
+      (system.objects node).node ≡ (world.files (system.objects node).node).mover
+  mover_there node moves =
+      is.nodes node ∙ moves ∙ ap (λ (files : ℕ → ClusterFile). (files node).mover) (sym is.files)
+      ∙ ap (λ n. (world.files n).mover) (sym (is.nodes node))
+
+  pub mover_here : (node : ℕ) → (system.objects node).node ≡ (world.files (system.objects node).node).mover →
+      node ≡ (system.files node).mover
+  mover_here node moves =
+      sym (is.nodes node) ∙ moves ∙ ap (λ n. (world.files n).mover) (is.nodes node)
+      ∙ ap (λ (files : ℕ → ClusterFile). (files node).mover) is.files
+
+  letter_there : (letter : Letter) → (place : ℕ) × (slice_get system.letters place ≡ Some letter) → WasSentAs world letter
+  letter_there letter posted = all_get (WasSentAs world) system.letters posted.0 letter is.letters posted.1
+
+  -- a node's start grows to a start
+  grows_there : (node id : ℕ) → MayHappenHere fragment (system.objects node) (LocalEvent.Grow id) →
+      IsStart world (suc (system.objects node).start)
+  grows_there node id may =
+      let call = may.0 in
+      let spread = may.2 in
+      subst (λ n. IsStart world (suc n)) spread.at
+      (starts_are_grown fragment world (system.objects node) id call reached formed (is.parts node) may.1 spread.kind spread.complete
+      (subst (IsStart world) (sym spread.at) (is.parts node).start))
+
+  pub premised_there : (node : ℕ) (event : LocalEvent) → MayHappenHere fragment (system.objects node) event →
+      IsPremisedIn system node event → IsPremisedHere world (system.objects node) event
+  premised_there node (LocalEvent.BeginRead id) may premised = unused_there id premised
+  premised_there node (LocalEvent.BeginWrite id value) may premised = unused_there id premised
+  premised_there node (LocalEvent.BeginMove id layout) may premised = (unused_there id premised.0, mover_there node premised.1)
+  premised_there node (LocalEvent.Advance id) may premised = tt
+  premised_there node (LocalEvent.Serve letter) may premised = letter_there letter premised
+  premised_there node (LocalEvent.Take letter) may premised = letter_there letter premised
+  premised_there node (LocalEvent.Settle id value) may premised = tt
+  premised_there node (LocalEvent.Answer id) may premised = tt
+  premised_there node (LocalEvent.GiveUp id) may premised = tt
+  premised_there node (LocalEvent.Close position) may premised = tt
+  premised_there node (LocalEvent.Grow id) may premised = grows_there node id may
+  premised_there node (LocalEvent.Hear letter) may premised = letter_there letter premised
+  premised_there node (LocalEvent.Redirect letter) may premised = letter_there letter premised
+  premised_there node (LocalEvent.ReadOn id) may premised = tt
+  premised_there node (LocalEvent.BeginAnew id) may premised = tt
