@@ -2,12 +2,14 @@
 use Rattle.std.proofs.Common.{◌≡◌, ℕ, ◌≤◌, Bool, true, false, not, cond, ltb, leb, List, [], ◌∷◌, ◌++◌, length}
 use Rattle.std.proofs.Common.{Option, Some, None, Ok, Err, refl, sym, ap, arith, length-append}
 use Rattle.std.specs.Prelude.{IfSome, is_some}
+use Rattle.std.specs.Int.{w32, to_be_bytes}
 use Rattle.std.specs.List.{AllByRecursion, list_all}
 use Rattle.std.proofs.lemmas.Bool.{leb-true, le-leb, le-ltb, lt-ltb, and_parts, and_from}
 use Rattle.frames.specs.Frame.{IsFrame, IsShort}
 use Rattle.frames.specs.declared.limits.TheConstants.{LONGEST_STRING, MOST_STRINGS}
 use Rattle.tag.specs.declared.limits.TheConstants.{LONGEST_NAME, MOST_MEMBERS}
 use Rattle.layout.specs.Layout.{Layout, IsLawful}
+use Rattle.letter.specs.declared.start.Start.{Start}
 use Rattle.bank.specs.declared.reply.Answer.{Answer}
 use Rattle.bank.specs.declared.reply.Answer.TheVariants as answer
 use Rattle.bank.specs.declared.request.Request.TheVariants as request
@@ -19,9 +21,9 @@ use Rattle.cluster_file.specs.declared.file.TheConstants.{DIGEST_LENGTH}
 use Rattle.node_strings.specs.Strings.{Strings}
 use Rattle.node_messages.specs.declared.error.Fault.TheVariants.{PieceTooLong}
 use Rattle.node_messages.specs.declared.message.NodeMessage.{NodeMessage}
-use Rattle.node_messages.specs.Head.{head_of, layout_bytes, next_bytes, number_bytes, said_of}
+use Rattle.node_messages.specs.Head.{head_of, layout_bytes, next_bytes, number_bytes, said_of, start_bytes}
 use Rattle.node_messages.specs.Laws.{ShortPiecesHaveFrames}
-use Rattle.node_messages.specs.Message.{is_fitting, IsBody, IsMessage}
+use Rattle.node_messages.specs.Message.{is_fitting, IsBody, IsMessage, IsStart}
 use Rattle.node_messages.specs.Strings.{answer_piece, body_piece, piece_strings, strings_of}
 use Rattle.node_messages.specs.Writing.{same, is_frame, framed}
 
@@ -64,30 +66,39 @@ next_length : (next : Option Layout) → IfSome next IsLawful → length (next_b
 next_length None lawful = omega arith
 next_length (Some l) lawful = most_members l lawful
 
+start_length : (start : Option Start) → IfSome start IsStart → length (start_bytes start) ≤ 261
+start_length None is = omega arith
+start_length (Some s) is =
+    let four : length (to_be_bytes w32 s.position) ≡ 4 = refl in
+    omega (arith, length-append (to_be_bytes w32 s.position) (layout_bytes s.layout), four, most_members s.layout is.1)
+
 -- a string of at most 1,000 bytes is short
 small : (s : List ℕ) → length s ≤ 1000 → IsShort s
 small s le = let limit : LONGEST_STRING ≡ 16842752 = refl in omega arith
 
-joined : (numbers digest layout next : List ℕ) → length numbers ≡ 51 → length digest ≡ 16 → length layout ≤ 257 → length next ≤ 257
-    → IsShort (numbers ++ (digest ++ (layout ++ next)))
-joined numbers digest layout next a b c d =
-    small (numbers ++ (digest ++ (layout ++ next))) (omega (
+joined : (numbers digest layout next start : List ℕ) → length numbers ≡ 51 → length digest ≡ 16 → length layout ≤ 257
+    → length next ≤ 257 → length start ≤ 261 → IsShort (numbers ++ (digest ++ (layout ++ (next ++ start))))
+joined numbers digest layout next start a b c d e =
+    small (numbers ++ (digest ++ (layout ++ (next ++ start)))) (omega (
       arith,
-      length-append numbers (digest ++ (layout ++ next)),
-      length-append digest (layout ++ next),
-      length-append layout next,
+      length-append numbers (digest ++ (layout ++ (next ++ start))),
+      length-append digest (layout ++ (next ++ start)),
+      length-append layout (next ++ start),
+      length-append next start,
       a,
       b,
       c,
       d,
+      e,
     ))
 
 head_short : (m : NodeMessage) → IsMessage m → IsShort (head_of m)
 head_short m is =
     let limit : DIGEST_LENGTH ≡ 16 = refl in
     joined (number_bytes m.named.letter.message (said_of m.named.letter.message.body)) m.digest (layout_bytes m.named.letter.layout)
-    (next_bytes m.named.letter.next)
+    (next_bytes m.named.letter.next) (start_bytes m.named.letter.start)
     refl (omega (arith, is.digest)) (most_members m.named.letter.layout is.layout) (next_length m.named.letter.next is.next)
+    (start_length m.named.letter.start is.start)
 
 -- the strings of a piece, of which there is at most one
 record Piece (ss : Strings) : Type 0 where

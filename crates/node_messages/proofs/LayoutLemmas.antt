@@ -1,19 +1,26 @@
--- The layouts that are read are those that were written, and what was written is read again.
-use Rattle.std.proofs.Common.{◌≡◌, ℕ, ◌≤◌, Bool, true, false, ltb, List, [], ◌∷◌, ◌++◌, length, take, drop}
+-- The layouts and the start that are read are those that were written, and what was written is read again.
+use Rattle.std.proofs.Common.{◌≡◌, ℕ, ◌<◌, ◌≤◌, ◌^◌, Bool, true, false, ltb, List, [], ◌∷◌, ◌++◌, length, take, drop}
 use Rattle.std.proofs.Common.{Option, Some, None, Ok, refl, sym, ap, ap₂, subst, ◌∙◌, arith, drop_at, length-append, take_all}
 use Rattle.std.proofs.Common.{take-append-drop}
 use Rattle.std.specs.Prelude.{IfSome, is_some}
+use Rattle.std.specs.Int.{w32, to_be_bytes, from_be_bytes}
+use Rattle.std.specs.Str.{bytes_eq}
 use Rattle.std.proofs.lemmas.Bool.{ltb-false, le-ltb}
+use Rattle.std.proofs.lemmas.Slice.Eq.{bytes_eq-Decides}
 use Rattle.std.proofs.lemmas.List.{append-nil, length-take-le, take-append-le}
 use Rattle.layout.specs.Layout.{Layout, IsLawful}
+use Rattle.letter.specs.declared.start.Start.{Start}
 use Rattle.words.specs.Parts.{and_then}
-use Rattle.words.proofs.PartLemmas.{bind_ok, guarded_above, ok_is}
+use Rattle.words.proofs.PartLemmas.{bind_ok, guarded, guarded_above, ok_is}
 use Rattle.node_strings.specs.Layouts.{checked_layout}
 use Rattle.node_strings.proofs.LayoutLemmas.{checked_ok, checked_again}
 use Rattle.node_messages.specs.declared.error.Fault.TheVariants.{BadLayout}
 use Rattle.node_messages.specs.declared.layouts.Layouts.{Layouts}
-use Rattle.node_messages.specs.Head.{layout_bytes, next_bytes}
-use Rattle.node_messages.specs.Reading.{first_byte, first_members, first_layout, first_next, whole_head, layouts_from}
+use Rattle.node_messages.specs.Head.{layout_bytes, next_bytes, start_bytes}
+use Rattle.node_messages.specs.Layouts.{first_byte, first_members, first_layout, first_next, first_number, first_position}
+use Rattle.node_messages.specs.Layouts.{first_start, whole_head, last_start, layouts_from}
+use Rattle.node_messages.specs.Message.{IsStart}
+use Rattle.node_messages.proofs.NumberLemmas.{short_below, short_again}
 
 byte_ok : (bytes : List ℕ) (x : ℕ × List ℕ) → first_byte bytes ≡ Ok x → bytes ≡ x.0 ∷ x.1
 unfolding first_byte
@@ -81,35 +88,119 @@ unfolding first_next
 next_again None rest lawful = refl
 next_again (Some layout) rest lawful = rw (layout_again layout rest lawful) refl
 
--- ---- both layouts
+-- ---- the start
 
--- these are the bytes of lawful layouts
+-- these are the bytes of a position, and others after them
+abbrev IsPositionFront : List ℕ → ℕ × List ℕ → Type 0
+IsPositionFront bytes x = (bytes ≡ to_be_bytes w32 x.0 ++ x.1) × (x.0 < 2 ^ 32)
+
+position_ok : (bytes : List ℕ) (x : ℕ × List ℕ) → first_position bytes ≡ Ok x → IsPositionFront bytes x
+unfolding first_position
+position_ok bytes x e =
+    let n = first_number bytes in
+    let g = guarded (bytes_eq (to_be_bytes w32 n) (take 4 bytes)) (Ok (n, drop 4 bytes)) BadLayout x e in
+    let same : to_be_bytes w32 n ≡ take 4 bytes = (bytes_eq-Decides (to_be_bytes w32 n) (take 4 bytes)).0 g.0 in
+    let whole : bytes ≡ to_be_bytes w32 n ++ drop 4 bytes =
+    sym (take-append-drop 4 bytes) ∙ ap (λ (b : List ℕ). b ++ drop 4 bytes) (sym same) in
+    subst (IsPositionFront bytes) (ok_is (n, drop 4 bytes) x g.1) (whole, short_below (from_be_bytes w32 (take 4 bytes)))
+
+position_by : (bytes rest : List ℕ) (n : ℕ) → first_number bytes ≡ n → take 4 bytes ≡ to_be_bytes w32 n → drop 4 bytes ≡ rest
+    → first_position bytes ≡ Ok (n, rest)
+unfolding first_position
+position_by bytes rest n is_number is_front is_rest =
+    rw (is_number, is_front, is_rest, (bytes_eq-Decides (to_be_bytes w32 n) (to_be_bytes w32 n)).1 refl) refl
+
+position_again : (n : ℕ) (rest : List ℕ) → n < 2 ^ 32 → first_position (to_be_bytes w32 n ++ rest) ≡ Ok (n, rest)
+position_again n rest small = position_by (to_be_bytes w32 n ++ rest) rest n (short_again n small) refl refl
+
+-- these are the bytes of a start, and others after them
+abbrev IsStartFront : List ℕ → Start × List ℕ → Type 0
+IsStartFront bytes x = (bytes ≡ to_be_bytes w32 x.0.position ++ (layout_bytes x.0.layout ++ x.1)) × IsStart x.0
+
+abbrev start_of : ℕ → Layout → Start
+start_of position layout = record { position = position; layout = layout }
+
+start_ok : (bytes : List ℕ) (x : Start × List ℕ) → first_start bytes ≡ Ok x → IsStartFront bytes x
+unfolding first_start
+start_ok bytes x e =
+    let p = bind_ok (first_position bytes) (λ position. and_then (first_layout position.1) (λ layout.
+    Ok (start_of position.0 layout.0, layout.1))) x e in
+    let l = bind_ok (first_layout p.0.1) (λ layout. Ok (start_of p.0.0 layout.0, layout.1)) x p.2 in
+    let position = position_ok bytes p.0 p.1 in
+    let layout = layout_ok p.0.1 l.0 l.1 in
+    subst (IsStartFront bytes) (ok_is (start_of p.0.0 l.0.0, l.0.1) x l.2)
+    (position.0 ∙ ap (λ (b : List ℕ). to_be_bytes w32 p.0.0 ++ b) layout.0, (position.1, layout.1))
+
+start_again : (start : Start) (rest : List ℕ) → IsStart start
+    → first_start (to_be_bytes w32 start.position ++ (layout_bytes start.layout ++ rest)) ≡ Ok (start, rest)
+unfolding first_start
+start_again start rest is =
+    rw (
+      position_again start.position (layout_bytes start.layout ++ rest) is.0,
+      layout_again start.layout rest is.1,
+    ) refl
+
+-- these are the bytes of a start, if there is one
+abbrev IsLastStart : List ℕ → Option Start → Type 0
+IsLastStart bytes x = (bytes ≡ start_bytes x) × IfSome x IsStart
+
+ended : (start : Start) (rest : List ℕ) (x : Option Start) → whole_head start rest ≡ Ok x → (rest ≡ []) × (Some start ≡ x)
+ended start [] x e = (refl, ok_is (Some start) x e)
+ended start (b ∷ rest) x e = absurd cc
+
+last_ok : (bytes : List ℕ) (x : Option Start) → last_start bytes ≡ Ok x → IsLastStart bytes x
+unfolding last_start
+last_ok [] x e = subst (IsLastStart []) (ok_is None x e) (refl, tt)
+last_ok (b ∷ more) x e =
+    let a = bind_ok (first_start (b ∷ more)) (λ start. whole_head start.0 start.1) x e in
+    let end = ended a.0.0 a.0.1 x a.2 in
+    let s = start_ok (b ∷ more) a.0 a.1 in
+    let layout = layout_bytes a.0.0.layout in
+    let last : layout ++ a.0.1 ≡ layout = ap (λ (r : List ℕ). layout ++ r) end.0 ∙ append-nil layout in
+    subst (IsLastStart (b ∷ more)) end.1
+    (s.0 ∙ ap (λ (r : List ℕ). to_be_bytes w32 a.0.0.position ++ r) last, s.1)
+
+last_again : (start : Option Start) → IfSome start IsStart → last_start (start_bytes start) ≡ Ok start
+unfolding last_start
+last_again None is = refl
+last_again (Some start) is =
+    let whole : first_start (start_bytes (Some start)) ≡ Ok (start, []) =
+    ap (λ (b : List ℕ). first_start (to_be_bytes w32 start.position ++ b)) (sym (append-nil (layout_bytes start.layout)))
+    ∙ start_again start [] is in
+    ap (λ r. and_then r (λ start. whole_head start.0 start.1)) whole
+
+-- ---- the layouts and the start
+
+-- these are the bytes of lawful layouts, and of a start if there is one
 abbrev pub AreBytesOf : Bool → List ℕ → Layouts → Type 0
-AreBytesOf named bytes x = (bytes ≡ layout_bytes x.layout ++ next_bytes x.next) × IsLawful x.layout × (is_some x.next ≡ named)
-    × IfSome x.next IsLawful
+AreBytesOf named bytes x = (bytes ≡ layout_bytes x.layout ++ (next_bytes x.next ++ start_bytes x.start)) × IsLawful x.layout
+    × (is_some x.next ≡ named) × IfSome x.next IsLawful × IfSome x.start IsStart
 
-ended : (layout : Layout) (next : Option Layout) (rest : List ℕ) (x : Layouts) → whole_head layout next rest ≡ Ok x
-    → (rest ≡ []) × (record { layout = layout; next = next } ≡ x)
-ended layout next [] x e = (refl, ok_is (record { layout = layout; next = next }) x e)
-ended layout next (b ∷ rest) x e = absurd cc
+abbrev layouts_of : Layout → Option Layout → Option Start → Layouts
+layouts_of layout next start = record { layout = layout; next = next; start = start }
 
 pub layouts_ok : (named : Bool) (bytes : List ℕ) (x : Layouts) → layouts_from named bytes ≡ Ok x → AreBytesOf named bytes x
 unfolding layouts_from
 layouts_ok named bytes x e =
-    let a = bind_ok (first_layout bytes) (λ layout. and_then (first_next named layout.1) (λ next.
-    whole_head layout.0 next.0 next.1)) x e in
-    let b = bind_ok (first_next named a.0.1) (λ next. whole_head a.0.0 next.0 next.1) x a.2 in
-    let end = ended a.0.0 b.0.0 b.0.1 x b.2 in
+    let a = bind_ok (first_layout bytes) (λ layout. and_then (first_next named layout.1) (λ next. and_then (last_start next.1)
+    (λ start. Ok (layouts_of layout.0 next.0 start)))) x e in
+    let b = bind_ok (first_next named a.0.1) (λ next. and_then (last_start next.1) (λ start. Ok (layouts_of a.0.0 next.0 start)))
+    x a.2 in
+    let c = bind_ok (last_start b.0.1) (λ start. Ok (layouts_of a.0.0 b.0.0 start)) x b.2 in
     let l = layout_ok bytes a.0 a.1 in
     let n = next_ok named a.0.1 b.0 b.1 in
-    let last : a.0.1 ≡ next_bytes b.0.0 = n.0 ∙ ap (λ (r : List ℕ). next_bytes b.0.0 ++ r) end.0 ∙ append-nil (next_bytes b.0.0) in
-    subst (AreBytesOf named bytes) end.1
-    (l.0 ∙ ap (λ (r : List ℕ). layout_bytes a.0.0 ++ r) last, l.1, n.1, n.2)
+    let s = last_ok b.0.1 c.0 c.1 in
+    let last : a.0.1 ≡ next_bytes b.0.0 ++ start_bytes c.0 = n.0 ∙ ap (λ (r : List ℕ). next_bytes b.0.0 ++ r) s.0 in
+    subst (AreBytesOf named bytes) (ok_is (layouts_of a.0.0 b.0.0 c.0) x c.2)
+    (l.0 ∙ ap (λ (r : List ℕ). layout_bytes a.0.0 ++ r) last, l.1, n.1, n.2, s.1)
 
-pub layouts_again : (layout : Layout) (next : Option Layout) → IsLawful layout → IfSome next IsLawful
-    → layouts_from (is_some next) (layout_bytes layout ++ next_bytes next) ≡ Ok (record { layout = layout; next = next })
+pub layouts_again : (layout : Layout) (next : Option Layout) (start : Option Start) → IsLawful layout → IfSome next IsLawful
+    → IfSome start IsStart
+    → layouts_from (is_some next) (layout_bytes layout ++ (next_bytes next ++ start_bytes start)) ≡ Ok (layouts_of layout next start)
 unfolding layouts_from
-layouts_again layout next lawful next_lawful =
-    let read_next : first_next (is_some next) (next_bytes next) ≡ Ok (next, []) =
-    ap (first_next (is_some next)) (sym (append-nil (next_bytes next))) ∙ next_again next [] next_lawful in
-    rw (layout_again layout (next_bytes next) lawful, read_next) refl
+layouts_again layout next start lawful next_lawful is =
+    rw (
+      layout_again layout (next_bytes next ++ start_bytes start) lawful,
+      next_again next (start_bytes start) next_lawful,
+      last_again start is,
+    ) refl

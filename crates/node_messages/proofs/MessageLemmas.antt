@@ -22,11 +22,12 @@ use Rattle.node_messages.specs.declared.message.NodeMessage.{NodeMessage}
 use Rattle.node_messages.specs.declared.places.TheConstants.{PIECE_PLACE}
 use Rattle.node_messages.specs.declared.places.TheConstants.{POSITION_PLACE, MEMBER_PLACE}
 use Rattle.node_messages.specs.Gives.{Agrees}
-use Rattle.node_messages.specs.Head.{byte_in, short_in, number_bytes, said_of, head_of, layout_bytes, next_bytes}
+use Rattle.node_messages.specs.Head.{byte_in, short_in, number_bytes, said_of, head_of, layout_bytes, next_bytes, start_bytes}
 use Rattle.node_messages.specs.Laws.{WrittenMessageIsRead, ReadMessageWasWritten, StringsNameOneMessage}
-use Rattle.node_messages.specs.Message.{IsMessage, IsBody}
+use Rattle.node_messages.specs.Message.{IsMessage, IsBody, IsStart}
 use Rattle.node_messages.specs.Reading.{first_string, first_name, parts_of, last_piece}
-use Rattle.node_messages.specs.Reading.{body_from, layouts_from, made_of, checked_places, message_of_parts, message_from}
+use Rattle.node_messages.specs.Layouts.{layouts_from}
+use Rattle.node_messages.specs.Reading.{body_from, made_of, checked_places, message_of_parts, message_from}
 use Rattle.node_messages.specs.Strings.{body_piece, piece_strings, strings_of}
 use Rattle.node_messages.proofs.NumberLemmas.{Says, numbers_say, body_said, long_below, short_below, call_again}
 use Rattle.node_messages.proofs.NumberLemmas.{phase_again, position_again, member_again}
@@ -72,10 +73,11 @@ checked_again m lt =
 
 -- a message that is made of parts whose numbers are its own
 made_is : (numbers digest name : List ℕ) (piece : Option Piece) (found : Body) (layouts : Layouts) (head : List ℕ) (rest last : Strings)
-    → AreParts head (numbers, digest, layout_bytes layouts.layout ++ next_bytes layouts.next)
+    → AreParts head (numbers, digest, layout_bytes layouts.layout ++ (next_bytes layouts.next ++ start_bytes layouts.start))
     → (rest ≡ name ∷ last) × (length name ≤ LONGEST_NAME)
     → ReadPiece last piece × (byte_in PIECE_PLACE numbers ≡ flag piece) → IsBody found × HasPiece piece (body_piece found)
     → IsLawful layouts.layout × (is_some layouts.next ≡ names_next found) × IfSome layouts.next IsLawful
+    × IfSome layouts.start IsStart
     → byte_in PIECE_PLACE numbers ≡ (said_of found).is_piece
     → (made_of numbers digest name found layouts).named.letter.message.member < length layouts.layout.members
     → of_message (made_of numbers digest name found layouts) ≡ numbers
@@ -83,7 +85,7 @@ made_is : (numbers digest name : List ℕ) (piece : Option Piece) (found : Body)
     × (head ∷ rest ≡ strings_of (made_of numbers digest name found layouts))
 made_is numbers digest name piece found layouts head rest last parts named read body lay says member own =
     let m = made_of numbers digest name found layouts in
-    let behind = digest ++ (layout_bytes layouts.layout ++ next_bytes layouts.next) in
+    let behind = digest ++ (layout_bytes layouts.layout ++ (next_bytes layouts.next ++ start_bytes layouts.start)) in
     let same = same_piece piece (body_piece found) numbers (said_of found) body.1 (piece_is_said found) read.1 says in
     let whole_head : head ≡ head_of m = parts.0 ∙ ap (λ (n : List ℕ). n ++ behind) (sym own) in
     let whole_rest : rest ≡ name ∷ piece_strings (body_piece found) =
@@ -99,6 +101,7 @@ made_is numbers digest name piece found layouts head rest last parts named read 
         body = body.0;
         named = lay.1;
         next = lay.2;
+        start = lay.3;
       },
       ap₂ (λ (h : List ℕ) (r : Strings). h ∷ r) whole_head whole_rest,
     )
@@ -140,7 +143,8 @@ message_ok strings m e =
     let body = body_ok numbers d.0 f.0 read.0.1 f.1 in
     let says = own_says made numbers body.0 checked.1 in
     let whole = made_is numbers b.0.1 c.0.0 d.0 f.0 g.0 a.0.0 a.0.1 c.0.1
-    (parts.0 ∙ ap (λ (l : List ℕ). numbers ++ (b.0.1 ++ l)) lay.0, parts.1) (name_ok a.0.1 c.0 c.1) read body (lay.1, lay.2, lay.3)
+    (parts.0 ∙ ap (λ (l : List ℕ). numbers ++ (b.0.1 ++ l)) lay.0, parts.1) (name_ok a.0.1 c.0 c.1) read body
+    (lay.1, lay.2, lay.3, lay.4)
     says.is_piece checked.0 checked.1 in
     subst (λ (y : NodeMessage). IsMessage y × (strings ≡ strings_of y)) checked.2
     (whole.0, string_ok strings a.0 a.1 ∙ whole.1)
@@ -162,6 +166,7 @@ with_numbers m call phase position member = record {
     letter = record {
       layout = m.named.letter.layout;
       next = m.named.letter.next;
+      start = m.named.letter.start;
       message = record { call = call; phase = phase; position = position; member = member; body = m.named.letter.message.body };
     };
   };
@@ -170,9 +175,13 @@ with_numbers m call phase position member = record {
 few_members : (layout : Layout) (member : ℕ) → IsLawful layout → member < length layout.members → member < 2 ^ 8
 few_members layout member lawful lt = let limit : MOST_MEMBERS ≡ 255 = refl in omega (arith, lawful.few)
 
+-- the layouts of a message, and the start that it tells
+abbrev layouts_in : NodeMessage → Layouts
+layouts_in m = record { layout = m.named.letter.layout; next = m.named.letter.next; start = m.named.letter.start }
+
 made_again : (m : NodeMessage) → IsMessage m
     → made_of (of_message m) m.digest m.named.name m.named.letter.message.body
-    (record { layout = m.named.letter.layout; next = m.named.letter.next }) ≡ m
+    (layouts_in m) ≡ m
 made_again m is =
     let x = m.named.letter.message in
     let said = said_of x.body in
@@ -192,15 +201,16 @@ message_again m is =
     let said = said_of x.body in
     let numbers = number_bytes x said in
     let piece = body_piece x.body in
-    let layout_part = layout_bytes m.named.letter.layout ++ next_bytes m.named.letter.next in
-    let layouts : Layouts = record { layout = m.named.letter.layout; next = m.named.letter.next } in
+    let layout_part =
+    layout_bytes m.named.letter.layout ++ (next_bytes m.named.letter.next ++ start_bytes m.named.letter.start) in
     let says = numbers_say x said (body_said x.body is.body) in
     message_by (strings_of m) (m.named.name ∷ piece_strings piece) (head_of m) numbers m.digest layout_part
     (m.named.name, piece_strings piece) piece
-    x.body layouts (first_again (head_of m) (m.named.name ∷ piece_strings piece)) (parts_again x said m.digest layout_part is.digest)
+    x.body (layouts_in m) (first_again (head_of m) (m.named.name ∷ piece_strings piece)) (parts_again x said m.digest layout_part is.digest)
     (name_again m.named.name (piece_strings piece) is.name) (last_again numbers said piece says (piece_is_said x.body))
     (body_again numbers x.body is.body says)
-    (ap (λ b. layouts_from b layout_part) (sym is.named) ∙ layouts_again m.named.letter.layout m.named.letter.next is.layout is.next)
+    (ap (λ b. layouts_from b layout_part) (sym is.named)
+    ∙ layouts_again m.named.letter.layout m.named.letter.next m.named.letter.start is.layout is.next is.start)
     ∙ ap (checked_places numbers) (made_again m is)
     ∙ checked_again m is.member
 

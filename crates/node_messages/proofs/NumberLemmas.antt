@@ -50,7 +50,7 @@ byte_same n lt = omega arith
 long_again : (n : ℕ) → n < 2 ^ 64 → from_be_bytes w64 (to_be_bytes w64 n) % 2 ^ 64 ≡ n
 long_again n lt = ap (λ (v : ℕ). v % 2 ^ 64) (from_be_bytes-to_be_bytes_8 n lt) ∙ long_same n lt
 
-short_again : (n : ℕ) → n < 2 ^ 32 → from_be_bytes w32 (to_be_bytes w32 n) % 2 ^ 32 ≡ n
+pub short_again : (n : ℕ) → n < 2 ^ 32 → from_be_bytes w32 (to_be_bytes w32 n) % 2 ^ 32 ≡ n
 short_again n lt = ap (λ (v : ℕ). v % 2 ^ 32) (from_be_bytes-to_be_bytes_4 n lt) ∙ short_same n lt
 
 -- ---- what a head says of a body

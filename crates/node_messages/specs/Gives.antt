@@ -20,3 +20,7 @@ Agrees result read = AgreesAs (λ x. x) result read
 abbrev pub AgreesAtBytes : {X : Type 0} → Result (X × Bor (List ℕ)) Fault → Result (X × List ℕ) Fault → Type 0
 AgreesAtBytes (Ok x) read = read ≡ Ok (x.0, x.1.now)
 AgreesAtBytes (Err fault) read = read ≡ Err fault
+
+-- the same; if there was no memory, nothing is said
+abbrev pub AgreesBefore : {X : Type 0} → Result (X × Bor (List ℕ)) MessageError → Result (X × List ℕ) Fault → Type 0
+AgreesBefore result read = AgreesAs (λ x. (x.0, x.1.now)) result read

@@ -14,6 +14,7 @@ use Rattle.bank.specs.Serve.{kind_of}
 use Rattle.mail.specs.declared.message.Body.{Body}
 use Rattle.mail.specs.declared.message.Body.TheVariants as body
 use Rattle.mail.specs.declared.message.Message.{Message}
+use Rattle.letter.specs.declared.start.Start.{Start}
 use Rattle.node_messages.specs.declared.message.NodeMessage.{NodeMessage}
 use Rattle.node_messages.specs.declared.places.TheConstants.{FORM}
 use Rattle.node_messages.specs.declared.said.Said.{Said}
@@ -101,8 +102,15 @@ abbrev pub next_bytes : Option Layout → List ℕ
 next_bytes None = []
 next_bytes (Some layout) = layout_bytes layout
 
--- the head of a message: its numbers, the digest, the layout of its position, and the next layout if there is one
+-- the bytes of a start, if a letter tells one: its position, high byte first, and its layout
+abbrev pub start_bytes : Option Start → List ℕ
+start_bytes None = []
+start_bytes (Some start) = to_be_bytes w32 start.position ++ layout_bytes start.layout
+
+-- the head of a message: its numbers, the digest, the layout of its position, the next layout if there is one, and the
+-- start that its letter tells, if it tells one
 abbrev pub head_of : NodeMessage → List ℕ
 head_of m =
     number_bytes m.named.letter.message (said_of m.named.letter.message.body)
-    ++ (m.digest ++ (layout_bytes m.named.letter.layout ++ next_bytes m.named.letter.next))
+    ++ (m.digest ++ (layout_bytes m.named.letter.layout
+    ++ (next_bytes m.named.letter.next ++ start_bytes m.named.letter.start)))

@@ -2,6 +2,7 @@ pub mod Codes
 pub mod Head
 pub mod Message
 pub mod Strings
+pub mod Layouts
 pub mod Reading
 pub mod Gives
 pub mod Writing

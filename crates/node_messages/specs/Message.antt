@@ -13,6 +13,7 @@ use Rattle.bank.specs.declared.request.Request.TheVariants as request
 use Rattle.mail.specs.declared.message.Body.{Body}
 use Rattle.mail.specs.declared.message.Body.TheVariants as body
 use Rattle.mail.specs.Message.{names_next}
+use Rattle.letter.specs.declared.start.Start.{Start}
 use Rattle.node_messages.specs.declared.message.NodeMessage.{NodeMessage}
 use Rattle.cluster_file.specs.declared.file.TheConstants.{DIGEST_LENGTH}
 
@@ -79,6 +80,10 @@ abbrev pub IsBody : Body → Type 0
 IsBody (body.Request q) = IsRequest q
 IsBody (body.Reply k r) = IsKind k × (r.step < 2 ^ 64) × IsAnswer r.answer × (is_answer_to k r.answer ≡ true)
 
+-- the position of a start has 32 bits, and its layout is lawful
+abbrev pub IsStart : Start → Type 0
+IsStart start = (start.position < 2 ^ 32) × IsLawful start.layout
+
 -- what the types of a message's fields guarantee: the digest has its length, the layouts are lawful, and numbers are
 -- within their bits
 pub record HasTypedFields (m : NodeMessage) : Type 0 where
@@ -89,6 +94,7 @@ pub record HasTypedFields (m : NodeMessage) : Type 0 where
   pub position : m.named.letter.message.position < 2 ^ 32
   pub body : IsWithinBits m.named.letter.message.body
   pub next : IfSome m.named.letter.next IsLawful
+  pub start : IfSome m.named.letter.start IsStart
 
 -- What a message between nodes is: the digest has its length, the name is not too long, the layouts are lawful, the
 -- member is one of the layout, there is a next layout exactly if the message says that the pointer is pending or final,
@@ -104,3 +110,4 @@ pub record IsMessage (m : NodeMessage) : Type 0 where
   pub body : IsBody m.named.letter.message.body
   pub named : is_some m.named.letter.next ≡ names_next m.named.letter.message.body
   pub next : IfSome m.named.letter.next IsLawful
+  pub start : IfSome m.named.letter.start IsStart

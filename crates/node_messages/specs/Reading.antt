@@ -5,7 +5,6 @@ use Rattle.std.specs.Str.{bytes_eq}
 use Rattle.tag.specs.declared.limits.TheConstants.{LONGEST_NAME}
 use Rattle.tag.specs.declared.tag.Tag.{Tag}
 use Rattle.piece.specs.declared.piece.Piece.{Piece}
-use Rattle.layout.specs.Layout.{Layout}
 use Rattle.bank.specs.declared.kind.Kind.{Kind}
 use Rattle.bank.specs.declared.kind.Kind.TheVariants as kind
 use Rattle.bank.specs.declared.reply.Answer.{Answer}
@@ -19,11 +18,10 @@ use Rattle.mail.specs.declared.message.Body.TheVariants as body
 use Rattle.mail.specs.Message.{names_next}
 use Rattle.cluster_file.specs.declared.file.TheConstants.{DIGEST_LENGTH}
 use Rattle.node_strings.specs.Strings.{Strings}
-use Rattle.node_strings.specs.Layouts.{checked_layout}
 use Rattle.words.specs.Parts.{and_then}
 use Rattle.node_messages.specs.declared.error.Fault.{Fault}
 use Rattle.node_messages.specs.declared.error.Fault.TheVariants.{WrongCount, OtherForm, NameTooLong, UnknownCode}
-use Rattle.node_messages.specs.declared.error.Fault.TheVariants.{NoPiece, BadLayout, LongHead, NoMember, UnusedPlace}
+use Rattle.node_messages.specs.declared.error.Fault.TheVariants.{NoPiece, NoMember, UnusedPlace}
 use Rattle.node_messages.specs.declared.layouts.Layouts.{Layouts}
 use Rattle.node_messages.specs.declared.message.NodeMessage.{NodeMessage}
 use Rattle.node_messages.specs.declared.places.TheConstants.{FORM, NUMBERS_LENGTH, FORM_PLACE, CALL_PLACE}
@@ -32,6 +30,7 @@ use Rattle.node_messages.specs.declared.places.TheConstants.{KIND_PLACE, STATUS_
 use Rattle.node_messages.specs.declared.places.TheConstants.{STEP_PLACE, PIECE_PLACE, POINT_PLACE, LEN_PLACE}
 use Rattle.node_messages.specs.Codes.{status_from, flag_from}
 use Rattle.node_messages.specs.Head.{byte_in, short_in, long_in, number_bytes, said_of}
+use Rattle.node_messages.specs.Layouts.{layouts_from}
 
 -- Strings
 
@@ -153,44 +152,6 @@ body_from numbers piece =
     and_then (kind_from (byte_in KIND_PLACE numbers) numbers) (λ k.
     body_of_kind is_reply k numbers piece))
 
--- Layouts
-
--- the first byte
-unfoldable pub first_byte : List ℕ → Result (ℕ × List ℕ) Fault
-first_byte [] = Err BadLayout
-first_byte (byte ∷ rest) = Ok (byte, rest)
-
--- the layout with this k, whose n members are the first bytes
-unfoldable pub first_members : (n k : ℕ) → List ℕ → Result (Layout × List ℕ) Fault
-first_members n k bytes =
-    if nat_lt (length bytes) n then Err BadLayout
-    else (and_then (checked_layout BadLayout (record { k = k; members = take n bytes })) (λ layout.
-    Ok (layout, drop n bytes)))
-
--- the layout in the first bytes, and the bytes after it
-unfoldable pub first_layout : List ℕ → Result (Layout × List ℕ) Fault
-first_layout bytes =
-    and_then (first_byte bytes) (λ n.
-    and_then (first_byte n.1) (λ k.
-    first_members n.0 k.0 k.1))
-
--- the layout of the next position, if there is to be one
-unfoldable pub first_next : Bool → List ℕ → Result (Option Layout × List ℕ) Fault
-first_next true bytes = and_then (first_layout bytes) (λ layout. Ok (Some layout.0, layout.1))
-first_next false bytes = Ok (None, bytes)
-
--- these layouts, unless bytes are left after them
-abbrev pub whole_head : Layout → Option Layout → List ℕ → Result Layouts Fault
-whole_head layout next [] = Ok (record { layout = layout; next = next })
-whole_head layout next (byte ∷ rest) = Err LongHead
-
--- the layouts whose bytes these are
-unfoldable pub layouts_from : (names_next : Bool) → List ℕ → Result Layouts Fault
-layouts_from names bytes =
-    and_then (first_layout bytes) (λ layout.
-    and_then (first_next names layout.1) (λ next.
-    whole_head layout.0 next.0 next.1))
-
 -- Messages
 
 -- the message of these parts
@@ -202,6 +163,7 @@ made_of numbers digest name found layouts = record {
     letter = record {
       layout = layouts.layout;
       next = layouts.next;
+      start = layouts.start;
       message = record {
         call = long_in CALL_PLACE numbers;
         phase = short_in PHASE_PLACE numbers;

@@ -20,10 +20,10 @@ pub enum Fault {
     /// A request to pre-write has no piece.
     #[error("no piece")]
     NoPiece,
-    /// A layout is cut short, or is not lawful.
+    /// A layout is cut short or not lawful, or the position of a start is cut short.
     #[error("bad layout")]
     BadLayout,
-    /// There are bytes in the head after the layouts.
+    /// There are bytes in the head after the layouts and the start.
     #[error("head too long")]
     LongHead,
     /// The layout has no such member.

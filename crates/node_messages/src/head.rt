@@ -1,9 +1,10 @@
 //! The head of a message.
-ghost use Rattle.std.specs.Prelude.{◌≡◌, ◌++◌, ◌<◌, ◌^◌, IfOk, IfSome, OnOk, length};
+ghost use Rattle.std.specs.Prelude.{◌≡◌, ◌++◌, ◌<◌, ◌≤◌, ◌^◌, IfOk, IfSome, OnOk, length};
+ghost use Rattle.std.specs.Int.{w32, to_be_bytes};
 ghost use Rattle.layout.specs.Layout.{IsLawful};
 ghost use Rattle.cluster_file.specs.declared.file.TheConstants.{DIGEST_LENGTH};
-ghost use Rattle.node_messages.specs.Head.{head_of, layout_bytes, next_bytes, number_bytes, said_of};
-ghost use Rattle.node_messages.specs.Message.{HasTypedFields};
+ghost use Rattle.node_messages.specs.Head.{head_of, layout_bytes, next_bytes, number_bytes, said_of, start_bytes};
+ghost use Rattle.node_messages.specs.Message.{HasTypedFields, IsStart};
 
 use crate::message::NodeMessage;
 use crate::places::{FORM, NUMBERS_LENGTH, Numbers};
@@ -11,7 +12,7 @@ use crate::said::{Said, said_of};
 use bytes::Bytes;
 use cluster_file::DIGEST_LENGTH;
 use layout::Layout;
-use letter::SharedLayout;
+use letter::{Letter, SharedLayout, Start};
 use mail::Message;
 use std::alloc::{AllocError, Global};
 use tag::CallId;
@@ -74,13 +75,44 @@ fn push_next(head: &mut Vec<u8>, next: &Option<SharedLayout>) -> Result<(), Allo
     }
 }
 
-// The number of bytes of a head with layouts of so many members.
-fn length_with(layout: &Layout, next: &Option<SharedLayout>) -> usize {
-    let next = match next {
-        Some(next) => 2 + usize::from(next.layout().n()),
+// Appends the start that a letter tells, if it tells one: its position, and its layout.
+fn push_start(head: &mut Vec<u8>, start: &Option<Start>) -> Result<(), AllocError>
+    ensures pushed { OnOk result (head.new.items ≡ head.old.items ++ start_bytes start.now) }
+    ensures fits { OnOk result (IfSome start.now IsStart) }
+{
+    let Some(start) = start else {
+        return Ok(());
+    };
+    push_number(head, start.position)?;
+    push_layout(head, start.layout.layout())
+}
+
+// Appends a number, high byte first.
+fn push_number(head: &mut Vec<u8>, number: u32) -> Result<(), AllocError>
+    ensures pushed { OnOk result (head.new.items ≡ head.old.items ++ to_be_bytes w32 number) }
+    ensures fits { number < 2 ^ 32 }
+{
+    head.extend_from_slice(&number.to_be_bytes())
+}
+
+// The number of bytes of a layout.
+fn layout_length(layout: &SharedLayout) -> usize
+    ensures { result ≤ 257 }
+{
+    2 + usize::from(layout.layout().n())
+}
+
+// The number of bytes of the head of a message with this letter.
+fn length_with(letter: &Letter) -> usize {
+    let next = match &letter.next {
+        Some(next) => layout_length(next),
         None => 0,
     };
-    NUMBERS_LENGTH + DIGEST_LENGTH + 2 + usize::from(layout.n()) + next
+    let start = match &letter.start {
+        Some(start) => 4 + layout_length(&start.layout),
+        None => 0,
+    };
+    NUMBERS_LENGTH + DIGEST_LENGTH + layout_length(&letter.layout) + next + start
 }
 
 // The bytes of a head.
@@ -89,13 +121,13 @@ fn bytes_of(alloc: Global, message: &NodeMessage) -> Result<Vec<u8>, AllocError>
     ensures fits { OnOk result (HasTypedFields message.now) }
 {
     let letter = &message.named.letter;
-    let layout = letter.layout.layout();
-    let mut head = Vec::with_capacity(alloc, length_with(layout, &letter.next))?;
+    let mut head = Vec::with_capacity(alloc, length_with(letter))?;
     let numbers = number_bytes(&letter.message, said_of(&letter.message.body));
     head.extend_from_slice(&numbers)?;
     head.extend_from_slice(&message.digest)?;
-    push_layout(&mut head, layout)?;
+    push_layout(&mut head, letter.layout.layout())?;
     push_next(&mut head, &letter.next)?;
+    push_start(&mut head, &letter.start)?;
     Ok(head)
 }
 

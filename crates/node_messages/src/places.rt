@@ -5,8 +5,9 @@ ghost use Rattle.node_messages.specs.Reading.{piece_in, tag_in};
 
 use tag::Tag;
 
-/// The form of messages, which is the first byte of each head. Before, the first string of a message was the digest.
-pub const FORM: u8 = 3;
+/// The form of messages, which is the first byte of each head. In form 3, no letter told a start. Before that, the
+/// first string of a message was the digest.
+pub const FORM: u8 = 4;
 
 /// The number of bytes of all numbers of a head.
 pub(crate) const NUMBERS_LENGTH: usize = 51;

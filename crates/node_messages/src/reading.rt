@@ -110,6 +110,7 @@ fn made_of(
             letter: Letter {
                 layout: layouts.layout,
                 next: layouts.next,
+                start: layouts.start,
                 message: Message {
                     call: long_in(CALL_PLACE, numbers),
                     phase: short_in(PHASE_PLACE, numbers),
