@@ -10,7 +10,7 @@ use Rattle.words.specs.Parts.{and_then}
 use Rattle.node_strings.specs.Strings.{Strings}
 use Rattle.client_commands.specs.Arguments.{checked_name, checked_value, only_argument, name_and_value}
 use Rattle.client_commands.specs.Arguments.{hello_fault, login_fault}
-use Rattle.client_commands.specs.Command.{AskFor}
+use Rattle.client_commands.specs.Command.{AskFor, AskToRead}
 use Rattle.client_commands.specs.Layouts.{layout_from}
 use Rattle.client_commands.specs.Reading.{exists_from, list_from, select_from, show_from, size_from, unless}
 use Rattle.client_commands.specs.Reading.{Found, read_from, set_from, move_from, ping_from, echo_from, counted, subcommand_from}
@@ -19,7 +19,7 @@ use Rattle.client_commands.specs.Scanning.{cursor_from, default_options, options
 use Rattle.client_commands.specs.Sections.{sections_from}
 use Rattle.client_commands.specs.declared.scanning.ScanOptions.{ScanOptions}
 use Rattle.node_strings.proofs.NumberLemmas.{number_ok}
-use Rattle.client_commands.specs.Words.{is_word, command_text, name_of_word, reading_word}
+use Rattle.client_commands.specs.Words.{is_word, command_text, name_of_word}
 use Rattle.client_commands.specs.declared.command.Command.{Command}
 use Rattle.client_commands.specs.declared.command.Command.TheVariants as ask
 use Rattle.client_commands.specs.declared.command.Wanted.{Wanted}
@@ -39,22 +39,23 @@ abbrev pub Read : Type 0
 Read = Result (List ℕ) CommandFault
 
 read_ok : (from : CommandName) (what : Wanted) (word : List ℕ) (args : Strings) (c : Command)
-    → IsTrue (is_word word (reading_word what)) → read_from from what args ≡ Ok c → AskFor (word ∷ args) c
+    → ((name : List ℕ) → args ≡ name ∷ [] → AskToRead what name (word ∷ args)) → read_from from what args ≡ Ok c
+    → AskFor (word ∷ args) c
 unfolding read_from
-read_ok from what word args c w e =
+read_ok from what word args c asks e =
     let a = bind_ok (only_argument from args)
     (λ (name : List ℕ). and_then (checked_name name) (λ (n : List ℕ). Ok (ask.Read what n))) c e in
     let b = bind_ok (checked_name a.0) (λ (n : List ℕ). Ok (ask.Read what n)) c a.2 in
     let name = name_ok a.0 b.0 b.1 in
     subst (AskFor (word ∷ args)) (ok_is (ask.Read what b.0) c b.2)
-    ((w, only_ok from args a.0 a.1 ∙ ap (λ (n : List ℕ). n ∷ []) name.0), name.1)
+    (asks b.0 (only_ok from args a.0 a.1 ∙ ap (λ (n : List ℕ). n ∷ []) name.0), name.1)
 
 exists_ok : (word : List ℕ) (args : Strings) (c : Command) → IsTrue (is_word word (codes "exists"))
     → exists_from args ≡ Ok c → AskFor (word ∷ args) c
 unfolding exists_from
 exists_ok word args c w e =
     let a = guarded_above (ltb 1 (length args)) SeveralNames (read_from of.Exists wanted.Existence args) c e in
-    read_ok of.Exists wanted.Existence word args c w a.1
+    read_ok of.Exists wanted.Existence word args c (λ name only. (w, only)) a.1
 
 select_ok : (word : List ℕ) (args : Strings) (c : Command) → IsTrue (is_word word (codes "select"))
     → select_from args ≡ Ok c → AskFor (word ∷ args) c
@@ -208,7 +209,7 @@ client_ok word (what ∷ rest) c w e =
 
 from_ok : (name : CommandName) (word : List ℕ) (args : Strings) (c : Command) → IsTrue (is_word word (command_text name))
     → command_from name args ≡ Ok c → AskFor (word ∷ args) c
-from_ok of.Get word args c w e = read_ok of.Get wanted.Value word args c w e
+from_ok of.Get word args c w e = read_ok of.Get wanted.Value word args c (λ name only. (w, only)) e
 from_ok of.Set word args c w e = set_ok word args c w e
 from_ok of.Move word args c w e = move_ok word args c w e
 from_ok of.Info word args c w e = subst (AskFor (word ∷ args)) (ok_is (ask.Info (sections_from args)) c e) (w, refl)
@@ -221,7 +222,7 @@ from_ok of.Hello word args c w e = hello_ok word args c w e
 from_ok of.Select word args c w e = select_ok word args c w e
 from_ok of.Auth word args c w e = login_ok word args c w e
 from_ok of.Exists word args c w e = exists_ok word args c w e
-from_ok of.Strlen word args c w e = read_ok of.Strlen wanted.Length word args c w e
+from_ok of.Strlen word args c w e = read_ok of.Strlen wanted.Length word args c (λ name only. (w, only)) e
 from_ok of.Dbsize word args c w e = size_ok word args c w e
 from_ok of.Layout word args c w e = show_ok word args c w e
 from_ok of.Scan word args c w e = scan_ok word args c w e

@@ -9,7 +9,7 @@ use Rattle.node_strings.specs.Strings.{Strings}
 use Rattle.client_commands.specs.Arguments.{checked_value}
 use Rattle.client_commands.specs.Arguments.{hello_fault, login_fault}
 use Rattle.client_commands.specs.Command.{AreTwoWords, AreWordAnd, AreWordAndRest, Begins, counts_commands}
-use Rattle.client_commands.specs.Command.{SaysOfClient, IsShortName, IsShortValue, AskFor, layout_strings}
+use Rattle.client_commands.specs.Command.{SaysOfClient, IsShortName, IsShortValue, AskFor, AskToRead, layout_strings}
 use Rattle.client_commands.specs.Layouts.{layout_from}
 use Rattle.client_commands.specs.Reading.{exists_from, list_from, select_from, show_from, size_from, unless}
 use Rattle.client_commands.specs.Reading.{Found, read_from, set_from, move_from, ping_from, echo_from, counted, subcommand_from}
@@ -19,7 +19,7 @@ use Rattle.client_commands.specs.Sections.{sections_from}
 use Rattle.client_commands.specs.declared.scanning.ScanOptions.{ScanOptions}
 use Rattle.client_commands.specs.declared.sections.Sections.{Sections}
 use Rattle.node_strings.proofs.NumberLemmas.{number_again}
-use Rattle.client_commands.specs.Words.{is_word, command_text, reading_word}
+use Rattle.client_commands.specs.Words.{is_word, command_text}
 use Rattle.client_commands.specs.declared.command.Command.{Command}
 use Rattle.client_commands.specs.declared.command.Command.TheVariants as ask
 use Rattle.client_commands.specs.declared.command.Wanted.{Wanted}
@@ -163,13 +163,14 @@ counts (word ∷ []) h = absurd h
 counts (word ∷ what ∷ []) h = by_name word (what ∷ []) of.Command h.0 ∙ count_again what h.1
 counts (word ∷ what ∷ other ∷ more) h = absurd h
 
-reads : (what : Wanted) (name : List ℕ) (strings : Strings) → AreWordAndRest (reading_word what) (name ∷ []) strings
-    → IsShortName name → Answers strings (ask.Read what name)
+reads : (what : Wanted) (name : List ℕ) (strings : Strings) → AskToRead what name strings → IsShortName name →
+    Answers strings (ask.Read what name)
 reads wanted.Value name strings h i = says of.Get (name ∷ []) strings (ask.Read wanted.Value name) h (read_again of.Get wanted.Value name i)
 reads wanted.Length name strings h i =
     says of.Strlen (name ∷ []) strings (ask.Read wanted.Length name) h (read_again of.Strlen wanted.Length name i)
 reads wanted.Existence name strings h i =
     says of.Exists (name ∷ []) strings (ask.Read wanted.Existence name) h (exists_again name i)
+reads wanted.Nothing name strings h i = absurd h
 
 begins : (name : CommandName) (strings : Strings) (c : Command) → Begins (command_text name) strings
     → ((args : Strings) → command_from name args ≡ Ok c) → Answers strings c

@@ -11,9 +11,11 @@ use Rattle.client_commands.specs.Arguments.{hello_fault, login_fault}
 use Rattle.client_commands.specs.Deleting.{AskToDelete}
 use Rattle.client_commands.specs.Scanning.{AskToScan}
 use Rattle.client_commands.specs.Sections.{sections_from}
-use Rattle.client_commands.specs.Words.{is_word, reading_word}
+use Rattle.client_commands.specs.Words.{is_word}
 use Rattle.client_commands.specs.declared.command.Command.{Command}
 use Rattle.client_commands.specs.declared.command.Command.TheVariants as ask
+use Rattle.client_commands.specs.declared.command.Wanted.{Wanted}
+use Rattle.client_commands.specs.declared.command.Wanted.TheVariants as wants
 
 -- the first string is this word, in capital or small letters, and these are the strings after it
 abbrev pub AreWordAndRest : List ℕ → Strings → Strings → Type 0
@@ -68,10 +70,17 @@ SaysOfClient text count (word ∷ []) = ⊥
 SaysOfClient text count (word ∷ what ∷ strings) =
     IsTrue (is_word word (codes "client")) × IsTrue (is_word what text) × (length strings ≡ count)
 
+-- the strings ask for a read of this name, of whose value the client wants this: GET wants the value, STRLEN its
+-- length, and EXISTS whether there is one; no strings ask for a read of which the client wants nothing
+abbrev pub AskToRead : Wanted → (name : List ℕ) → Strings → Type 0
+AskToRead wants.Value name strings = AreWordAndRest (codes "get") (name ∷ []) strings
+AskToRead wants.Length name strings = AreWordAndRest (codes "strlen") (name ∷ []) strings
+AskToRead wants.Existence name strings = AreWordAndRest (codes "exists") (name ∷ []) strings
+AskToRead wants.Nothing name strings = ⊥
+
 -- the strings ask for this command
 abbrev pub AskFor : Strings → Command → Type 0
-AskFor strings (ask.Read wanted name) =
-    AreWordAndRest (reading_word wanted) (name ∷ []) strings × IsShortName name
+AskFor strings (ask.Read wanted name) = AskToRead wanted name strings × IsShortName name
 AskFor strings (ask.Set name value) =
     AreWordAndRest (codes "set") (name ∷ value ∷ []) strings × IsShortName name × IsShortValue value
 AskFor strings (ask.Move name layout) =

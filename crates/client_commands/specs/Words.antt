@@ -7,8 +7,6 @@ use Rattle.client_commands.specs.declared.command.CommandName.TheVariants as of
 use Rattle.client_commands.specs.declared.fault.CommandFault.{CommandFault}
 use Rattle.client_commands.specs.declared.fault.CommandFault.TheVariants.{UnknownCommand, NoExpiry, NoCondition}
 use Rattle.client_commands.specs.declared.fault.CommandFault.TheVariants.{SeveralNames, SyntaxError}
-use Rattle.client_commands.specs.declared.command.Wanted.{Wanted}
-use Rattle.client_commands.specs.declared.command.Wanted.TheVariants as wanted
 
 -- whether a word is this text, where capital and small letters of ASCII count as the same
 abbrev pub is_word : List ℕ → List ℕ → Bool
@@ -98,9 +96,3 @@ option_fault word =
     if is_expiring_option word then NoExpiry
     else (if is_conditional_option word then NoCondition
     else SyntaxError)
-
--- the word of the command that reads a name for this: `get` for the value, `strlen` for its length, or `exists`
-abbrev pub reading_word : Wanted → List ℕ
-reading_word wanted.Value = codes "get"
-reading_word wanted.Length = codes "strlen"
-reading_word wanted.Existence = codes "exists"

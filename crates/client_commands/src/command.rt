@@ -61,6 +61,8 @@ pub enum Wanted {
     Length,
     /// Whether there is one: 1 if the name was ever written, and 0 otherwise.
     Existence,
+    /// Nothing: it is told `OK`. No command of a client asks for this; a node reads so when it has moved an object.
+    Nothing,
 }
 
 /// The first word of a command.
