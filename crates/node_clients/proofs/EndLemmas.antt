@@ -1,4 +1,4 @@
--- A call that was answered ends, or passes to what is left of its DEL.
+-- A call that was answered ends, or passes to what is left of its command.
 use Rattle.std.proofs.Common.{◌≡◌, ◌≢◌, ℕ, Bool, true, false, cond, nat_eq, List, [], ◌∷◌, ◌++◌, Option, None, Some, is_some}
 use Rattle.std.proofs.Common.{refl, sym, subst, ap, ◌∙◌}
 use Rattle.std.proofs.lemmas.Bool.{false≢true}
@@ -6,7 +6,6 @@ use Rattle.std.proofs.lemmas.List.{append-nil}
 use Rattle.local_object.specs.declared.progress.Ended.{Ended}
 use Rattle.indexmap.specs.IndexMap.{get}
 use Rattle.client_commands.specs.declared.answer.Answer.{Answer}
-use Rattle.client_commands.specs.Deletion.{Deletion}
 use Rattle.node_effects.specs.Work.{IsGrown}
 use Rattle.node_effects.specs.declared.notice.Notice.{Notice}
 use Rattle.node_effects.specs.declared.notice.Notice.TheVariants as notice
@@ -21,6 +20,7 @@ use Rattle.node_clients.specs.Services.{Service, service_dues, service_frames, s
 use Rattle.node_clients.specs.declared.connection.Connection.{Connection}
 use Rattle.node_clients.specs.declared.connections.Connections.{Connections}
 use Rattle.node_clients.specs.declared.desk.Desk.{Desk}
+use Rattle.node_clients.specs.declared.rest.Rest.{Rest}
 use Rattle.node_clients.proofs.ServedLemmas.{growth_dues, growth_frames, growth_notices}
 
 -- a call of the object of this name was answered
@@ -40,8 +40,8 @@ pub record EndsAs (ticks : ℕ) (delta : Option ℕ) (name : List ℕ) (ended : 
   pub notices : after.notices.items ≡ before.notices.items
   pub seen : service_notices service ≡ notice.Tells name ended ∷ []
 
--- how the desk changed as a call was answered, by the client that waited and what is left of its DEL
-pub record IsConcluded (old : Desk) (id : ℕ) (who : Option ℕ) (rest : Option Deletion) (new : Desk) : Type 0 where
+-- how the desk changed as a call was answered, by the client that waited and what is left of its command
+pub record IsConcluded (old : Desk) (id : ℕ) (who : Option ℕ) (rest : Option Rest) (new : Desk) : Type 0 where
   pub gone : call_under new.calls id ≡ None
   pub others : KeepsOtherCalls old id new
   pub idle : IsEndedFor old.clients who rest new.clients
@@ -53,7 +53,7 @@ nothing_waits None gone = refl
 nothing_waits (Some connection) gone = absurd (cc)
 
 -- nothing was put back on a connection that is not there
-not_back : (old : Connections) (client : ℕ) (rest : Deletion) (new : Connections) → IsPutBack old client rest new →
+not_back : (old : Connections) (client : ℕ) (rest : Rest) (new : Connections) → IsPutBack old client rest new →
     is_some (get nat_eq old.by_number client) ≡ false → IsIdleAgain old client new
 not_back old client rest new back gone = record {
   stays = back.stays;
@@ -92,7 +92,7 @@ module _ (ticks : ℕ) (delta : Option ℕ) (name : List ℕ) (ended : Ended) (a
   }
 
   -- the call passes to what is left
-  passes : (client : ℕ) (rest : Deletion) → listener a (waiting_for a.calls ended.id) ≡ Some client →
+  passes : (client : ℕ) (rest : Rest) → listener a (waiting_for a.calls ended.id) ≡ Some client →
       rest_of delta (call_under a.calls ended.id) ≡ Some rest → IsGrown u v (due_growth true client) →
       call_under b.calls ended.id ≡ None → KeepsOtherCalls a ended.id b → IsPutBack a.clients client rest b.clients →
       b.counts ≡ a.counts → EndsAs ticks delta name ended a u b v
@@ -107,7 +107,7 @@ module _ (ticks : ℕ) (delta : Option ℕ) (name : List ℕ) (ended : Ended) (a
   }
 
   -- a call with more to do was answered, and its client's connection is there or not
-  more_left : (client : ℕ) (rest : Deletion) → waiting_for a.calls ended.id ≡ Some client →
+  more_left : (client : ℕ) (rest : Rest) → waiting_for a.calls ended.id ≡ Some client →
       rest_of delta (call_under a.calls ended.id) ≡ Some rest → (there : Bool) → is_connected a client ≡ there →
       IsGrown u v (due_growth there client) → IsConcluded a ended.id (Some client) (Some rest) b →
       EndsAs ticks delta name ended a u b v
@@ -123,7 +123,7 @@ module _ (ticks : ℕ) (delta : Option ℕ) (name : List ℕ) (ended : Ended) (a
       (done.counts ∙ ap (λ t. with_told t a.counts) (sym there))
 
   -- a call was answered
-  pub concluded : (who : Option ℕ) → waiting_for a.calls ended.id ≡ who → (rest : Option Deletion) →
+  pub concluded : (who : Option ℕ) → waiting_for a.calls ended.id ≡ who → (rest : Option Rest) →
       rest_of delta (call_under a.calls ended.id) ≡ rest →
       IsGrown u v (end_growth a who rest (call_answer (call_under a.calls ended.id) ended)) →
       IsConcluded a ended.id who rest b → EndsAs ticks delta name ended a u b v

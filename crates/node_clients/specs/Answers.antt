@@ -49,11 +49,12 @@ pub record TellsClients (before after : Work) : Type 0 where
   pub grown : IsGrown before after (record no_growth { to_clients = frames; due = due })
 
 -- What a client is told of a value that it reads. The empty value, with which each object begins, counts as none: it is
--- told as nil, as the length 0, and as no existence.
+-- told as nil, as the length 0, and as no existence. A client that wants nothing of the value is told `OK`.
 abbrev pub told_value : Wanted → List ℕ → Answer
 told_value wanted.Value value = if length value == 0 then answer.Nil else answer.Value value
 told_value wanted.Length value = answer.Number (length value)
 told_value wanted.Existence value = if length value == 0 then answer.Number 0 else answer.Number 1
+told_value wanted.Nothing value = answer.Ok
 
 -- the answer to a call of this kind with this value: for a read what is wanted of the value, which is the empty one if
 -- nothing was ever written; for a write and a move `OK`

@@ -1,17 +1,27 @@
 -- What waits on the connections of clients, and what the connections are doing.
 use Rattle.std.specs.Prelude.{◌≡◌, Bool, true, false, List, [], ◌∷◌, Option, Some, None, Ok}
 use Rattle.client_commands.specs.Reading.{Found, command_at}
+use Rattle.client_commands.specs.declared.command.Command.{Command}
 use Rattle.client_commands.specs.declared.command.Command.TheVariants as ask
+use Rattle.client_commands.specs.declared.command.Wanted.TheVariants as wants
 use Rattle.node_clients.specs.declared.connection.Connection.{Connection}
 use Rattle.node_clients.specs.declared.connection.State.{State}
 use Rattle.node_clients.specs.declared.connection.State.TheVariants.{Idle, Busy, Quit}
 use Rattle.node_clients.specs.declared.next.Next.{Next}
 use Rattle.node_clients.specs.declared.next.Next.TheVariants as next
+use Rattle.node_clients.specs.declared.rest.Rest.{Rest}
+use Rattle.node_clients.specs.declared.rest.Rest.TheVariants as rests
 
--- the command for which the next thing to be done asks: that of a frame that came, or what is left of a DEL
+-- the command with which a node goes on with what is left of a command: the next write of a DEL, or a read, of whose
+-- value the client wants nothing
+abbrev pub rest_command : Rest → Command
+rest_command (rests.Deletes deletion) = ask.Delete deletion
+rest_command (rests.Confirms name) = ask.Read wants.Nothing name
+
+-- the command for which the next thing to be done asks: that of a frame that came, or that of what is left
 abbrev pub asked : Next → Found
 asked (next.Came frame) = command_at frame
-asked (next.Rest deletion) = Ok (ask.Delete deletion)
+asked (next.Rest rest) = Ok (rest_command rest)
 
 -- what waits on a connection, if there is one
 abbrev pub waiting_on : Option Connection → List Next

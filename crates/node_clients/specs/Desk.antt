@@ -7,8 +7,8 @@ use Rattle.node_clients.specs.declared.connection.Connection.{Connection}
 use Rattle.node_clients.specs.declared.connection.State.TheVariants.{Idle}
 use Rattle.node_clients.specs.declared.connections.Connections.{Connections}
 use Rattle.node_clients.specs.declared.next.Next.TheVariants as next
+use Rattle.node_clients.specs.declared.rest.Rest.{Rest}
 use Rattle.client_commands.specs.declared.answer.Answer.{Answer}
-use Rattle.client_commands.specs.Deletion.{Deletion}
 use Rattle.node_effects.specs.Work.{Growth, no_growth}
 use Rattle.node_clients.specs.Answers.{answer_growth, due_growth}
 use Rattle.node_clients.specs.declared.counts.Counts.{Counts}
@@ -38,14 +38,14 @@ growth_for desk None answer = no_growth
 growth_for desk (Some client) answer = answer_growth (is_connected desk client) client answer
 
 -- what is added to a node's work for the client of a call that ended, if there is one whose connection is there: the
--- answer, or only that the client is due, if something is left of its DEL
-abbrev pub end_growth : Desk → (client : Option ℕ) → (rest : Option Deletion) → Answer → Growth
+-- answer, or only that the client is due, if something is left of its command
+abbrev pub end_growth : Desk → (client : Option ℕ) → (rest : Option Rest) → Answer → Growth
 end_growth desk None rest answer = no_growth
 end_growth desk (Some client) None answer = answer_growth (is_connected desk client) client answer
 end_growth desk (Some client) (Some rest) answer = due_growth (is_connected desk client) client
 
--- whether the client of a call that ended is answered: not if something is left of its DEL
-abbrev pub is_answered_for : Desk → (client : Option ℕ) → (rest : Option Deletion) → Bool
+-- whether the client of a call that ended is answered: not if something is left of its command
+abbrev pub is_answered_for : Desk → (client : Option ℕ) → (rest : Option Rest) → Bool
 is_answered_for desk None rest = false
 is_answered_for desk (Some client) None = is_connected desk client
 is_answered_for desk (Some client) (Some rest) = false
@@ -62,9 +62,9 @@ abbrev pub IsIdleFor : (old : Connections) → (client : Option ℕ) → (new : 
 IsIdleFor old None new = new ≡ old
 IsIdleFor old (Some client) new = IsIdleAgain old client new
 
--- what is left of a DEL waits on the connection of a client, if it is there, before what waited there; the connection
--- is idle, and all others are as they were
-pub record IsPutBack (old : Connections) (client : ℕ) (rest : Deletion) (new : Connections) : Type 0 where
+-- what is left of a command waits on the connection of a client, if it is there, before what waited there; the
+-- connection is idle, and all others are as they were
+pub record IsPutBack (old : Connections) (client : ℕ) (rest : Rest) (new : Connections) : Type 0 where
   pub stays : is_some (get nat_eq new.by_number client) ≡ is_some (get nat_eq old.by_number client)
   pub state : doing (get nat_eq new.by_number client) ≡ Idle
   pub waiting : IsSome (get nat_eq old.by_number client) →
@@ -72,8 +72,8 @@ pub record IsPutBack (old : Connections) (client : ℕ) (rest : Deletion) (new :
   pub others : (other : ℕ) → other ≢ client → get nat_eq new.by_number other ≡ get nat_eq old.by_number other
 
 -- how the connections change for the client of a call that ended, if there is one: its connection is idle again, with
--- what is left of its DEL before what waited, if something is left
-abbrev pub IsEndedFor : (old : Connections) → (client : Option ℕ) → (rest : Option Deletion) → (new : Connections) →
+-- what is left of its command before what waited, if something is left
+abbrev pub IsEndedFor : (old : Connections) → (client : Option ℕ) → (rest : Option Rest) → (new : Connections) →
     Type 0
 IsEndedFor old None rest new = new ≡ old
 IsEndedFor old (Some client) None new = IsIdleAgain old client new

@@ -6,7 +6,6 @@ use Rattle.client_commands.specs.Deletion.{name_now}
 use Rattle.client_commands.specs.declared.command.Command.{Command}
 use Rattle.client_commands.specs.declared.command.Command.TheVariants as ask
 use Rattle.client_commands.specs.declared.command.Wanted.TheVariants as wanted
-use Rattle.client_commands.specs.Deletion.{Deletion}
 use Rattle.node_clients.specs.declared.next.Next.{Next}
 use Rattle.node_clients.specs.declared.next.Next.TheVariants as next
 use Rattle.node_strings.specs.Strings.{Strings}
@@ -18,6 +17,7 @@ use Rattle.node_clients.specs.Desk.{with_give_up, with_told}
 use Rattle.node_clients.specs.Services.{Service, all_dues, all_frames, all_notices}
 use Rattle.node_clients.specs.declared.desk.Desk.{Desk}
 use Rattle.node_clients.specs.declared.open_call.OpenCall.{OpenCall}
+use Rattle.node_clients.specs.declared.rest.Rest.{Rest}
 
 -- all connections but that of this client are as they were
 abbrev pub KeepsOthers : (old : Desk) → (client : ℕ) → (new : Desk) → Type 0
@@ -123,8 +123,9 @@ abbrev pub IsLast : (delta : Option ℕ) → (old : Desk) → (id : ℕ) → Typ
 IsLast delta old id =
     has_listener old (waiting_for old.calls id) ≡ true → rest_of delta (call_under old.calls id) ≡ None
 
--- a write of a DEL is no longer open, and what is left of the DEL is carried out next on the connection of its client
-pub record IsPassed (delta : Option ℕ) (old : Desk) (id client : ℕ) (rest : Deletion) (new : Desk) : Type 0 where
+-- a call of which something is left is no longer open, and what is left is carried out next on the connection of its
+-- client
+pub record IsPassed (delta : Option ℕ) (old : Desk) (id client : ℕ) (rest : Rest) (new : Desk) : Type 0 where
   pub who : listener old (waiting_for old.calls id) ≡ Some client
   pub left : rest_of delta (call_under old.calls id) ≡ Some rest
   pub gone : call_under new.calls id ≡ None

@@ -7,19 +7,19 @@ use Rattle.client_commands.specs.declared.answer.AnswerError.TheVariants.{NoQuor
 use Rattle.client_commands.specs.declared.command.Command.{Command}
 use Rattle.client_commands.specs.declared.command.Command.TheVariants as ask
 use Rattle.client_commands.specs.Deletion.{name_now}
-use Rattle.client_commands.specs.Deletion.{Deletion}
 use Rattle.node_strings.specs.Arrival.{client_address}
 use Rattle.node_strings.specs.Strings.{Strings}
 use Rattle.node_effects.specs.declared.notice.Notice.{Notice}
 use Rattle.node_effects.specs.declared.notice.Notice.TheVariants as notice
 use Rattle.node_clients.specs.Answers.{answer_frame}
 use Rattle.node_clients.specs.declared.next.Next.{Next}
+use Rattle.node_clients.specs.declared.rest.Rest.{Rest}
 
 -- One thing that a node does for its clients. A command of a client comes, or a client's connection ends. The next
 -- command of a client begins the call with an id, or is answered at once, or is a QUIT. A call of the object of a name
--- is answered; if it is a write of a DEL of which this is left, it passes: the client is told nothing, and what is left
--- is carried out next. A call gets older by a tick. A late call is given up, or its client no longer waits for it.
--- `told` is the client that is told, if one is.
+-- is answered; if more is left of its command, it passes: the client is told nothing, and this rest is carried out
+-- next. A call gets older by a tick. A late call is given up, or its client no longer waits for it. `told` is the
+-- client that is told, if one is.
 pub data Service : Type 0 where
   Arrives : (client : ℕ) → (command : Strings) → Service
   Leaves : (client : ℕ) → Service
@@ -27,7 +27,7 @@ pub data Service : Type 0 where
   Replies : (client : ℕ) → (command : Next) → Answer → Service
   Quits : (client : ℕ) → Service
   Ends : (name : List ℕ) → Ended → Answer → (told : Option ℕ) → Service
-  Passes : (name : List ℕ) → Ended → (client : ℕ) → (rest : Deletion) → Service
+  Passes : (name : List ℕ) → Ended → (client : ℕ) → (rest : Rest) → Service
   Ages : (id : ℕ) → Service
   GivesUp : (id : ℕ) → (told : Option ℕ) → Service
   Releases : (id : ℕ) → (told : Option ℕ) → Service

@@ -1,5 +1,5 @@
 use crate::next::Next;
-use client_commands::Deletion;
+use crate::rest::Rest;
 use frames::Frame;
 use std::alloc::AllocError;
 use std::collections::VecDeque;
@@ -46,9 +46,9 @@ impl Connection {
         Ok(())
     }
 
-    /// Keeps what is left of a `DEL`, before all that waits, and makes the connection idle. It fails only if there is
+    /// Keeps what is left of a command, before all that waits, and makes the connection idle. It fails only if there is
     /// no memory.
-    pub(crate) fn put_back(&mut self, rest: Deletion) -> Result<(), AllocError>
+    pub(crate) fn put_back(&mut self, rest: Rest) -> Result<(), AllocError>
         ensures waiting { OnOk result (self.new.waiting.items ≡ next_of.Rest rest ∷ self.old.waiting.items) }
         ensures state { OnOk result (self.new.state ≡ Idle) }
     {

@@ -7,7 +7,7 @@ ghost use Rattle.node_clients.specs.Connections.{waiting_on, doing, has_next, Ta
 
 use crate::connection::{Connection, State};
 use crate::next::Next;
-use client_commands::Deletion;
+use crate::rest::Rest;
 use frames::Frame;
 use indexmap::IndexMap;
 use std::alloc::{AllocError, Global};
@@ -132,9 +132,9 @@ impl Connections {
         }
     }
 
-    /// Puts what is left of a `DEL` before all that waits on a connection, which is then idle. Returns whether there is
-    /// a connection of this number. It fails only if there is no memory.
-    pub fn put_back(&mut self, number: u64, rest: Deletion) -> Result<bool, AllocError>
+    /// Puts what is left of a command before all that waits on a connection, which is then idle. Returns whether there
+    /// is a connection of this number. It fails only if there is no memory.
+    pub fn put_back(&mut self, number: u64, rest: Rest) -> Result<bool, AllocError>
         ensures told { IfOk result (λ told. told ≡ is_some (get nat_eq self.old.by_number number)) }
         ensures stays { OnOk result (is_some (get nat_eq self.new.by_number number)
             ≡ is_some (get nat_eq self.old.by_number number)) }

@@ -21,6 +21,7 @@ use tag::CallId;
 mod answers;
 mod calls;
 mod endings;
+mod told;
 
 /// The connections of a node's clients, and the calls that the node carries out.
 ///

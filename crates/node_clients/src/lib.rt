@@ -7,6 +7,7 @@ pub use counts::Counts;
 pub use desk::Desk;
 pub use next::Next;
 pub use open_call::{Aged, OpenCall};
+pub use rest::Rest;
 
 mod connection;
 mod connections;
@@ -14,3 +15,4 @@ mod counts;
 mod desk;
 mod next;
 mod open_call;
+mod rest;

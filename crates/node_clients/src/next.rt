@@ -2,7 +2,8 @@
 ghost use Rattle.std.specs.Prelude.{◌≡◌};
 ghost use Rattle.node_clients.specs.Connections.{asked};
 
-use client_commands::{Command, CommandFault, Deletion, read_command};
+use crate::rest::Rest;
+use client_commands::{Command, CommandFault, read_command};
 use frames::Frame;
 
 /// One thing that waits on a connection.
@@ -10,8 +11,8 @@ use frames::Frame;
 pub enum Next {
     /// A command that has come, and that nobody has read yet.
     Came(Frame),
-    /// What is left of a `DEL` that has begun.
-    Rest(Deletion),
+    /// What is left of a command that has begun.
+    Rest(Rest),
 }
 
 impl Next {
@@ -21,7 +22,7 @@ impl Next {
     {
         match self {
             Next::Came(frame) => read_command(frame),
-            Next::Rest(deletion) => Ok(Command::Delete(deletion)),
+            Next::Rest(rest) => Ok(rest.command()),
         }
     }
 }

@@ -6,27 +6,28 @@ ghost use Rattle.node_effects.specs.Errors.{IsUnwritten};
 ghost use Rattle.node_effects.specs.Work.{IsGrown};
 ghost use Rattle.node_effects.specs.declared.error.NodeError.TheVariants.{NoMemory};
 ghost use Rattle.client_commands.specs.Deletion.{count_of, left_over};
-ghost use Rattle.node_clients.specs.Answers.{CanBeSent, TellsClients, due_growth, ended_answer, last_answer};
-ghost use Rattle.node_clients.specs.Answers.{told_value};
-ghost use Rattle.node_clients.specs.Calls.{call_answer, call_under, left_of, rest_of, waiting_for, with_nobody};
+ghost use Rattle.node_clients.specs.Answers.{CanBeSent, TellsClients, due_growth, last_answer};
+ghost use Rattle.node_clients.specs.Calls.{call_answer, call_under, deletes, left_of, rest_of};
+ghost use Rattle.node_clients.specs.Calls.{waiting_for, with_nobody};
 ghost use Rattle.node_clients.specs.Desk.{IsEndedFor, IsIdleFor, IsPutBack, end_growth, growth_for, has_listener};
 ghost use Rattle.node_clients.specs.Desk.{is_answered_for, is_connected, with_told, with_give_up};
 
 use super::Desk;
+use super::told::ended_answer;
 use crate::open_call::OpenCall;
-use bytes::Bytes;
-use client_commands::{Answer, AnswerError, Deletion, Wanted};
+use crate::rest::Rest;
+use client_commands::{Answer, AnswerError, Deletion};
 use local_object::Ended;
 use node_effects::{NodeError, Work};
 use node_strings::ConnectionId;
-use record::Operation;
 use tag::CallId;
 
 impl Desk {
     /// Removes a call that was answered. The client that waits for it, if its connection is still there, is sent the
-    /// answer. If the call is a write of a `DEL` of which more is left, the client is sent nothing, and what is left is
-    /// its next command. With the bound `delta`, a `DEL` writes to each name as `Deletion::left` says. Fails with
-    /// `NoMemory`, or with `Unwritable` if the answer has a string that is too long for a frame.
+    /// answer. If the call is a move, or a write of a `DEL` of which more is left, the client is sent nothing, and what
+    /// is left is its next command: after a move the read that confirms it. With the bound `delta`, a `DEL` writes to
+    /// each name as `Deletion::left` says. Fails with `NoMemory`, or with `Unwritable` if the answer has a string that
+    /// is too long for a frame.
     pub fn end(
         &mut self,
         ended: Ended,
@@ -75,18 +76,39 @@ impl Desk {
         ensures refused { IfErr result (IsUnwritten (CanBeSent (call_answer (Some call) ended))) }
     {
         match call.client {
-            Some(client) => self.tell(
-                client,
-                call.deletion,
-                ended_answer(call.wanted, ended),
-                delta,
-                work,
-            ),
+            Some(client) => self.serve(client, call, ended, delta, work),
             None => Ok(()),
         }
     }
 
-    // A call was answered, for which this client waits. The client is told this, if the call is no write of a `DEL`.
+    // A call was answered, for which this client waits.
+    fn serve(
+        &mut self,
+        client: ConnectionId,
+        call: OpenCall,
+        ended: Ended,
+        delta: Option<u32>,
+        work: &mut Work,
+    ) -> Result<(), NodeError>
+        ensures told { OnOk result (IsGrown work.old work.new
+            (end_growth self.old (Some client) (rest_of delta (Some call)) (call_answer (Some call) ended))) }
+        ensures tells { OnOk result (TellsClients work.old work.new) }
+        ensures calls { self.new.calls ≡ self.old.calls }
+        ensures idle { OnOk result
+            (IsEndedFor self.old.clients (Some client) (rest_of delta (Some call)) self.new.clients) }
+        ensures counts { OnOk result (self.new.counts
+            ≡ with_told (is_answered_for self.old (Some client) (rest_of delta (Some call))) self.old.counts) }
+        ensures refused { IfErr result (IsUnwritten (CanBeSent (call_answer (Some call) ended))) }
+    {
+        if call.is_move {
+            return self.put_back(client, Rest::Confirms(call.name), work);
+        }
+        let answer = ended_answer(call.wanted, ended);
+        self.tell(client, call.deletion, answer, delta, work)
+    }
+
+    // A call that is no move was answered, for which this client waits. The client is told this, if the call is no
+    // write of a `DEL`.
     fn tell(
         &mut self,
         client: ConnectionId,
@@ -96,13 +118,13 @@ impl Desk {
         work: &mut Work,
     ) -> Result<(), NodeError>
         ensures told { OnOk result (IsGrown work.old work.new
-            (end_growth self.old (Some client) (left_of delta deletion) (last_answer deletion answer))) }
+            (end_growth self.old (Some client) (deletes (left_of delta deletion)) (last_answer deletion answer))) }
         ensures tells { OnOk result (TellsClients work.old work.new) }
         ensures calls { self.new.calls ≡ self.old.calls }
         ensures idle { OnOk result
-            (IsEndedFor self.old.clients (Some client) (left_of delta deletion) self.new.clients) }
+            (IsEndedFor self.old.clients (Some client) (deletes (left_of delta deletion)) self.new.clients) }
         ensures counts { OnOk result (self.new.counts
-            ≡ with_told (is_answered_for self.old (Some client) (left_of delta deletion)) self.old.counts) }
+            ≡ with_told (is_answered_for self.old (Some client) (deletes (left_of delta deletion))) self.old.counts) }
         ensures refused { IfErr result (IsUnwritten (CanBeSent (last_answer deletion answer))) }
     {
         match deletion {
@@ -120,27 +142,28 @@ impl Desk {
         work: &mut Work,
     ) -> Result<(), NodeError>
         ensures told { OnOk result (IsGrown work.old work.new
-            (end_growth self.old (Some client) (left_over delta deletion) (answers.Number (count_of deletion)))) }
+            (end_growth self.old (Some client) (deletes (left_over delta deletion))
+            (answers.Number (count_of deletion)))) }
         ensures tells { OnOk result (TellsClients work.old work.new) }
         ensures calls { self.new.calls ≡ self.old.calls }
         ensures idle { OnOk result
-            (IsEndedFor self.old.clients (Some client) (left_over delta deletion) self.new.clients) }
+            (IsEndedFor self.old.clients (Some client) (deletes (left_over delta deletion)) self.new.clients) }
         ensures counts { OnOk result (self.new.counts
-            ≡ with_told (is_answered_for self.old (Some client) (left_over delta deletion)) self.old.counts) }
+            ≡ with_told (is_answered_for self.old (Some client) (deletes (left_over delta deletion))) self.old.counts) }
         ensures refused { IfErr result (IsUnwritten (CanBeSent (answers.Number (count_of deletion)))) }
     {
         let count = deletion.count();
         match deletion.left(delta) {
-            Some(rest) => self.put_back(client, rest, work),
+            Some(rest) => self.put_back(client, Rest::Deletes(rest), work),
             None => self.answer(client, Answer::Number(count), work),
         }
     }
 
-    // What is left of a `DEL` is the next command of its client, if the connection is still there.
+    // What is left of a command is the next command of its client, if the connection is still there.
     fn put_back(
         &mut self,
         client: ConnectionId,
-        rest: Deletion,
+        rest: Rest,
         work: &mut Work,
     ) -> Result<(), NodeError>
         ensures grown { OnOk result (IsGrown work.old work.new
@@ -209,42 +232,6 @@ impl Desk {
         match self.closed(id) {
             Some(client) => self.answer(client, answer, work),
             None => Ok(()),
-        }
-    }
-}
-
-// The answer that the client of an answered call gets.
-fn ended_answer(wanted: Wanted, ended: Ended) -> Answer
-    ensures { result ≡ ended_answer wanted ended }
-{
-    match ended.kind {
-        Operation::Read => match ended.value {
-            Some(value) => told_value(wanted, value),
-            None => told_value(wanted, Bytes::new()),
-        },
-        Operation::Write | Operation::Move => Answer::Ok,
-    }
-}
-
-// What a client is told of a value that it reads.
-fn told_value(wanted: Wanted, value: Bytes) -> Answer
-    ensures { result ≡ told_value wanted value }
-{
-    match wanted {
-        Wanted::Value => {
-            if value.is_empty() {
-                Answer::Nil
-            } else {
-                Answer::Value(value)
-            }
-        }
-        Wanted::Length => Answer::Number(value.len() as u64),
-        Wanted::Existence => {
-            if value.is_empty() {
-                Answer::Number(0)
-            } else {
-                Answer::Number(1)
-            }
         }
     }
 }
