@@ -30,7 +30,7 @@ use Rattle.node_keeper.specs.Sendings.{IsDirected, Sending, letters_of, posted, 
 use Rattle.node_keeper.specs.Wants.{left_by, outputs_of, records_in, sends_in}
 use Rattle.node_keeper.specs.declared.keeper.Keeper.{Keeper}
 use Rattle.node_keeper.proofs.IdLemmas.{handled_within}
-use Rattle.node_keeper.proofs.SendingLemmas.{to_itself_append}
+use Rattle.node_keeper.proofs.SendingLemmas.{directed_more, to_itself_append}
 use Rattle.node_keeper.proofs.WantLemmas.{in_order, left_append, left_ordered, left_sent, outputs_append, outputs_ordered}
 use Rattle.node_keeper.proofs.WantLemmas.{records_append, records_ordered, sends_append, sends_ordered}
 
@@ -74,7 +74,7 @@ pub record ActsInOrder (asker : ℕ) (got : List Named) (old : Keeper) (before :
   pub read : AllByRecursion (IsReadBack old.digest) records
   pub sent : AllByRecursion (IsSendable old.ids.node old.digest) sends
   pub own : growth.own ≡ to_itself old.ids.node sends
-  pub addressed : AllByRecursion (IsDirected old.ids.node asker) sends
+  pub addressed : AllByRecursion (IsDirected old.ids.node asker got) sends
   pub ids : HaveLoggedIds old.ids records new.ids
   pub handled : HasRanges old.ids → IsHandledSafely fragment (kept_of old) got (logged_first records (letters_of sends))
       (kept_of new) (all_seen growth.notices)
@@ -92,7 +92,7 @@ acts_in_order asker got old new before after a =
       read = subst (λ rs. AllByRecursion (IsReadBack old.digest) rs) (sym (records_ordered a.records a.sends)) a.read;
       sent = subst (λ xs. AllByRecursion (IsSendable old.ids.node old.digest) xs) (sym (sends_ordered a.records a.sends)) a.sent;
       own = a.own ∙ ap (λ xs. to_itself old.ids.node xs) (sym (sends_ordered a.records a.sends));
-      addressed = subst (λ xs. AllByRecursion (IsDirected old.ids.node asker) xs) (sym (sends_ordered a.records a.sends))
+      addressed = subst (λ xs. AllByRecursion (IsDirected old.ids.node asker got) xs) (sym (sends_ordered a.records a.sends))
           a.addressed;
       ids = subst (λ rs. HaveLoggedIds old.ids rs new.ids) (sym (records_ordered a.records a.sends)) a.ids;
       handled = λ within. safe_as (kept_of old) got (logged_first a.records (letters_of a.sends))
@@ -127,7 +127,7 @@ acts_rest asker got keeper before after growth grown outputs own notices = recor
 -- two acts, one after the other, are one act, if the second uses only letters that had come or that the first sent
 pub acts_then : (asker other : ℕ) (got more : List Named) (a b c : Keeper) (u v w : Work) →
     (first : Acts asker got a u b v) → Acts other more b v c w →
-    ((send : Sending) → IsDirected a.ids.node other send → IsDirected a.ids.node asker send) →
+    ((send : Sending) → IsDirected a.ids.node other more send → IsDirected a.ids.node asker got send) →
     ((letter : Named) → IsOneOf more letter → IsOneOf (got ++ letters_of (sends_in first.wants)) letter) →
     Acts asker got a u c w
 acts_then asker other got more a b c u v w first second addressed among =
@@ -153,10 +153,10 @@ acts_then asker other got more a b c u v w first second addressed among =
           ∙ ap (λ m. to_itself m (sends_in second.wants)) first.node)
           ∙ sym (to_itself_append n (sends_in first.wants) (sends_in second.wants))
           ∙ ap (λ xs. to_itself n xs) (sym (sends_append first.wants second.wants));
-      addressed = subst (λ xs. AllByRecursion (IsDirected n asker) xs) (sym (sends_append first.wants second.wants))
-          (all_append (IsDirected n asker) (sends_in first.wants) (sends_in second.wants) first.addressed
-          (all_weaker (IsDirected n other) (IsDirected n asker) addressed (sends_in second.wants)
-          (subst (λ m. AllByRecursion (IsDirected m other) (sends_in second.wants)) first.node second.addressed)));
+      addressed = subst (λ xs. AllByRecursion (IsDirected n asker got) xs) (sym (sends_append first.wants second.wants))
+          (all_append (IsDirected n asker got) (sends_in first.wants) (sends_in second.wants) first.addressed
+          (all_weaker (IsDirected n other more) (IsDirected n asker got) addressed (sends_in second.wants)
+          (subst (λ m. AllByRecursion (IsDirected m other more) (sends_in second.wants)) first.node second.addressed)));
       ids = subst (λ rs. HaveLoggedIds a.ids rs c.ids) (sym (records_append first.wants second.wants))
           (logged_then a.ids b.ids c.ids (records_in first.wants) (records_in second.wants) first.ids second.ids);
       handled = λ within.
@@ -186,5 +186,5 @@ none_of got letter is = absurd (go is.0 is.1)
 pub acts_more : (asker : ℕ) (got : List Named) (a b c : Keeper) (u v w : Work) → Acts asker got a u b v →
     Acts asker [] b v c w → Acts asker got a u c w
 acts_more asker got a b c u v w first second =
-    acts_then asker asker got [] a b c u v w first second (λ send is. is)
+    acts_then asker asker got [] a b c u v w first second (directed_more a.ids.node asker [] got (none_of got))
     (none_of (got ++ letters_of (sends_in first.wants)))

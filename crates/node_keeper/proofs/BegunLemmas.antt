@@ -29,7 +29,7 @@ use Rattle.node_keeper.specs.Beginning.{opened_growth}
 use Rattle.node_keeper.specs.Fitting.{IsSendable}
 use Rattle.node_keeper.specs.Logging.{IsReadBack, log_entry_of}
 use Rattle.node_keeper.specs.Keeping.{kept_of}
-use Rattle.node_keeper.specs.Sendings.{asked, letters_of, member_or, posted, sent_growth, to_itself}
+use Rattle.node_keeper.specs.Sendings.{IsDirected, Sending, asked, letters_of, member_or, posted, sent_growth, to_itself}
 use Rattle.node_keeper.specs.declared.keeper.Keeper.{Keeper}
 use Rattle.node_keeper.proofs.ActLemmas.{AreFew, acts_in_order, acts_more, acts_rest, few_safe, safe_as, same_logged}
 use Rattle.node_keeper.proofs.DoneLemmas.{done_to, file_same}
@@ -71,7 +71,7 @@ next_acts asker old new before noted after name event id letters records notice 
       sent = subst (λ d. AllByRecursion (IsSendable n d) (asked n name letters)) digest
           (subst (λ m. AllByRecursion (IsSendable m new.digest) (asked m name letters)) node fits);
       own = ap (λ m. to_itself m (asked m name letters)) node;
-      addressed = asked_addressed n asker name letters
+      addressed = asked_addressed n asker [] name letters
           (done_asks (objects_of old.objects name) done.local (event ∷ []) letters done.done (begins_serve_none event id begins, tt));
       ids = subst (HaveLoggedIds old.ids records) (sym given) (tells old.ids next);
       handled = λ within. safe_as (kept_of old) [] (logged_first records (with_names name letters))
@@ -116,6 +116,34 @@ module _ (asker : ℕ) (old new : Keeper) where
       (subst (λ n. IsEventAllowed n old.file.fixed.mover event) (sym node) allowed) seen few
       (λ from to file number objects. logged from to file (number ∙ node) objects) tells read notes sent fits)
 
+-- letters of a call's current phase go out, each to a node to which it may go
+pub sent_acts : (asker : ℕ) (keeper : Keeper) (before after : Work) (name : List ℕ) (letters : List Letter) (sends : List Sending) →
+    AllByRecursion (IsResent fragment (objects_of keeper.objects name)) letters → letters_of sends ≡ with_names name letters →
+    AllByRecursion (IsDirected keeper.ids.node asker []) sends →
+    IsGrown before after (sent_growth keeper.ids.node keeper.digest sends) →
+    AllByRecursion (IsSendable keeper.ids.node keeper.digest) sends → Acts asker [] keeper before keeper after
+sent_acts asker keeper before after name letters sends resent those directed sent fits =
+    acts_in_order asker [] keeper keeper before after (record {
+      sends = sends;
+      records = [];
+      growth = sent_growth keeper.ids.node keeper.digest sends;
+      grown = sent;
+      outputs = refl;
+      read = tt;
+      sent = fits;
+      own = refl;
+      addressed = directed;
+      ids = same_epoch keeper.ids keeper.ids refl;
+      handled = λ within.
+          let node = kept_of keeper in
+          safe_as node [] (logged_first [] (with_names name letters)) (logged_first [] (letters_of sends)) node [] []
+          (few_safe node [] [] node (with_names name letters) [] (inl refl) within
+          (resent_handled fragment node [] name letters (later_same keeper.ids within) resent) (same_logged node))
+          (ap (λ xs. logged_first [] xs) those) refl;
+      node = refl;
+      digest = refl;
+    })
+
 -- a call asks again
 pub resent_acts : (asker : ℕ) (keeper : Keeper) (before after : Work) (name : List ℕ) (letters : List Letter) →
     AllByRecursion (IsResent fragment (objects_of keeper.objects name)) letters →
@@ -124,23 +152,5 @@ pub resent_acts : (asker : ℕ) (keeper : Keeper) (before after : Work) (name : 
     Acts asker [] keeper before keeper after
 resent_acts asker keeper before after name letters resent sent fits =
     let n = keeper.ids.node in
-    acts_in_order asker [] keeper keeper before after (record {
-      sends = asked n name letters;
-      records = [];
-      growth = sent_growth n keeper.digest (asked n name letters);
-      grown = sent;
-      outputs = refl;
-      read = tt;
-      sent = fits;
-      own = refl;
-      addressed = asked_addressed n asker name letters (resent_ask (objects_of keeper.objects name) letters resent);
-      ids = same_epoch keeper.ids keeper.ids refl;
-      handled = λ within.
-          let node = kept_of keeper in
-          safe_as node [] (logged_first [] (with_names name letters)) (logged_first [] (letters_of (asked n name letters))) node [] []
-          (few_safe node [] [] node (with_names name letters) [] (inl refl) within
-          (resent_handled fragment node [] name letters (later_same keeper.ids within) resent) (same_logged node))
-          (ap (λ xs. logged_first [] xs) (going_letters (member_or n) name letters)) refl;
-      node = refl;
-      digest = refl;
-    })
+    sent_acts asker keeper before after name letters (asked n name letters) resent (going_letters (member_or n) name letters)
+    (asked_addressed n asker [] name letters (resent_ask (objects_of keeper.objects name) letters resent)) sent fits

@@ -1,5 +1,5 @@
 -- A call leaves a position behind only once a quorum of its members has replied.
-use Rattle.std.proofs.Common.{◌≡◌, ◌⊎◌, ℕ, eqb, eq-eqb, inl, inr, Bool, true, false, cond, List, [], ◌∷◌, ◌++◌}
+use Rattle.std.proofs.Common.{◌≡◌, ◌⊎◌, ℕ, eq-eqb, inl, inr, Bool, true, false, cond, List, [], ◌∷◌, ◌++◌}
 use Rattle.std.proofs.Common.{Option, None, Some, IsSome, refl, sym, subst, ap, ◌∙◌}
 use Rattle.std.proofs.lemmas.Option.{same_Some}
 use Rattle.bank.specs.declared.kind.Kind.{Kind}
@@ -12,7 +12,6 @@ use Rattle.encoder.specs.Fragment.{fragment}
 use Rattle.letter.specs.declared.letter.Letter.{Letter}
 use Rattle.mail.specs.declared.message.Body.{Body}
 use Rattle.mail.specs.declared.message.Body.TheVariants as body
-use Rattle.mail.specs.declared.message.Message.{Message}
 use Rattle.mail.specs.Phase.{Phase, after_body, has_taken, is_current, with_reply}
 use Rattle.open_calls.specs.OpenCalls.{IsLacking, IsReady, NodeCall, due_phase, open_call, taking_open}
 use Rattle.local_object.specs.declared.progress.Ended.{Ended}

@@ -28,10 +28,11 @@ use Rattle.node_keeper.specs.declared.keeper.Keeper.{Keeper}
 use Rattle.node_keeper.proofs.ActLemmas.{AreFew}
 use Rattle.node_keeper.proofs.DoneLemmas.{done_of, taken_by}
 use Rattle.node_keeper.proofs.QuietLemmas.{give_up_fed, give_up_none, give_up_told, quiet_acts}
-use Rattle.node_keeper.proofs.QuietLemmas.{serve_fed, serve_none, serve_told, taken_quietly}
+use Rattle.node_keeper.proofs.QuietLemmas.{serve_fed, serve_none, serve_told}
 use Rattle.node_keeper.proofs.ReadLemmas.{serve_read, take_read}
 use Rattle.node_keeper.proofs.RequestLemmas.{all_reply, done_asks}
 use Rattle.node_keeper.proofs.SendingLemmas.{asked_addressed, going_letters, replied_addressed}
+use Rattle.node_keeper.proofs.TakenLemmas.{taken_quietly}
 
 pub few_of : (b : Bool) (one : LogRecord) → AreFew (cond b (one ∷ []) [])
 few_of true one = inr (one, refl)
@@ -84,7 +85,7 @@ module _ (asker : ℕ) (it : NamedLetter) (old new : Keeper) (before after : Wor
         idless = idless_if (LogRecord.Serves it.name it.letter) (refl, refl) changes;
         sent = serves.fits.sent;
         own = refl;
-        addressed = replied_addressed old.ids.node asker it.name serves.replies
+        addressed = replied_addressed old.ids.node asker it.name it.letter serves.replies
             (all_reply local serves.done.local it.letter serves.replies serves.done.done);
         those = going_letters (λ letter. asker) it.name serves.replies;
         told = sym (ap (map (Seen.Tells it.name)) (serve_told it.name it.letter local));
@@ -129,7 +130,7 @@ module _ (it : NamedLetter) (old new : Keeper) (before after : Work) (ended : Op
         idless = idless_if (LogRecord.Takes it.name it.letter) (refl, refl) moves;
         sent = takes.fits.sent;
         own = append-nil sending.own;
-        addressed = asked_addressed old.ids.node asker it.name takes.letters
+        addressed = asked_addressed old.ids.node asker (named_of it ∷ []) it.name takes.letters
             (done_asks local takes.done.local quiet.events takes.letters quiet.done quiet.asks);
         those = going_letters (member_or old.ids.node) it.name takes.letters;
         told = told_seen it.name ended ∙ ap (map (Seen.Tells it.name)) quiet.told;
@@ -158,5 +159,3 @@ given_up_acts asker old new work name id file digest ids done =
       those = refl;
       told = sym (ap (map (Seen.Tells name)) (give_up_told [] name id local));
     })
-
--- Which letters a node heeds

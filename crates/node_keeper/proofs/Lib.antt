@@ -1,6 +1,8 @@
 pub mod ActLemmas
 pub mod AnewLemmas
 pub mod AnewReadLemmas
+pub mod AskedAgainLemmas
+pub mod AskedAllLemmas
 pub mod BegunLemmas
 pub mod CallLemmas
 pub mod CauseLemmas
@@ -23,6 +25,7 @@ pub mod ResultLemmas
 pub mod ScanLemmas
 pub mod SeenLemmas
 pub mod SendingLemmas
+pub mod TakenLemmas
 pub mod UnchangedObjectLemmas
 pub mod WantLemmas
 pub mod IdsLeftLemmas

@@ -1,30 +1,23 @@
--- Letters that are served and taken, and calls that are given up, as what a node does.
-use Rattle.std.proofs.Common.{◌≡◌, inl, inr, ℕ, Bool, true, false, cond, List, [], ◌∷◌, ◌++◌, map}
-use Rattle.std.proofs.Common.{Option, None, Some, refl, sym, subst, ap}
+-- Letters that are served, calls that go on or are given up, and banks that are closed, as what a node does.
+use Rattle.std.proofs.Common.{◌≡◌, ℕ, Bool, true, false, cond, List, [], ◌∷◌, ◌++◌, map}
+use Rattle.std.proofs.Common.{is_some, refl, sym, subst, ap}
 use Rattle.std.specs.List.{AllByRecursion}
-use Rattle.bank.specs.declared.kind.Kind.{Kind}
 use Rattle.encoder.specs.Fragment.{fragment}
-use Rattle.call.specs.Call.{OpenCall as Machine, reached}
-use Rattle.call.specs.declared.next.Next.{Next}
-use Rattle.call.specs.declared.next.Next.TheVariants as next
 use Rattle.deeds.specs.CallId.{CallIds}
-use Rattle.open_calls.specs.OpenCalls.{NodeCall, open_call}
+use Rattle.open_calls.specs.OpenCalls.{open_call}
 use Rattle.letter.specs.declared.letter.Letter.{Letter}
-use Rattle.local_object.specs.declared.progress.Ended.{Ended}
-use Rattle.local_object.specs.Doing.{IsOutcome, can_close, close_events, give_up_events, gives_up, is_served, serve_events}
+use Rattle.local_object.specs.Doing.{IsOutcome, can_close, close_events, give_up_events, gives_up, is_askable, is_sent_back}
+use Rattle.local_object.specs.Doing.{is_served, serve_events, stray_events}
 use Rattle.local_object.specs.Ended.{all_told}
-use Rattle.local_object.specs.Events.{LocalEvent, all_done}
-use Rattle.local_object.specs.Going.{next_if}
-use Rattle.local_object.specs.Local.{LocalObject, Place}
-use Rattle.local_object.specs.Taking.{AreSettling, IsOutcomeWithAnswers, IsReplyOutcome, begin_anew_events, begin_events}
-use Rattle.local_object.specs.Taking.{call_events, can_begin, can_begin_anew, going_events, grow_events, grows_by, is_read_begin}
-use Rattle.local_object.specs.Taking.{lead_events, machine_of, repeats, restart_events, step_events}
+use Rattle.local_object.specs.Events.{LocalEvent}
+use Rattle.local_object.specs.Local.{LocalObject}
+use Rattle.local_object.specs.ReadingOn.{read_on_events, reads_on}
 use Rattle.deeds.specs.Deeds.{Notice as Seen}
 use Rattle.deeds.specs.Ids.{IsLater}
 use Rattle.deeds.specs.May.{IsEventLetterKnown}
 use Rattle.deeds.specs.Named.{NamedLetter as Named, with_names}
 use Rattle.deeds.proofs.IdLemmas.{later_same}
-use Rattle.open_calls.proofs.ListLemmas.{all_append, all_weaker}
+use Rattle.open_calls.proofs.ListLemmas.{all_append}
 use Rattle.deeds.proofs.MethodLemmas.{BeginsNone, if_all, quiet_handled}
 use Rattle.recoveries.specs.Copies.{IsLogged}
 use Rattle.recoveries.specs.Records.{LogRecord}
@@ -45,7 +38,7 @@ use Rattle.node_keeper.proofs.DoneLemmas.{file_same}
 use Rattle.node_keeper.proofs.RequestLemmas.{ServesNone}
 
 -- the parts of what a node does that say what goes out, what the log gets, and what clients see
-pub record GoesOut (asker : ℕ) (keeper : Keeper) (before after : Work) (records : List LogRecord) (letters : List Named)
+pub record GoesOut (asker : ℕ) (got : List Named) (keeper : Keeper) (before after : Work) (records : List LogRecord) (letters : List Named)
     (seen : List Seen) : Type 0 where
   pub sends : List Sending
   pub growth : Growth
@@ -56,7 +49,7 @@ pub record GoesOut (asker : ℕ) (keeper : Keeper) (before after : Work) (record
   pub idless : AllByRecursion TellsNoId records
   pub sent : AllByRecursion (IsSendable keeper.ids.node keeper.digest) sends
   pub own : growth.own ≡ to_itself keeper.ids.node sends
-  pub addressed : AllByRecursion (IsDirected keeper.ids.node asker) sends
+  pub addressed : AllByRecursion (IsDirected keeper.ids.node asker got) sends
   pub those : letters_of sends ≡ letters
   pub told : all_seen growth.notices ≡ seen
 
@@ -66,7 +59,7 @@ pub quiet_acts : (asker : ℕ) (got : List Named) (old new : Keeper) (before aft
     new.file ≡ old.file → new.digest ≡ old.digest → new.ids ≡ old.ids →
     IsOutcome (objects_of old.objects name) events local letters → IsChangedAt old.objects name local new.objects →
     AllByRecursion (IsEventLetterKnown got name) events → AllByRecursion BeginsNone events → AreFew records →
-    IsLogged (kept_of old) records (kept_of new) → GoesOut asker old before after records (with_names name letters)
+    IsLogged (kept_of old) records (kept_of new) → GoesOut asker got old before after records (with_names name letters)
     (map (Seen.Tells name) (all_told fragment (objects_of old.objects name) events)) → Acts asker got old before new after
 quiet_acts asker got old new before after name events local letters records file digest ids done changed fed none few logged out =
     let tells = map (Seen.Tells name) (all_told fragment (objects_of old.objects name) events) in
@@ -104,106 +97,42 @@ module _ (name : List ℕ) (letter : Letter) (local : LocalObject) where
   abbrev got : List Named
   got = record { name = name; letter = letter } ∷ []
 
+  -- what is true of serving the letter, of hearing of it and of sending it back
+  served_all : (P : LocalEvent → Type 0) → P (LocalEvent.Serve letter) → P (LocalEvent.Hear letter) →
+      P (LocalEvent.Redirect letter) → AllByRecursion P (serve_events local letter)
+  served_all P serves hears back = go (is_served local letter) (is_askable letter)
+    where
+      go : (served askable : Bool) →
+          AllByRecursion P (cond served (LocalEvent.Serve letter ∷ []) (cond askable (stray_events local letter) []))
+      go true askable = (serves, tt)
+      go false true =
+          all_append P (cond (is_some letter.start) (LocalEvent.Hear letter ∷ []) [])
+          (cond (is_sent_back local letter) (LocalEvent.Redirect letter ∷ []) [])
+          (if_all P (LocalEvent.Hear letter) (is_some letter.start) hears)
+          (if_all P (LocalEvent.Redirect letter) (is_sent_back local letter) back)
+      go false false = tt
+
   pub serve_fed : AllByRecursion (IsEventLetterKnown got name) (serve_events local letter)
-  serve_fed = if_all (IsEventLetterKnown got name) (LocalEvent.Serve letter) (is_served local letter) (0, refl)
+  serve_fed = served_all (IsEventLetterKnown got name) (0, refl) (0, refl) (0, refl)
 
   pub serve_none : AllByRecursion BeginsNone (serve_events local letter)
-  serve_none = if_all BeginsNone (LocalEvent.Serve letter) (is_served local letter) refl
+  serve_none = served_all BeginsNone refl refl refl
+
+  stray_told : (hears back : Bool) → all_told fragment local
+      (cond hears (LocalEvent.Hear letter ∷ []) [] ++ cond back (LocalEvent.Redirect letter ∷ []) []) ≡ []
+  stray_told true true = refl
+  stray_told true false = refl
+  stray_told false true = refl
+  stray_told false false = refl
 
   pub serve_told : all_told fragment local (serve_events local letter) ≡ []
-  serve_told = untold_if local (LocalEvent.Serve letter) refl (is_served local letter)
-
--- Taking
-
--- the event begins no call, takes no letter but one of these, and serves no request
-abbrev IsQuiet : List Named → (name : List ℕ) → LocalEvent → Type 0
-IsQuiet got name event = IsEventLetterKnown got name event × BeginsNone event × ServesNone event
-
-module _ (got : List Named) (name : List ℕ) where
-  begin_quiet : (places : List Place) (call : Machine) (phase : Kind) (position : ℕ) →
-      AllByRecursion (IsQuiet got name) (begin_events places call phase position)
-  begin_quiet places call phase position =
-      if_all (IsQuiet got name) (LocalEvent.Advance call.id) (can_begin places call phase position) (tt, refl, tt)
-
-  restart_quiet : (local : LocalObject) (call : Machine) (phase : Kind) (position : ℕ) →
-      AllByRecursion (IsQuiet got name) (restart_events local call phase position)
-  restart_quiet local call phase position = go (is_read_begin (reached call))
+  serve_told = go (is_served local letter) (is_askable letter)
     where
-      go : (b : Bool) → AllByRecursion (IsQuiet got name)
-          (cond b (begin_anew_events local call) (begin_events local.places call phase position))
-      go true = if_all (IsQuiet got name) (LocalEvent.BeginAnew call.id) (can_begin_anew local call) (tt, refl, tt)
-      go false = begin_quiet local.places call phase position
-
-  step_quiet : (local : LocalObject) (call : Machine) (step : Next) →
-      AllByRecursion (IsQuiet got name) (step_events local call step)
-  step_quiet local call next.Wait = tt
-  step_quiet local call next.Settle = tt
-  step_quiet local call (next.Restart phase position) = restart_quiet local call phase position
-  step_quiet local call (next.Begin phase position) = begin_quiet local.places call phase position
-  step_quiet local call next.Answer = ((tt, refl, tt), tt)
-
-  call_quiet : (again : Bool) (local : LocalObject) (call : Option NodeCall) →
-      AllByRecursion (IsQuiet got name) (call_events again local call)
-  call_quiet again local None = tt
-  call_quiet again local (Some call) = step_quiet local (machine_of call) (next_if again (machine_of call))
-
-  grow_quiet : (local : LocalObject) (id : ℕ) → AllByRecursion (IsQuiet got name) (grow_events local id)
-  grow_quiet local id =
-      if_all (IsQuiet got name) (LocalEvent.Grow id) (grows_by local (open_call local.calls id)) (tt, refl, tt)
-
-  going_quiet : (again : Bool) (local : LocalObject) (id : ℕ) →
-      AllByRecursion (IsQuiet got name) (going_events again local id)
-  going_quiet again local id =
-      let grown = (all_done fragment local (grow_events local id)).local in
-      all_append (IsQuiet got name) (grow_events local id) (lead_events again grown id) (grow_quiet local id)
-      (call_quiet again grown (open_call grown.calls id))
-
-  settle_quiet : (local : LocalObject) (id : ℕ) (events : List LocalEvent) → AreSettling local id events →
-      AllByRecursion (IsQuiet got name) events
-  settle_quiet local id events (inl none) = subst (λ es. AllByRecursion (IsQuiet got name) es) (sym none.0) tt
-  settle_quiet local id events (inr one) =
-      subst (λ es. AllByRecursion (IsQuiet got name) es) (sym one.2) ((tt, refl, tt), tt)
-
--- what was done, as its events, with what each of them needs
-pub record IsQuietOutcome (got : List Named) (name : List ℕ) (old local : LocalObject) (letters : List Letter)
-    (ended : List Ended) : Type 0 where
-  pub events : List LocalEvent
-  pub done : IsOutcome old events local letters
-  pub told : ended ≡ all_told fragment old events
-  pub fed : AllByRecursion (IsEventLetterKnown got name) events
-  pub none : AllByRecursion BeginsNone events
-  pub asks : AllByRecursion ServesNone events
-
-by_quietly : (got : List Named) (name : List ℕ) (old local : LocalObject) (letters : List Letter) (ended : List Ended)
-    (events : List LocalEvent) → IsOutcomeWithAnswers old events local letters ended → AllByRecursion (IsQuiet got name) events →
-    IsQuietOutcome got name old local letters ended
-by_quietly got name old local letters ended events by quiet = record {
-  events = events;
-  done = by.done;
-  told = by.told;
-  fed = all_weaker (IsQuiet got name) (IsEventLetterKnown got name) (λ event is. is.0) events quiet;
-  none = all_weaker (IsQuiet got name) BeginsNone (λ event is. is.1) events quiet;
-  asks = all_weaker (IsQuiet got name) ServesNone (λ event is. is.2) events quiet;
-}
-
-pub taken_quietly : (name : List ℕ) (letter : Letter) (taken : Bool) (old local : LocalObject) (letters : List Letter)
-    (ended : List Ended) → IsReplyOutcome taken old letter local letters ended →
-    IsQuietOutcome (record { name = name; letter = letter } ∷ []) name old local letters ended
-taken_quietly name letter false old local letters ended by =
-    by_quietly (record { name = name; letter = letter } ∷ []) name old local letters ended [] by tt
-taken_quietly name letter true old local letters ended goes =
-    let got : List Named = record { name = name; letter = letter } ∷ [] in
-    let first = LocalEvent.Take letter ∷ goes.settling in
-    let again = repeats old letter in
-    let settled = (all_done fragment old first).local in
-    let last = going_events again settled letter.message.call in
-    by_quietly got name old local letters ended (first ++ last) goes.leads
-    (all_append (IsQuiet got name) first last (
-      ((0, refl), refl, tt),
-      settle_quiet got name (all_done fragment old (LocalEvent.Take letter ∷ [])).local letter.message.call
-          goes.settling goes.settles,
-    )
-    (going_quiet got name again settled letter.message.call))
+      go : (served askable : Bool) → all_told fragment local
+          (cond served (LocalEvent.Serve letter ∷ []) (cond askable (stray_events local letter) [])) ≡ []
+      go true askable = refl
+      go false true = stray_told (is_some letter.start) (is_sent_back local letter)
+      go false false = refl
 
 -- Giving up
 
@@ -216,6 +145,21 @@ module _ (got : List Named) (name : List ℕ) (id : ℕ) (local : LocalObject) w
 
   pub give_up_told : all_told fragment local (give_up_events local id) ≡ []
   give_up_told = untold_if local (LocalEvent.GiveUp id) refl (gives_up local id)
+
+-- Going on at the object's start
+
+module _ (got : List Named) (name : List ℕ) (id : ℕ) (local : LocalObject) where
+  pub read_on_fed : AllByRecursion (IsEventLetterKnown got name) (read_on_events local id)
+  read_on_fed = if_all (IsEventLetterKnown got name) (LocalEvent.ReadOn id) (reads_on local (open_call local.calls id)) tt
+
+  pub read_on_none : AllByRecursion BeginsNone (read_on_events local id)
+  read_on_none = if_all BeginsNone (LocalEvent.ReadOn id) (reads_on local (open_call local.calls id)) refl
+
+  pub read_on_serves_none : AllByRecursion ServesNone (read_on_events local id)
+  read_on_serves_none = if_all ServesNone (LocalEvent.ReadOn id) (reads_on local (open_call local.calls id)) tt
+
+  pub read_on_told : all_told fragment local (read_on_events local id) ≡ []
+  read_on_told = untold_if local (LocalEvent.ReadOn id) refl (reads_on local (open_call local.calls id))
 
 -- Closing
 

@@ -1,6 +1,6 @@
 -- Which letters are requests, and which are replies.
-use Rattle.std.proofs.Common.{◌≡◌, ℕ, suc, Bool, true, false, cond, List, [], ◌∷◌, ◌++◌, map, Option, None, Some}
-use Rattle.std.proofs.Common.{zero, slice_get, refl, sym, subst}
+use Rattle.std.proofs.Common.{◌≡◌, ◌⊎◌, inl, inr, ℕ, suc, Bool, true, false, cond, List, [], ◌∷◌, ◌++◌, map, Option, None, Some}
+use Rattle.std.proofs.Common.{zero, is_some, slice_get, refl, sym, subst}
 use Rattle.std.specs.List.{AllByRecursion}
 use Rattle.bank.specs.Bank.{empty_piece}
 use Rattle.bank.specs.declared.kind.Kind.{Kind}
@@ -20,8 +20,9 @@ use Rattle.record.specs.declared.stage.Stage.TheVariants.{ReadNext}
 use Rattle.record.specs.Legal.{first_stage}
 use Rattle.record.specs.Sending.{requests}
 use Rattle.letter.specs.declared.letter.Letter.{Letter}
+use Rattle.letter.specs.declared.start.Start.{Start}
 use Rattle.mail.specs.Message.{is_request}
-use Rattle.local_object.specs.Doing.{IsOutcome, is_served, serve_events}
+use Rattle.local_object.specs.Doing.{IsOutcome, is_askable, is_sent_back, is_served, serve_events, stray_events}
 use Rattle.local_object.specs.Events.{LocalEvent, advanced_at, advanced_here, all_done, called_here, done_here}
 use Rattle.local_object.specs.Events.{pieces_here, reply_letters, served_here}
 use Rattle.local_object.specs.Outcomes.{begun_here, learnt_from, letter_of, on_open_call, silent}
@@ -40,9 +41,10 @@ Asks letter = is_request letter.message.body ≡ true
 abbrev pub Replies : Letter → Type 0
 Replies letter = is_request letter.message.body ≡ false
 
--- the event serves no request
+-- the event serves no request, and sends none back
 abbrev pub ServesNone : LocalEvent → Type 0
 ServesNone (LocalEvent.Serve letter) = ⊥
+ServesNone (LocalEvent.Redirect letter) = ⊥
 ServesNone event = Unit {0}
 
 requests_ask : (local : LocalObject) (layout : Layout) (call number : ℕ) (kind : Kind) (position : ℕ) (members : List ℕ)
@@ -97,7 +99,7 @@ silent_asks : (local : LocalObject) (call : Option NodeCall) (change : NodeCall 
 silent_asks local None change = tt
 silent_asks local (Some call) change = tt
 
--- all letters of an event that serves no request are requests
+-- all letters of an event that serves no request, and sends none back, are requests
 event_asks : (local : LocalObject) (event : LocalEvent) → ServesNone event →
     AllByRecursion Asks (done_here fragment local event).sent
 event_asks local (LocalEvent.BeginRead id) none =
@@ -117,7 +119,8 @@ event_asks local (LocalEvent.Answer id) none = tt
 event_asks local (LocalEvent.GiveUp id) none = tt
 event_asks local (LocalEvent.Close position) none = tt
 event_asks local (LocalEvent.Grow id) none = tt
-event_asks local (LocalEvent.Hear start layout) none = tt
+event_asks local (LocalEvent.Hear letter) none = tt
+event_asks local (LocalEvent.Redirect letter) none = absurd none
 event_asks local (LocalEvent.ReadOn id) none =
     reading_asks local (λ call. number_at call local.start) (open_call local.calls id)
 event_asks local (LocalEvent.BeginAnew id) none =
@@ -136,7 +139,7 @@ pub done_asks : (old new : LocalObject) (events : List LocalEvent) (letters : Li
 done_asks old new events letters done none =
     subst (λ (ls : List Letter). AllByRecursion Asks ls) (sym done.letters) (all_ask old events none)
 
--- an event that begins a call serves no request
+-- an event that begins a call serves no request, and sends none back
 pub begins_serve_none : (event : LocalEvent) (id : ℕ) → begun_id event ≡ Some id → ServesNone event
 begins_serve_none (LocalEvent.BeginRead id) other is = tt
 begins_serve_none (LocalEvent.BeginWrite id value) other is = tt
@@ -149,7 +152,8 @@ begins_serve_none (LocalEvent.Answer id) other is = tt
 begins_serve_none (LocalEvent.GiveUp id) other is = tt
 begins_serve_none (LocalEvent.Close position) other is = tt
 begins_serve_none (LocalEvent.Grow id) other is = tt
-begins_serve_none (LocalEvent.Hear start layout) other is = tt
+begins_serve_none (LocalEvent.Hear letter) other is = tt
+begins_serve_none (LocalEvent.Redirect letter) other is = absurd (cc)
 begins_serve_none (LocalEvent.ReadOn id) other is = tt
 begins_serve_none (LocalEvent.BeginAnew id) other is = tt
 
@@ -170,23 +174,37 @@ resent_ask local letters resent =
     is.layout.members 0 (pieces_here fragment is.layout is.call))
     is.place letter is.at) letters resent
 
--- Replies
+-- Replies, and requests that are sent back
+
+-- the letter is a reply, or it is the request that came, but for the start that it tells
+abbrev pub RepliesTo : (came : Letter) → Letter → Type 0
+RepliesTo came letter = Replies letter ⊎ ((start : Option Start) × (came ≡ record letter { start = start }))
 
 served_replies : (local : LocalObject) (letter : Letter) (message : Body) →
-    AllByRecursion Replies ((served_here local letter message).sent ++ [])
+    AllByRecursion (RepliesTo letter) ((served_here local letter message).sent ++ [])
 served_replies local letter (body.Request asked) =
     go (kept_reply (bank_here local letter.message.position letter.message.member) asked)
   where
-    go : (made : Option Reply) → AllByRecursion Replies (reply_letters local letter made ++ [])
+    go : (made : Option Reply) → AllByRecursion (RepliesTo letter) (reply_letters local letter made ++ [])
     go None = tt
-    go (Some made) = (refl, tt)
+    go (Some made) = (inl refl, tt)
 served_replies local letter (body.Reply kind made) = tt
 
+stray_replies : (local : LocalObject) (letter : Letter) (hears back : Bool) → AllByRecursion (RepliesTo letter)
+    (all_done fragment local (cond hears (LocalEvent.Hear letter ∷ []) [] ++ cond back (LocalEvent.Redirect letter ∷ []) [])).sent
+stray_replies local letter true true = (inr (letter.start, refl), tt)
+stray_replies local letter true false = tt
+stray_replies local letter false true = (inr (letter.start, refl), tt)
+stray_replies local letter false false = tt
+
 pub all_reply : (local new : LocalObject) (letter : Letter) (replies : List Letter) →
-    IsOutcome local (serve_events local letter) new replies → AllByRecursion Replies replies
+    IsOutcome local (serve_events local letter) new replies → AllByRecursion (RepliesTo letter) replies
 all_reply local new letter replies done =
-    subst (λ (ls : List Letter). AllByRecursion Replies ls) (sym done.letters) (go (is_served local letter))
+    subst (λ (ls : List Letter). AllByRecursion (RepliesTo letter) ls) (sym done.letters)
+    (go (is_served local letter) (is_askable letter))
   where
-    go : (b : Bool) → AllByRecursion Replies (all_done fragment local (cond b (LocalEvent.Serve letter ∷ []) [])).sent
-    go true = served_replies (learnt_from local letter) letter letter.message.body
-    go false = tt
+    go : (served askable : Bool) → AllByRecursion (RepliesTo letter) (all_done fragment local
+        (cond served (LocalEvent.Serve letter ∷ []) (cond askable (stray_events local letter) []))).sent
+    go true askable = served_replies (learnt_from local letter) letter letter.message.body
+    go false true = stray_replies local letter (is_some letter.start) (is_sent_back local letter)
+    go false false = tt

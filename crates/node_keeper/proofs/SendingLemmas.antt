@@ -1,8 +1,8 @@
 -- Letters that go out one after another.
-use Rattle.std.proofs.Common.{◌≡◌, ℕ, Bool, true, false, cond, ◌==◌, List, [], ◌∷◌, ◌++◌, refl, sym, ap, ◌∙◌}
+use Rattle.std.proofs.Common.{◌≡◌, inl, inr, ℕ, Bool, true, false, cond, ◌==◌, List, [], ◌∷◌, ◌++◌, Some, refl, sym, ap, ◌∙◌}
 use Rattle.std.proofs.lemmas.List.{map-append}
 use Rattle.std.specs.List.{AllByRecursion}
-use Rattle.deeds.specs.Named.{with_names}
+use Rattle.deeds.specs.Named.{NamedLetter as Named, IsOneOf, with_names}
 use Rattle.letter.specs.declared.letter.Letter.{Letter}
 use Rattle.node_effects.specs.Seen.{named_of}
 use Rattle.node_strings.specs.Strings.{Strings}
@@ -14,7 +14,7 @@ use Rattle.node_effects.proofs.GrowthLemmas.{grown_as, grown_then}
 use Rattle.letter.specs.declared.letter.NamedLetter.{NamedLetter}
 use Rattle.node_keeper.specs.Sendings.{IsDirected, Sending, asked, frame_to, going, letters_of, member_or, posted, reply_sendings, sending}
 use Rattle.node_keeper.specs.Sendings.{sent_growth, to_itself, to_one}
-use Rattle.node_keeper.proofs.RequestLemmas.{Asks, Replies}
+use Rattle.node_keeper.proofs.RequestLemmas.{Asks, RepliesTo}
 
 pub letters_append : (xs ys : List Sending) → letters_of (xs ++ ys) ≡ letters_of xs ++ letters_of ys
 letters_append xs ys = map-append (λ (send : Sending). named_of send.it) xs ys
@@ -62,18 +62,35 @@ going_letters to name [] = refl
 going_letters to name (x ∷ xs) = ap (λ zs. record { name = name; letter = x } ∷ zs) (going_letters to name xs)
 
 -- letters that are requests go to the nodes that they ask
-pub asked_addressed : (number asker : ℕ) (name : List ℕ) (letters : List Letter) → AllByRecursion Asks letters →
-    AllByRecursion (IsDirected number asker) (asked number name letters)
-asked_addressed number asker name [] asks = tt
-asked_addressed number asker name (x ∷ xs) asks =
-    (sym (ap (λ b. cond b (member_or number x) asker) asks.0), asked_addressed number asker name xs asks.1)
+pub asked_addressed : (number asker : ℕ) (got : List Named) (name : List ℕ) (letters : List Letter) → AllByRecursion Asks letters →
+    AllByRecursion (IsDirected number asker got) (asked number name letters)
+asked_addressed number asker got name [] asks = tt
+asked_addressed number asker got name (x ∷ xs) asks =
+    (inl (sym (ap (λ b. cond b (member_or number x) asker) asks.0)), asked_addressed number asker got name xs asks.1)
 
--- letters that are replies go to the node that asked
-pub replied_addressed : (number asker : ℕ) (name : List ℕ) (letters : List Letter) → AllByRecursion Replies letters →
-    AllByRecursion (IsDirected number asker) (reply_sendings asker name letters)
-replied_addressed number asker name [] replies = tt
-replied_addressed number asker name (x ∷ xs) replies =
-    (sym (ap (λ b. cond b (member_or number x) asker) replies.0), replied_addressed number asker name xs replies.1)
+-- replies, and a request that is sent back, go to the node that asked
+pub replied_addressed : (number asker : ℕ) (name : List ℕ) (came : Letter) (letters : List Letter) →
+    AllByRecursion (RepliesTo came) letters →
+    AllByRecursion (IsDirected number asker (record { name = name; letter = came } ∷ [])) (reply_sendings asker name letters)
+replied_addressed number asker name came [] replies = tt
+replied_addressed number asker name came (x ∷ xs) replies = (one replies.0, replied_addressed number asker name came xs replies.1)
+  where
+    one : RepliesTo came x →
+        IsDirected number asker (record { name = name; letter = came } ∷ []) (sending asker (record { name = name; letter = x }))
+    one (inl reply) = inl (sym (ap (λ b. cond b (member_or number x) asker) reply))
+    one (inr back) =
+        let named : Letter → Named = λ letter. record { name = name; letter = letter } in
+        inr (inl ((back.0, (0, ap (λ letter. Some (named letter)) back.1)), refl))
+
+-- a letter may go where it goes also if more letters had come
+pub directed_more : (number asker : ℕ) (got more : List Named) →
+    ((letter : Named) → IsOneOf got letter → IsOneOf more letter) → (send : Sending) → IsDirected number asker got send →
+    IsDirected number asker more send
+directed_more number asker got more among send (inl to) = inl to
+directed_more number asker got more among send (inr (inl back)) =
+    inr (inl
+    ((back.0.0, among (record { name = send.it.name; letter = record send.it.letter { start = back.0.0 } }) back.0.1), back.1))
+directed_more number asker got more among send (inr (inr next)) = inr (inr next)
 
 -- one more letter goes out
 pub asked_more : (number : ℕ) (digest name : List ℕ) (letters : List Letter) (letter : Letter) (before now after : Work) →

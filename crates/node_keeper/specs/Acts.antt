@@ -35,10 +35,11 @@ GivesId old id new before after =
     × (next_given_id old ≡ None))
 
 -- The node did deeds with these letters, which had come; `asker` is the node that had asked. Its work grew by the log
--- entries of the records that its log needs, by the letters that it sent, each to the node to which it has to go, and
--- by what its clients saw. The entries are read back as these records, and the frames as messages with these letters.
--- Entries and letters stand in such an order that each letter may go out once the log has all entries before it. The
--- entries tell of the ids that the node gave.
+-- entries of the records that its log needs, by the letters that it sent, and by what its clients saw. Each letter goes
+-- to the node to which it has to go, or, as one of the letters that had come, back to `asker`, or, as a request for the
+-- next position, to any node. The entries are read back as these records, and the frames as messages with these
+-- letters. Entries and letters stand in such an order that each letter may go out once the log has all entries before
+-- it. The entries tell of the ids that the node gave.
 pub record Acts (asker : ℕ) (got : List Named) (old : Keeper) (before : Work) (new : Keeper)
     (after : Work) : Type 0 where
   pub wants : List Want
@@ -48,7 +49,7 @@ pub record Acts (asker : ℕ) (got : List Named) (old : Keeper) (before : Work) 
   pub read : AllByRecursion (IsReadBack old.digest) (records_in wants)
   pub sent : AllByRecursion (IsSendable old.ids.node old.digest) (sends_in wants)
   pub own : growth.own ≡ to_itself old.ids.node (sends_in wants)
-  pub addressed : AllByRecursion (IsDirected old.ids.node asker) (sends_in wants)
+  pub addressed : AllByRecursion (IsDirected old.ids.node asker got) (sends_in wants)
   pub ids : HaveLoggedIds old.ids (records_in wants) new.ids
   pub handled : HasRanges old.ids → IsHandledSafely fragment (kept_of old) got (left_by wants) (kept_of new)
       (all_seen growth.notices)

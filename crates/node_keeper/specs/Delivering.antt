@@ -59,7 +59,8 @@ pub record KeepsRest (old new : Keeper) : Type 0 where
   pub digest : new.digest ≡ old.digest
   pub ids : new.ids ≡ old.ids
 
--- a request was served: its record went to the log, and the reply, if there is one, to the node that asked
+-- a request was served or sent back: its record went to the log, and the reply, or what is sent back, to the node that
+-- asked
 pub record ServesRequest (asker : ℕ) (it : NamedLetter) (old : Keeper) (before : Work) (new : Keeper)
     (after : Work) : Type 0 where
   pub replies : List Letter

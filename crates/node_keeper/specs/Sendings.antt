@@ -1,8 +1,14 @@
 -- Letters that go out, and where they go.
-use Rattle.std.specs.Prelude.{◌≡◌, ℕ, ◌==◌, if◌then◌else◌, List, [], ◌∷◌, map, Option, None, Some, slice_get}
-use Rattle.deeds.specs.Named.{NamedLetter as Named}
+use Rattle.std.specs.Prelude.{◌≡◌, ◌⊎◌, ℕ, ◌==◌, Bool, true, false, if◌then◌else◌, List, [], ◌∷◌, map}
+use Rattle.std.specs.Prelude.{Option, None, Some, slice_get}
+use Rattle.bank.specs.declared.request.Request.{Request}
+use Rattle.bank.specs.declared.request.Request.TheVariants as request
+use Rattle.deeds.specs.Named.{NamedLetter as Named, IsOneOf}
 use Rattle.letter.specs.declared.letter.Letter.{Letter}
+use Rattle.letter.specs.declared.start.Start.{Start}
 use Rattle.mail.specs.Message.{is_request}
+use Rattle.mail.specs.declared.message.Body.{Body}
+use Rattle.mail.specs.declared.message.Body.TheVariants as body
 use Rattle.node_messages.specs.Message.{IsMessage}
 use Rattle.node_messages.specs.Strings.{strings_of}
 use Rattle.node_messages.specs.declared.message.NodeMessage.{NodeMessage}
@@ -75,7 +81,13 @@ going to name letters = map (λ letter. sending (to letter) (record { name = nam
 abbrev pub asked : (number : ℕ) → (name : List ℕ) → List Letter → List Sending
 asked number name letters = going (member_or number) name letters
 
--- replies about the object of a name, to the node that asked
+-- a letter, to each of these nodes but the one of this number
+abbrev pub to_others : (number : ℕ) → NamedLetter → (nodes : List ℕ) → List Sending
+to_others number it [] = []
+to_others number it (node ∷ nodes) =
+    if node == number then to_others number it nodes else sending node it ∷ to_others number it nodes
+
+-- letters about the object of a name, to the node that asked
 abbrev pub reply_sendings : (asker : ℕ) → (name : List ℕ) → List Letter → List Sending
 reply_sendings asker name letters = going (λ letter. asker) name letters
 
@@ -83,6 +95,25 @@ reply_sendings asker name letters = going (λ letter. asker) name letters
 abbrev pub addressee : (number asker : ℕ) → Letter → ℕ
 addressee number asker letter = if is_request letter.message.body then member_or number letter else asker
 
--- the letter goes to the node to which it has to go
-abbrev pub IsDirected : (number asker : ℕ) → Sending → Type 0
-IsDirected number asker send = send.to ≡ addressee number asker send.it.letter
+-- the letter is one of these, but for the start that it tells
+abbrev pub IsOneButStart : (got : List Named) → NamedLetter → Type 0
+IsOneButStart got it =
+    (start : Option Start)
+    × IsOneOf got (record { name = it.name; letter = record it.letter { start = start } })
+
+-- whether a request asks for the next position
+abbrev pub is_for_next : Request → Bool
+is_for_next request.Next = true
+is_for_next asked = false
+
+-- whether a letter with this body asks for the next position
+abbrev pub asks_next : Body → Bool
+asks_next (body.Request asked) = is_for_next asked
+asks_next (body.Reply kind made) = false
+
+-- the letter goes to the node to which it has to go; or it is one of these letters, which had come, but for the start
+-- that it tells, and goes back to the node that asked; or it asks for the next position, and may go to any node
+abbrev pub IsDirected : (number asker : ℕ) → (got : List Named) → Sending → Type 0
+IsDirected number asker got send =
+    (send.to ≡ addressee number asker send.it.letter)
+    ⊎ ((IsOneButStart got send.it × (send.to ≡ asker)) ⊎ (asks_next send.it.letter.message.body ≡ true))

@@ -6,7 +6,7 @@ use tag::{CallId, Refusal};
 pub enum Delivered {
     /// The letter was dropped, because the node does not heed it.
     Dropped,
-    /// The letter was served or taken, and no call of this node ended.
+    /// The letter was served, sent back or taken, and no call of this node ended.
     Handled,
     /// The letter was taken, and this call of this node was answered.
     Ended(Ended),

@@ -10,6 +10,8 @@ use crate::ids::OwnIds;
 use cluster_file::{ClusterFile, DIGEST_LENGTH};
 use std::alloc::Global;
 
+mod arrivals;
+mod asking;
 mod begin;
 mod closing;
 mod letters;

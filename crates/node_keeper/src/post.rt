@@ -1,21 +1,23 @@
 //! Letters as messages between nodes, and their frames.
-ghost use Rattle.std.specs.Prelude.{◌≡◌, IfErr, IfOk, IfSome, OnOk};
+ghost use Rattle.std.specs.Prelude.{◌≡◌, IfErr, IfOk, IfSome, OnOk, true};
 ghost use Rattle.frames.specs.Frame.{IsFrame};
 ghost use Rattle.mail.specs.Message.{is_request};
 ghost use Rattle.node_messages.specs.Message.{IsMessage};
 ghost use Rattle.node_messages.specs.Strings.{strings_of};
 ghost use Rattle.node_effects.specs.Errors.{IsUnwritten, WritesOrFails};
 ghost use Rattle.node_effects.specs.Work.{IsGrown, one_entry};
+ghost use Rattle.node_effects.specs.declared.error.NodeError.TheVariants.{NoMemory};
 ghost use Rattle.node_keeper.specs.Delivering.{arrival_record};
 ghost use Rattle.node_keeper.specs.Fitting.{IsLoggable};
 ghost use Rattle.node_keeper.specs.Logging.{log_entry_of};
-ghost use Rattle.node_keeper.specs.Sendings.{IsFrameOf, member_or, message_of};
+ghost use Rattle.node_keeper.specs.Sendings.{IsFrameOf, asks_next, member_or, message_of};
 
 use crate::entries::log_record;
+use bank::Request;
 use cluster_file::DIGEST_LENGTH;
 use frames::Frame;
-use letter::{Letter, NamedLetter};
-use mail::Body;
+use letter::{Letter, NamedLetter, SharedLayout, Start};
+use mail::{Body, Message};
 use node_effects::{NodeError, Work};
 use node_messages::{NodeMessage, frame_of};
 use node_strings::Record;
@@ -103,5 +105,64 @@ pub(crate) fn member_or(number: u8, letter: &Letter) -> u8
         letter.layout.layout().member(letter.message.member)
     } else {
         number
+    }
+}
+
+/// Returns whether a letter asks for the next position.
+pub(crate) fn asks_next(letter: &Letter) -> bool
+    ensures { result ≡ asks_next letter.now.message.body }
+{
+    match &letter.message.body {
+        Body::Request(Request::Next) => true,
+        _ => false,
+    }
+}
+
+/// Returns a copy of a letter that asks for the next position. The two own the layouts together.
+pub(crate) fn copy_of(letter: &Letter) -> Result<Letter, NodeError>
+    requires { asks_next letter.now.message.body ≡ true }
+    ensures copied { IfOk result (λ copy. copy ≡ letter.now) }
+    ensures refused { IfErr result (λ e. e ≡ NoMemory) }
+{
+    let layout = letter.layout.clone()?;
+    let next = copy_of_layout(&letter.next)?;
+    let start = copy_of_start(&letter.start)?;
+    let message = Message {
+        call: letter.message.call,
+        phase: letter.message.phase,
+        position: letter.message.position,
+        member: letter.message.member,
+        body: Body::Request(Request::Next),
+    };
+    Ok(Letter {
+        layout,
+        next,
+        start,
+        message,
+    })
+}
+
+// The same layout with one more owner, if there is one.
+fn copy_of_layout(layout: &Option<SharedLayout>) -> Result<Option<SharedLayout>, NodeError>
+    ensures copied { IfOk result (λ copy. copy ≡ layout.now) }
+    ensures refused { IfErr result (λ e. e ≡ NoMemory) }
+{
+    match layout {
+        Some(layout) => Ok(Some(layout.clone()?)),
+        None => Ok(None),
+    }
+}
+
+// The same start with one more owner of its layout, if there is one.
+fn copy_of_start(start: &Option<Start>) -> Result<Option<Start>, NodeError>
+    ensures copied { IfOk result (λ copy. copy ≡ start.now) }
+    ensures refused { IfErr result (λ e. e ≡ NoMemory) }
+{
+    match start {
+        Some(start) => Ok(Some(Start {
+            position: start.position,
+            layout: start.layout.clone()?,
+        })),
+        None => Ok(None),
     }
 }

@@ -1,4 +1,4 @@
-//! Calls that begin, calls whose requests are sent again, and calls that are given up.
+//! Calls that begin, and calls that are given up.
 ghost use Rattle.std.specs.Prelude.{◌≡◌, ◌≢◌, ◌<◌, ◌^◌, ◌∷◌, [], ℕ, suc, IfErr, IfOk, OnOk, Some};
 ghost use Rattle.tag.specs.declared.refusal.Refusal.TheVariants.{NoMemory};
 ghost use Rattle.deeds.specs.CallId.{with_next_epoch};
@@ -12,8 +12,6 @@ ghost use Rattle.node_effects.specs.declared.work.Work.{Work as Todo};
 ghost use Rattle.node_keeper.specs.Acts.{Acts, GivesId};
 ghost use Rattle.node_keeper.specs.Beginning.{BeginsCall, IsNotBegun};
 ghost use Rattle.node_keeper.specs.NextIds.{IsNoEpoch, IsNoId, next_id_of};
-ghost use Rattle.node_keeper.specs.Resending.{CanResend, sendings_again};
-ghost use Rattle.node_keeper.specs.Sendings.{sent_growth};
 ghost use Rattle.node_keeper.specs.Beginning.{moving_call, opened_growth, reading_call, writing_call};
 ghost use Rattle.node_effects.specs.declared.notice.Notice.TheVariants as notice;
 ghost use Rattle.node_keeper.specs.Delivering.{KeepsRest};
@@ -148,21 +146,6 @@ impl Keeper {
         log_record(work, move_record(name, id, &layout)?)?;
         let name = name.clone()?;
         work.note(Notice::Moves { name, id, layout })
-    }
-
-    /// Sends the requests of a call's current phase again to the members that have not replied, if the call with this
-    /// id is open at the object of this name.
-    ///
-    /// Fails with `Unwritable` if a request is no message, or with `NoMemory`.
-    pub fn resend(&self, name: &Bytes, id: CallId, work: &mut Work) -> Result<(), NodeError>
-        ensures acts { OnOk result ((asker : ℕ) → Acts asker [] self.now work.old self.now work.new) }
-        ensures sends { OnOk result (IsGrown work.old work.new
-            (sent_growth self.now.ids.node self.now.digest (sendings_again name.now id self.now))) }
-
-        ensures writes { WritesOrFails (CanResend name.now id self.now) result }
-    {
-        let letters = self.objects.resend(name, id)?;
-        self.post(name, letters, work)
     }
 
     /// Ends the read or the write with this id at the object of this name without an answer, if one is open there.

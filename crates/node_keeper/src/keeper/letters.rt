@@ -1,28 +1,22 @@
 //! Letters that have come.
 ghost use Rattle.std.specs.Prelude.{◌≡◌, ◌∷◌, [], ℕ, true, false, IfErr, IfOk, IfSome, OnOk, Option};
-ghost use Rattle.std.specs.List.{AllByRecursion};
 ghost use Rattle.layout.specs.Layout.{IsLawful};
-ghost use Rattle.local_object.specs.Changing.{IsUnchangedBy, is_changed_by};
-ghost use Rattle.node_keeper.specs.Objects.{objects_of};
 ghost use Rattle.recoveries.specs.Copies.{IsHeeded};
 ghost use Rattle.mail.specs.Message.{is_request};
 ghost use Rattle.local_object.specs.declared.progress.Ended.{Ended as ToldCall};
-ghost use Rattle.node_effects.specs.Errors.{IsUnwritten, WritesOrFails};
+ghost use Rattle.node_effects.specs.Errors.{IsUnwritten};
 ghost use Rattle.node_effects.specs.declared.error.NodeError.TheVariants.{NoMemory};
 ghost use Rattle.node_keeper.specs.Delivering.{CanDeliver, CanServe, CanTake, DeliversLetter, ServesRequest};
-ghost use Rattle.node_keeper.specs.Delivering.{TakesReply, arrival_record, delivered_of, served_records, taken_records};
-ghost use Rattle.node_keeper.specs.Delivering.{tell_growth};
-ghost use Rattle.node_keeper.specs.Fitting.{IsLoggable};
+ghost use Rattle.node_keeper.specs.Delivering.{TakesReply, delivered_of, tell_growth};
 ghost use Rattle.node_effects.specs.Seen.{named_of};
-ghost use Rattle.node_effects.specs.Work.{IsGrown, one_entry};
-ghost use Rattle.node_keeper.specs.Acts.{Acts, logged_growth};
+ghost use Rattle.node_effects.specs.Work.{IsGrown};
+ghost use Rattle.node_keeper.specs.Acts.{Acts};
 ghost use Rattle.node_keeper.specs.Keeping.{heeds, if_heeded, kept_of};
-ghost use Rattle.node_keeper.specs.Logging.{log_entry_of};
 ghost use Rattle.node_keeper.specs.Sendings.{IsFrameOf};
 
 use super::Keeper;
 use crate::delivered::Delivered;
-use crate::post::{is_request, log_message, message_of};
+use crate::post::is_request;
 use bytes::Bytes;
 use frames::Frame;
 use letter::NamedLetter;
@@ -34,7 +28,9 @@ impl Keeper {
     /// `came` is the frame of the letter, as a message of this cluster, if it came in one: that is what is logged.
     /// Drops the letter if it names no member, or if its layouts contradict those of which the node has heard. The node
     /// that moves objects also drops a letter with a layout of which it has not heard. Logs a request that may change a
-    /// bank before it is served, and a reply to an open move before the move takes it.
+    /// bank before it is served, and a reply to an open move before the move takes it. A request that names another
+    /// node, at a position before the object's start, goes back to the node that sent it, with this start in place of
+    /// the letter's, unless the letter tells of one that is as late.
     ///
     /// A reply may complete the phase in which its call raises the pointer of a position to final. Then that pointer is
     /// final at a quorum, and no call that begins later needs the pieces of the position. So the node closes its own
@@ -109,7 +105,8 @@ impl Keeper {
         Ok(self.objects.knows_all_of(&it.name, &it.letter)?)
     }
 
-    // Serves a request, and replies to the node that sent it. A request that may change a bank goes to the log first.
+    // Serves a request, and replies to the node that sent it; or sends it back there, with the object's start, as
+    // `deliver` says. A request that may change a bank goes to the log first.
     fn serve(
         &mut self,
         sender: u8,
@@ -162,69 +159,6 @@ impl Keeper {
         let progress = self.objects.take(&name, letter)?;
         self.post(&name, progress.letters, work)?;
         tell(name, progress.ended, work)
-    }
-
-    // A request goes to the log, if it may change a bank. Returns the same letter.
-    fn log_serve(
-        &self,
-        it: NamedLetter,
-        came: Option<Frame>,
-        work: &mut Work,
-    ) -> Result<NamedLetter, NodeError>
-        requires came { IfSome came (IsFrameOf self.now.digest it) }
-        requires asks { is_request it.letter.message.body ≡ true }
-        ensures same { IfOk result (λ same. same ≡ it) }
-        ensures logged { OnOk result
-            (IsGrown work.old work.new (logged_growth self.now.digest (served_records self.now it))) }
-        ensures unchanged { OnOk result (is_changed_by (objects_of self.now.objects it.name) it.letter ≡ false
-            → IsUnchangedBy (objects_of self.now.objects it.name) it.letter) }
-
-        ensures writes { WritesOrFails
-            (AllByRecursion (IsLoggable self.now.digest) (served_records self.now it)) result }
-    {
-        if !self.objects.is_changed_by(&it.name, &it.letter)? {
-            return Ok(it);
-        }
-        self.log_arrival(it, came, work)
-    }
-
-    // A reply goes to the log, if its call is an open move. Returns the same letter.
-    fn log_take(
-        &self,
-        it: NamedLetter,
-        came: Option<Frame>,
-        work: &mut Work,
-    ) -> Result<NamedLetter, NodeError>
-        requires came { IfSome came (IsFrameOf self.now.digest it) }
-        requires answers { is_request it.letter.message.body ≡ false }
-        ensures same { IfOk result (λ same. same ≡ it) }
-        ensures logged { OnOk result
-            (IsGrown work.old work.new (logged_growth self.now.digest (taken_records self.now it))) }
-        ensures writes { WritesOrFails
-            (AllByRecursion (IsLoggable self.now.digest) (taken_records self.now it)) result }
-    {
-        if !self.objects.is_open_move(&it.name, it.letter.message.call) {
-            return Ok(it);
-        }
-        self.log_arrival(it, came, work)
-    }
-
-    // A letter goes to the log, as a request that is served, or as a reply that is taken. Returns the same letter.
-    fn log_arrival(
-        &self,
-        it: NamedLetter,
-        came: Option<Frame>,
-        work: &mut Work,
-    ) -> Result<NamedLetter, NodeError>
-        requires { IfSome came (IsFrameOf self.now.digest it) }
-        ensures same { IfOk result (λ same. same ≡ it) }
-        ensures logged { OnOk result
-            (IsGrown work.old work.new (one_entry (log_entry_of self.now.digest (arrival_record it)))) }
-        ensures writes { WritesOrFails (IsLoggable self.now.digest (arrival_record it)) result }
-    {
-        let message = message_of(self.digest, it);
-        log_message(self.alloc, &message, came, work)?;
-        Ok(message.named)
     }
 }
 

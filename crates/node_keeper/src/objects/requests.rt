@@ -1,15 +1,14 @@
-//! Requests that are served, and requests that are sent again.
+//! Requests that are served or sent back, and calls that ask again.
 ghost use Rattle.std.specs.Prelude.{◌≡◌, ℕ, true, IfErr, IfOk, OnOk, Option, option_to_list};
-ghost use Rattle.std.specs.List.{AllByRecursion};
 ghost use Rattle.tag.specs.declared.refusal.Refusal.TheVariants.{NoMemory};
-ghost use Rattle.encoder.specs.Fragment.{fragment};
 ghost use Rattle.layout.specs.Layout.{Layout};
 ghost use Rattle.local_object.specs.Doing.{IsOutcome, serve_events};
 ghost use Rattle.local_object.specs.Local.{new_local};
-ghost use Rattle.local_object.specs.Resent.{IsResent, letters_again};
+ghost use Rattle.local_object.specs.ReadingOn.{read_on_events};
 ghost use Rattle.node_keeper.specs.Doing.{IsOutcomeAt};
 ghost use Rattle.node_keeper.specs.Objects.{IsAbsentIfNew, objects_of};
 ghost use Rattle.node_keeper.specs.NewObjects.{IsToldIfNew};
+ghost use Rattle.node_keeper.specs.Resending.{AsksAgain, asked_again, read_on_here};
 
 use super::{Objects, may_be_new};
 use bytes::Bytes;
@@ -19,8 +18,10 @@ use tag::{CallId, Refusal};
 
 impl Objects {
     /// Serves a request about the object of a name, and returns the reply, which has to be sent to the node from which
-    /// the request came. Returns none, and changes no object, if the letter is no request, if there is no number in 32
-    /// bits for the next position, or if this node is not the member that the letter names.
+    /// the request came. Returns none, and changes no object, if the letter is no request, or if there is no number in
+    /// 32 bits for the next position. If this node is not the member that the letter names, it serves nothing, but
+    /// hears of the start that the letter tells; and if the object's start is later, it returns the request itself with
+    /// this start, which has to go back to that node.
     ///
     /// `NoMemory` is the only refusal.
     pub fn serve(&mut self, name: &Bytes, letter: Letter) -> Result<Option<Letter>, Refusal>
@@ -68,22 +69,19 @@ impl Objects {
         }
     }
 
-    /// Returns the requests of the current phase of the call with this id at the object of a name, as they were sent,
-    /// to the members whose replies are not recorded, in the order of the members. Returns no letters if no call with
-    /// this id is open there.
+    /// Has the call with this id at the object of a name ask again, and returns its requests. If the call reads the
+    /// sequence of layouts at a position before the object's start, it goes on at the start. Otherwise nothing changes,
+    /// and the requests are those of its current phase, as they were sent, to the members whose replies are not
+    /// recorded, in the order of the members. Returns no letters if no call with this id is open there.
     ///
     /// `NoMemory` is the only refusal.
-    pub fn resend(&self, name: &Bytes, id: CallId) -> Result<Vec<Letter>, Refusal>
-        ensures letters { IfOk result (λ letters.
-            letters.items ≡ letters_again fragment (objects_of self.now name.now) id) }
-
-        ensures resent { IfOk result (λ letters.
-            AllByRecursion (IsResent fragment (objects_of self.now name.now)) letters.items) }
-
+    pub fn ask_again(&mut self, name: &Bytes, id: CallId) -> Result<Vec<Letter>, Refusal>
+        ensures done { OnOk result (AsksAgain self.old name.now id self.new) }
+        ensures letters { IfOk result (λ letters. letters.items ≡ asked_again (objects_of self.old name.now) id) }
         ensures refused { IfErr result (λ e. e ≡ NoMemory) }
     {
-        match self.by_name.get(name) {
-            Some(object) => object.resend(id),
+        match self.by_name.get_mut(name) {
+            Some(object) => ask_again(object, id),
             None => Ok(Vec::new(self.alloc)),
         }
     }
@@ -100,4 +98,19 @@ fn served(object: &mut LocalObject, letter: Letter) -> Result<(Option<Letter>, b
     let reply = object.serve(letter)?;
     let may_be_new = may_be_new(object);
     Ok((reply, may_be_new))
+}
+
+// The call with this id asks again: see `Objects::ask_again`.
+fn ask_again(object: &mut LocalObject, id: CallId) -> Result<Vec<Letter>, Refusal>
+    ensures done { OnOk result
+        (IsOutcome object.old (read_on_events object.old id) object.new (read_on_here object.old id).sent) }
+
+    ensures letters { IfOk result (λ letters. letters.items ≡ asked_again object.old id) }
+    ensures refused { IfErr result (λ e. e ≡ NoMemory) }
+{
+    let letters = object.read_on(id)?;
+    if letters.is_empty() {
+        return object.resend(id);
+    }
+    Ok(letters)
 }

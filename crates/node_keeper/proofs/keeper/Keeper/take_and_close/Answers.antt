@@ -1,10 +1,8 @@
-use Rattle.std.proofs.Common.{◌≡◌, ◌∙◌, List, ℕ, Option, subst, ap, sym}
+use Rattle.std.proofs.Common.{List, ℕ, Option, subst}
 use Rattle.std.specs.List.{AllByRecursion}
-use Rattle.local_object.specs.Leaving.{leaving, left_behind}
 use Rattle.node_effects.specs.Errors.{IsUnwritten}
 use Rattle.node_keeper.specs.Closing.{ClosesLeft, left_between, left_records}
 use Rattle.node_keeper.specs.Fitting.{IsLoggable}
-use Rattle.node_keeper.specs.Objects.{objects_of}
 use Rattle.node_keeper.proofs.ActLemmas.{acts_more}
 use Rattle.node_keeper.proofs.ClosedBankLemmas.{close_unlogged, left_acts, left_as, taken_and_closed}
 use Rattle.node_keeper.proofs.ResultLemmas.{err_same}

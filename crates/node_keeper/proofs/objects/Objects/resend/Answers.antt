@@ -1,5 +1,0 @@
-use Rattle.std.proofs.Common.{rules}
-use Rattle.node_keeper.proofs.objects.Objects.resend.Goals as goal
-
-pub returns-in-Some-clause-letters : goal.returns-in-Some-clause-letters
-returns-in-Some-clause-letters c = search rules
