@@ -6,6 +6,7 @@ use Rattle.std.specs.List.{AllByRecursion}
 use Rattle.encoder.specs.Fragment.{fragment}
 use Rattle.deeds.specs.CallId.{HasRanges}
 use Rattle.deeds.specs.Named.{NamedLetter as Named, IsOneOf}
+use Rattle.deeds.proofs.NameLemmas.{one_of_second}
 use Rattle.open_calls.proofs.ListLemmas.{all_append, all_weaker}
 use Rattle.node_strings.specs.Arrival.{arrival_at}
 use Rattle.recoveries.specs.Stops.{IsHandledSafely, sent_in}
@@ -28,6 +29,7 @@ use Rattle.node_keeper.specs.Wants.{left_by, outputs_of, records_in, sends_in}
 use Rattle.node_keeper.specs.declared.keeper.Keeper.{Keeper}
 use Rattle.node_keeper.proofs.ActLemmas.{safe_as}
 use Rattle.node_keeper.proofs.IdLemmas.{handled_within}
+use Rattle.node_keeper.proofs.SendingLemmas.{directed_more}
 use Rattle.node_keeper.proofs.WantLemmas.{left_append, left_sent, outputs_append, records_append, sends_append}
 use Rattle.node.specs.declared.node.Node.{Node}
 use Rattle.node.specs.Frames.{letters_in, sender_or}
@@ -35,7 +37,7 @@ use Rattle.node.specs.Handles.{Handles, HasActed}
 use Rattle.node.specs.Serving.{ServedSince}
 use Rattle.node.specs.Peers.{IsChangedBy}
 use Rattle.node.specs.Ticks.{IsDoneFirst}
-use Rattle.node.proofs.OwnLetterLemmas.{WasSent, heeded_is, own_were_sent, sent_after, sent_before, sent_one}
+use Rattle.node.proofs.OwnLetterLemmas.{WasSent, heeded_is, one_before, own_were_sent, sent_after, sent_before, sent_one}
 
 -- what is done first, where there was nothing to do
 pub acted_first : (asker : ℕ) (got : List Named) (a b : Keeper) (u v : Work) → HasRanges a.ids → IsEmpty u →
@@ -70,8 +72,7 @@ pub acted_then : (asker other : ℕ) (got more : List Named) (a b c : Keeper) (v
     (done : HasActed asker got a b v) → w.outputs.items ≡ v.outputs.items → w.notices.items ≡ v.notices.items →
     AllByRecursion (WasSent (sends_in done.wants)) w.own.items → Acts other more b w c x →
     other ≡ a.ids.node →
-    ((letter : Named) → IsOneOf more letter → IsOneOf (got ++ letters_of (sends_in done.wants)) letter) →
-    HasActed asker got a c x
+    ((letter : Named) → IsOneOf more letter → IsOneOf (letters_of (sends_in done.wants)) letter) → HasActed asker got a c x
 acted_then asker other got more a b c v w x done outputs notices own acts itself among =
     let n = a.ids.node in
     let to = done.addressed in
@@ -85,7 +86,8 @@ acted_then asker other got more a b c v w x done outputs notices own acts itself
     let within = handled_within fragment (kept_of a) got (kept_of b) (sent_in left) (all_seen v.notices.items)
     done.handled.handled in
     let next = more_safe fragment (kept_of b) (kept_of c) more (got ++ sent_in left) more_left (all_seen g.notices)
-    (λ letter is. subst (λ xs. IsOneOf (got ++ xs) letter) (sym (left_sent done.wants)) (among letter is))
+    (λ letter is. subst (λ xs. IsOneOf (got ++ xs) letter) (sym (left_sent done.wants))
+    (one_of_second got (letters_of before) letter (among letter is)))
     (acts.handled within) in record {
       wants = done.wants ++ acts.wants;
       handled = safe_as (kept_of a) got (left ++ more_left) (left_by (done.wants ++ acts.wants)) (kept_of c)
@@ -118,9 +120,15 @@ acted_then asker other got more a b c v w x done outputs notices own acts itself
         rest = to.rest ++ then;
         all = all ∙ ap (λ xs. xs ++ then) to.all ∙ append_assoc to.first to.rest then;
         asked = to.asked;
-        own = all_append (IsDirected n n) to.rest then to.own
-            (subst (λ m. AllByRecursion (IsDirected n m) then) itself
-            (subst (λ m. AllByRecursion (IsDirected m other) then) done.node acts.addressed));
+        own = subst (λ xs. AllByRecursion (IsDirected n n (letters_of xs)) (to.rest ++ then)) (sym all)
+            (all_append (IsDirected n n (letters_of (before ++ then))) to.rest then
+            (all_weaker (IsDirected n n (letters_of before)) (IsDirected n n (letters_of (before ++ then)))
+            (directed_more n n (letters_of before) (letters_of (before ++ then)) (one_before before then)) to.rest to.own)
+            (all_weaker (IsDirected n n more) (IsDirected n n (letters_of (before ++ then)))
+            (directed_more n n more (letters_of (before ++ then))
+            (λ letter is. one_before before then letter (among letter is))) then
+            (subst (λ m. AllByRecursion (IsDirected n m more) then) itself
+            (subst (λ m. AllByRecursion (IsDirected m other more) then) done.node acts.addressed))));
       };
       node = acts.node ∙ done.node;
       digest = acts.digest ∙ done.digest;
@@ -155,7 +163,7 @@ module _ (asker : ℕ) (got : List Named) (first b : Keeper) where
       subst (λ xs. AllByRecursion (WasSent sends) xs) taken.own done.own in
       acted_then asker number got (if_heeded (kept_of b) (named_of it)) first b c v w x done taken.outputs taken.notices
       all.1 acts (same ∙ done.node)
-      (λ letter is. sent_one got sends it letter all.0 (heeded_is b (named_of it) letter is))
+      (λ letter is. sent_one sends it letter all.0 (heeded_is b (named_of it) letter is))
 
   -- no letter of the node to itself waits, and no connection is due
   none_own : (v u : Work) → IsOwnTaken v u None → HasActed asker got first b v → HasActed asker got first b u

@@ -1,6 +1,6 @@
 -- Requests that are sent again at a tick.
 use Rattle.std.proofs.Common.{◌≡◌, ℕ, Bool, true, false, not, ◌&&◌, ◌||◌, List, [], ◌∷◌, ◌++◌, Option, None, Some}
-use Rattle.std.proofs.Common.{refl, sym, subst, ap, ◌∙◌}
+use Rattle.std.proofs.Common.{OnOk, Result, Ok, Err, refl, sym, subst, ap, ◌∙◌}
 use Rattle.std.proofs.lemmas.List.{append-nil, append_assoc, map-append}
 use Rattle.node_strings.specs.Strings.{Strings}
 use Rattle.node_strings.specs.declared.arrival.Arrival.{Arrival}
@@ -40,6 +40,11 @@ ticked id a b u v sends s sent kept =
     let one = one_of a.keeper.file.ticks a.keeper.file.fixed.delta id a.desk b.desk s.services s.ticks s.serves.has.served in
     record { service = one.0; tick = one.1; done = one.2; sent = sent; kept = kept }
 
+-- two facts of a call that succeeds
+pub on_ok_both : {T E P Q R : Type 0} (result : Result T E) → OnOk result P → OnOk result Q → (P → Q → R) → OnOk result R
+on_ok_both (Ok x) p q f = f p q
+on_ok_both (Err e) p q f = p
+
 -- if no letters are sent, the outputs stay as they are
 pub nothing_out : (keeper : Keeper) (outputs : List Output) (sends : List Sending) → sends ≡ [] →
     PutsOut keeper sends outputs outputs
@@ -53,37 +58,43 @@ pub none_kept : (keeper : Keeper) (id : ℕ) (aged : Option Aged) → aged ≡ N
 none_kept keeper id aged e = subst (λ a. IsKeptAtAge keeper id a keeper) (sym e) refl
 
 pub late_sent : (keeper : Keeper) (id : ℕ) (aged : Option Aged) (call : Aged) → aged ≡ Some call → call.is_late ≡ true →
-    again_if (call.is_move && call.asks_again) keeper call.name id ≡ sent_at_age keeper id aged
+    again_if (call.is_move && call.asks_again) call.asks_all keeper call.name id ≡ sent_at_age keeper id aged
 late_sent keeper id aged call e late =
-    subst (λ a. again_if (call.is_move && call.asks_again) keeper call.name id ≡ sent_at_age keeper id a) (sym e)
+    subst (λ a. again_if (call.is_move && call.asks_again) call.asks_all keeper call.name id ≡ sent_at_age keeper id a) (sym e)
     (go call.is_late late)
   where
-    go : (b : Bool) → b ≡ true → again_if (call.is_move && call.asks_again) keeper call.name id ≡
-        again_if ((not b || call.is_move) && call.asks_again) keeper call.name id
+    go : (b : Bool) → b ≡ true → again_if (call.is_move && call.asks_again) call.asks_all keeper call.name id ≡
+        again_if ((not b || call.is_move) && call.asks_again) call.asks_all keeper call.name id
     go true is = refl
     go false is = absurd (cc)
 
 pub late_kept : (keeper new : Keeper) (id : ℕ) (aged : Option Aged) (call : Aged) → aged ≡ Some call → call.is_late ≡ true →
-    IsKeptAs (not call.is_move) keeper call.name id new → IsKeptAtAge keeper id aged new
+    IsKeptAs (not call.is_move) call.asks_again keeper call.name id new → IsKeptAtAge keeper id aged new
 late_kept keeper new id aged call e late kept =
     subst (λ a. IsKeptAtAge keeper id a new) (sym e)
-    (subst (λ b. IsKeptAs (b && not call.is_move) keeper call.name id new) (sym late) kept)
+    (subst (λ b. IsKeptAs (b && not call.is_move) call.asks_again keeper call.name id new) (sym late) kept)
 
 pub timely_sent : (keeper : Keeper) (id : ℕ) (aged : Option Aged) (call : Aged) → aged ≡ Some call → call.is_late ≡ false →
-    again_if call.asks_again keeper call.name id ≡ sent_at_age keeper id aged
+    again_if call.asks_again call.asks_all keeper call.name id ≡ sent_at_age keeper id aged
 timely_sent keeper id aged call e timely =
-    subst (λ a. again_if call.asks_again keeper call.name id ≡ sent_at_age keeper id a) (sym e) (go call.is_late timely)
+    subst (λ a. again_if call.asks_again call.asks_all keeper call.name id ≡ sent_at_age keeper id a) (sym e) (go call.is_late timely)
   where
-    go : (b : Bool) → b ≡ false → again_if call.asks_again keeper call.name id ≡
-        again_if ((not b || call.is_move) && call.asks_again) keeper call.name id
+    go : (b : Bool) → b ≡ false → again_if call.asks_again call.asks_all keeper call.name id ≡
+        again_if ((not b || call.is_move) && call.asks_again) call.asks_all keeper call.name id
     go true is = absurd (cc)
     go false is = refl
 
-pub timely_kept : (keeper : Keeper) (id : ℕ) (aged : Option Aged) (call : Aged) → aged ≡ Some call → call.is_late ≡ false →
-    IsKeptAtAge keeper id aged keeper
-timely_kept keeper id aged call e timely =
-    subst (λ a. IsKeptAtAge keeper id a keeper) (sym e)
-    (subst (λ b. IsKeptAs (b && not call.is_move) keeper call.name id keeper) (sym timely) refl)
+pub timely_kept : (keeper new : Keeper) (id : ℕ) (aged : Option Aged) (call : Aged) → aged ≡ Some call → call.is_late ≡ false →
+    IsKeptAs false call.asks_again keeper call.name id new → IsKeptAtAge keeper id aged new
+timely_kept keeper new id aged call e timely kept =
+    subst (λ a. IsKeptAtAge keeper id a new) (sym e)
+    (subst (λ b. IsKeptAs (b && not call.is_move) call.asks_again keeper call.name id new) (sym timely) kept)
+
+-- a call that asks again, or does not, changes neither the node's cluster file nor the source of its ids
+pub kept_rest : (asks : Bool) (keeper new : Keeper) (name : List ℕ) (id : ℕ) → IsKeptAs false asks keeper name id new →
+    (new.file ≡ keeper.file) × (new.ids ≡ keeper.ids)
+kept_rest false keeper new name id kept = (ap (λ (k : Keeper). k.file) kept, ap (λ (k : Keeper). k.ids) kept)
+kept_rest true keeper new name id kept = (kept.rest.file, kept.rest.ids)
 
 -- Calls one after another
 

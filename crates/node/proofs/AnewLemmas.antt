@@ -5,8 +5,10 @@ use Rattle.std.specs.List.{AllByRecursion}
 use Rattle.layout.specs.Layout.{IsLawful, Layout}
 use Rattle.cluster_file.proofs.DigestLemmas.{placed_again}
 use Rattle.letter.specs.declared.letter.Letter.{Letter}
+use Rattle.letter.specs.declared.start.Start.{Start}
 use Rattle.node_messages.specs.declared.error.Fault.{Fault}
 use Rattle.node_messages.specs.declared.message.NodeMessage.{NodeMessage}
+use Rattle.node_messages.specs.Message.{IsStart}
 use Rattle.node_messages.specs.Reading.{message_from}
 use Rattle.node_messages.proofs.MessageLemmas.{message_ok}
 use Rattle.node_strings.specs.Arrival.{arrival_at}
@@ -14,7 +16,7 @@ use Rattle.node_strings.specs.declared.arrival.Arrival.{Arrival}
 use Rattle.node_strings.specs.declared.arrival.Arrival.TheVariants as came
 use Rattle.node_strings.specs.declared.record.Record.{Record}
 use Rattle.node_strings.specs.declared.record.Record.TheVariants as record_of
-use Rattle.object_letters.specs.Rebuildable.{HasLawfulLayouts, IsLawfulIfThere}
+use Rattle.object_letters.specs.Rebuildable.{HasLawfulLayouts, IsLawfulIfThere, IsLawfulStart}
 use Rattle.recoveries.specs.Records.{LogRecord}
 use Rattle.recoveries.specs.RewritingNodes.{HasOwnObjects}
 use Rattle.recoveries.specs.RewrittenLaws.{HasLawfulLetter, IsLawfulLetter}
@@ -37,10 +39,15 @@ next_lawful : (next : Option Layout) → IfSome next IsLawful → IsLawfulIfTher
 next_lawful None is = tt
 next_lawful (Some layout) is = is
 
+start_lawful : (start : Option Start) → IfSome start IsStart → IsLawfulStart start
+start_lawful None is = tt
+start_lawful (Some start) is = is.1
+
 read_lawful : (frame : Strings) (message : NodeMessage) → message_from frame ≡ Ok message →
     HasLawfulLayouts message.named.letter
 read_lawful frame message e =
-    let is = (message_ok frame message e).0 in (is.layout, next_lawful message.named.letter.next is.next)
+    let is = (message_ok frame message e).0 in
+    let letter = message.named.letter in (is.layout, next_lawful letter.next is.next, start_lawful letter.start is.start)
 
 all_if : {A : Type 0} (P : A → Type 0) (b : Bool) (x : A) → P x → AllByRecursion P (cond b (x ∷ []) [])
 all_if P true x here = (here, tt)

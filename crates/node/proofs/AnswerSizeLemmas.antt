@@ -34,6 +34,7 @@ value_short wanted.Existence value short = go (length value == 0)
     go : (b : Bool) → IsShortAnswer (cond b (answers.Number 0) (answers.Number 1))
     go true = omega arith
     go false = omega arith
+value_short wanted.Nothing value short = tt
 
 kind_short : (what : Wanted) (kind : Operation) (value : Option (List ℕ)) → IsShort (value_or_empty value) →
     IsShortAnswer (kind_answer what kind value)

@@ -16,7 +16,8 @@ use Rattle.open_calls.specs.OpenCalls.{NodeCall, due_phase, open_call, taking_op
 use Rattle.open_calls.proofs.CallsOfNodeLemmas.{differs}
 use Rattle.open_calls.proofs.ListLemmas.{all_append}
 use Rattle.open_calls.proofs.OpenCallLemmas.{found}
-use Rattle.local_object.specs.Doing.{can_close, close_events, has_move_open, is_move_call, is_served, serve_events}
+use Rattle.local_object.specs.Doing.{can_close, close_events, has_move_open, is_askable, is_move_call, is_sent_back}
+use Rattle.local_object.specs.Doing.{is_served, serve_events, stray_events}
 use Rattle.local_object.specs.Events.{LocalEvent, advanced_at, advanced_here, all_done, done_here, served_here}
 use Rattle.local_object.specs.Outcomes.{Outcome, begun_here, learnt_from, on_open_call, silent}
 use Rattle.local_object.specs.Starting.{anew_number, reads_at, reads_here}
@@ -197,14 +198,25 @@ served_keeps local letter (body.Request asked) all = (all, λ id. refl)
 served_keeps local letter (body.Reply kind made) all = (all, λ id. refl)
 
 pub serve_keeps : (local : LocalObject) (letter : Letter) → KeepsOpen local (all_done fragment local (serve_events local letter)).local
-serve_keeps local letter = go (is_served local letter)
+serve_keeps local letter = go (is_served local letter) (is_askable letter)
   where
-    go : (b : Bool) → KeepsOpen local (all_done fragment local (cond b (LocalEvent.Serve letter ∷ []) [])).local
-    go true =
+    heard : KeepsOpen local (learnt_from local letter)
+    heard = same_keeps local (learnt_from local letter) (calls_heard local letter)
+
+    stray : (hears back : Bool) → KeepsOpen local (all_done fragment local
+        (cond hears (LocalEvent.Hear letter ∷ []) [] ++ cond back (LocalEvent.Redirect letter ∷ []) [])).local
+    stray true true = heard
+    stray true false = heard
+    stray false true = λ all. (all, λ id. refl)
+    stray false false = λ all. (all, λ id. refl)
+
+    go : (served askable : Bool) → KeepsOpen local (all_done fragment local
+        (cond served (LocalEvent.Serve letter ∷ []) (cond askable (stray_events local letter) []))).local
+    go true askable =
         keeps_then local (learnt_from local letter) (served_here (learnt_from local letter) letter letter.message.body).local
-        (same_keeps local (learnt_from local letter) (calls_heard local letter))
-        (served_keeps (learnt_from local letter) letter letter.message.body)
-    go false = λ all. (all, λ id. refl)
+        heard (served_keeps (learnt_from local letter) letter letter.message.body)
+    go false true = stray (is_some letter.start) (is_sent_back local letter)
+    go false false = λ all. (all, λ id. refl)
 
 -- a bank is closed
 pub close_keeps : (local : LocalObject) (position : ℕ) →

@@ -30,10 +30,14 @@ own_were_sent number (send ∷ sends) =
     go true rest = ((0, refl), rest)
     go false rest = rest
 
+pub one_before : (first second : List Sending) (letter : Named) → IsOneOf (letters_of first) letter →
+    IsOneOf (letters_of (first ++ second)) letter
+one_before first second letter is =
+    subst (λ xs. IsOneOf xs letter) (sym (letters_append first second))
+    (one_of_first (letters_of first) (letters_of second) letter is)
+
 pub sent_before : (first second : List Sending) (it : NamedLetter) → WasSent first it → WasSent (first ++ second) it
-sent_before first second it is =
-    subst (λ xs. IsOneOf xs (named_of it)) (sym (letters_append first second))
-    (one_of_first (letters_of first) (letters_of second) (named_of it) is)
+sent_before first second it is = one_before first second (named_of it) is
 
 pub sent_after : (first second : List Sending) (it : NamedLetter) → WasSent second it → WasSent (first ++ second) it
 sent_after first second it is =
@@ -52,10 +56,9 @@ heeded_is keeper it letter is = go (heeds (kept_of keeper) it) is
         none i e = cc
 
 -- one of the letters that were sent
-pub sent_one : (got : List Named) (sends : List Sending) (it : NamedLetter) (letter : Named) → WasSent sends it →
-    IsOneOf (named_of it ∷ []) letter → IsOneOf (got ++ letters_of sends) letter
-sent_one got sends it letter sent is =
-    one_of_second got (letters_of sends) letter (subst (λ l. IsOneOf (letters_of sends) l) (only is.0 is.1) sent)
+pub sent_one : (sends : List Sending) (it : NamedLetter) (letter : Named) → WasSent sends it →
+    IsOneOf (named_of it ∷ []) letter → IsOneOf (letters_of sends) letter
+sent_one sends it letter sent is = subst (λ l. IsOneOf (letters_of sends) l) (only is.0 is.1) sent
   where
     only : (i : ℕ) → slice_get (named_of it ∷ []) i ≡ Some letter → named_of it ≡ letter
     only zero e = cc

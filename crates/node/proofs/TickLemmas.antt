@@ -65,13 +65,12 @@ none_late ticks (Some call) e = absurd (cc)
 -- a call that is not late
 pub call_ages : (id : ℕ) (old new : Node) (u v : Work) →
     becomes_late old.keeper.file.ticks (call_under old.desk.calls id) ≡ false → IsOlder old.desk id new.desk →
-    new.keeper ≡ old.keeper → SeesNothing u v → ServesTicks (id ∷ []) old u new v
-call_ages id old new u v late older same nothing = record {
+    new.keeper.file ≡ old.keeper.file → new.keeper.ids ≡ old.keeper.ids → SeesNothing u v → ServesTicks (id ∷ []) old u new v
+call_ages id old new u v late older file ids nothing = record {
   services = Service.Ages id ∷ [];
   ticks = (refl, tt);
   serves = serves_one old new u v (Service.Ages id) (late, older) (nothing.told ∙ sym (append-nil u.to_clients.items))
-      (nothing.due ∙ sym (append-nil u.due.items)) (nothing.notices ∙ sym (append-nil u.notices.items)) tt
-      (ap (λ (k : Keeper). k.file) same) (ap (λ (k : Keeper). k.ids) same);
+      (nothing.due ∙ sym (append-nil u.due.items)) (nothing.notices ∙ sym (append-nil u.notices.items)) tt file ids;
 }
 
 -- a call that is late
@@ -97,9 +96,9 @@ call_is_late id false old between new u v late move older same s = record {
 -- a move that is late, which asks again
 pub late_move : (id : ℕ) (old new : Node) (u v w : Work) →
     IsGrown u v (growth_for old.desk (waiting_for old.desk.calls id) (answers.Error errors.NoQuorum)) → SeesNothing v w →
-    IsReleased old.desk id (listener old.desk (waiting_for old.desk.calls id)) new.desk → new.keeper ≡ old.keeper →
-    ServesLate id true old u new w
-late_move id old new u v w grown nothing released same =
+    IsReleased old.desk id (listener old.desk (waiting_for old.desk.calls id)) new.desk →
+    new.keeper.file ≡ old.keeper.file → new.keeper.ids ≡ old.keeper.ids → ServesLate id true old u new w
+late_move id old new u v w grown nothing released file ids =
     let who = waiting_for old.desk.calls id in
     let answer = answers.Error errors.NoQuorum in record {
       who = listener old.desk who;
@@ -108,8 +107,8 @@ late_move id old new u v w grown nothing released same =
       due = nothing.due ∙ grown.due ∙ ap (λ xs. u.due.items ++ xs) (growth_dues old.desk who answer);
       notices = nothing.notices ∙ grown.notices ∙ ap (λ xs. u.notices.items ++ xs) (growth_notices old.desk who answer)
           ∙ append-nil u.notices.items;
-      file = ap (λ (k : Keeper). k.file) same;
-      ids = ap (λ (k : Keeper). k.ids) same;
+      file = file;
+      ids = ids;
     }
 
 -- a read or a write that is late

@@ -130,7 +130,7 @@ FailsRead sender (Err fault) node error = error ≡ errors.NoMemory
 -- the requests that a call sends again at a tick, if it does, can be sent
 abbrev pub CanAge : Keeper → (id : ℕ) → Option Aged → Type 0
 CanAge keeper id None = ⊤
-CanAge keeper id (Some aged) = CanResend aged.name id keeper
+CanAge keeper id (Some aged) = CanResend aged.name id aged.asks_all keeper
 
 -- why a node cannot go on with the call of this id at a tick
 abbrev pub FailsAged : (id : ℕ) → Node → NodeError → Type 0

@@ -24,13 +24,15 @@ use Rattle.node.specs.Serving.{ServedSince}
 use Rattle.node.specs.Ticks.{IsDoneFirst}
 
 -- each letter goes to the node to which it has to go: a request to the node that it asks, and a reply to the node of
--- number `asker` if it is one of the first letters, and to this node itself if it is one of the rest
-pub record AreAddressed (number asker : ℕ) (sends : List Sending) : Type 0 where
+-- number `asker` if it is one of the first letters, and to this node itself if it is one of the rest; but a request
+-- that had come may go back, with another start: to `asker` if it is one of the letters `got`, and to this node itself
+-- if this node has sent it; and a request for the next position may go to any node
+pub record AreAddressed (number asker : ℕ) (got : List Named) (sends : List Sending) : Type 0 where
   pub first : List Sending
   pub rest : List Sending
   pub all : sends ≡ first ++ rest
-  pub asked : AllByRecursion (IsDirected number asker) first
-  pub own : AllByRecursion (IsDirected number number) rest
+  pub asked : AllByRecursion (IsDirected number asker got) first
+  pub own : AllByRecursion (IsDirected number number (letters_of sends)) rest
 
 -- what the node has done since it kept `first`, with these letters, which had come. Its work is to log the records that
 -- its log needs, to send the letters to other nodes, each behind the records on which it depends, and to tell what its
@@ -45,7 +47,7 @@ pub record HasActed (asker : ℕ) (got : List Named) (first now : Keeper) (work 
   pub ids : HaveLoggedIds first.ids (records_in wants) now.ids
   pub sent : AllByRecursion (IsSendable first.ids.node first.digest) (sends_in wants)
   pub own : AllByRecursion (λ it. IsOneOf (letters_of (sends_in wants)) (named_of it)) work.own.items
-  pub addressed : AreAddressed first.ids.node asker (sends_in wants)
+  pub addressed : AreAddressed first.ids.node asker got (sends_in wants)
   pub node : now.ids.node ≡ first.ids.node
   pub digest : now.digest ≡ first.digest
 
@@ -67,7 +69,8 @@ pub record Handles (old : Node) (frame : Strings) (effects : Effects) (new : Nod
   pub read : AllByRecursion (IsReadBack old.keeper.digest) (records_in wants)
   pub ids : HaveLoggedIds old.keeper.ids (records_in wants) new.keeper.ids
   pub sent : AllByRecursion (IsSendable old.keeper.ids.node old.keeper.digest) (sends_in wants)
-  pub addressed : AreAddressed old.keeper.ids.node (sender_or old.keeper.ids.node (arrival_at frame)) (sends_in wants)
+  pub addressed : AreAddressed old.keeper.ids.node (sender_or old.keeper.ids.node (arrival_at frame))
+      (letters_in old.keeper frame) (sends_in wants)
   pub served : ServedSince (arrival_at frame) old new effects.answers.items effects.notices.items
   pub waits : NoneWaits old.desk.clients [] → NoneWaits new.desk.clients []
   pub first : IsDoneFirst (arrival_at frame) old effects.outputs.items

@@ -14,7 +14,7 @@ use Rattle.node_clients.specs.Served.{IsServiceDone}
 use Rattle.node_clients.specs.Services.{Service}
 use Rattle.node_clients.specs.declared.open_call.Aged.{Aged}
 use Rattle.node_keeper.specs.Delivering.{KeepsRest}
-use Rattle.node_keeper.specs.Resending.{sendings_again}
+use Rattle.node_keeper.specs.Resending.{IsAskedAgain, sendings_again}
 use Rattle.node_keeper.specs.Sendings.{Sending, posted}
 use Rattle.node_keeper.specs.declared.keeper.Keeper.{Keeper}
 use Rattle.node_strings.specs.declared.heard.Heard.{Heard}
@@ -28,31 +28,41 @@ use Rattle.node.specs.declared.node.Node.{Node}
 abbrev pub aged_at : Node → (id : ℕ) → Option Aged
 aged_at node id = aged_call node.keeper.file.ticks (call_under node.desk.calls id)
 
--- the requests of the call of this id, if they are to be sent again
-abbrev pub again_if : (asks : Bool) → Keeper → (name : List ℕ) → (id : ℕ) → List Sending
-again_if asks keeper name id = if asks then sendings_again name id keeper else []
+-- the requests of the call of this id, if it is to ask again, also those to all nodes if it is to ask them
+abbrev pub again_if : (asks asks_all : Bool) → Keeper → (name : List ℕ) → (id : ℕ) → List Sending
+again_if asks asks_all keeper name id = if asks then sendings_again name id asks_all keeper else []
 
--- the requests that a call sends again as it gets older by a tick: those of its current phase to the members that have
--- not replied, if the call is of an age for that, unless it is given up, as a read or a write is that is late
+-- the requests that a call sends as it gets older by a tick, if it is of an age to ask again, unless it is given up, as
+-- a read or a write is that is late: those with which it goes on at the object's start, or those of its current phase
+-- to the members that have not replied; and also to all nodes the first of these, if it asks for the next position and
+-- the call is of an age to ask all nodes
 abbrev pub sent_at_age : Keeper → (id : ℕ) → Option Aged → List Sending
 sent_at_age keeper id None = []
 sent_at_age keeper id (Some aged) =
-    again_if ((not aged.is_late || aged.is_move) && aged.asks_again) keeper aged.name id
+    again_if ((not aged.is_late || aged.is_move) && aged.asks_again) aged.asks_all keeper aged.name id
 
 -- between these outputs, exactly the frames of these letters to other nodes were put out
 abbrev pub PutsOut : Keeper → List Sending → (before after : List Output) → Type 0
 PutsOut keeper sends before after = after ≡ before ++ send_all (posted keeper.ids.node keeper.digest sends)
 
--- what the node keeps when a call was given up or goes on
-abbrev pub IsKeptAs : (given_up : Bool) → (old : Keeper) → (name : List ℕ) → (id : ℕ) → (new : Keeper) → Type 0
-IsKeptAs false old name id new = new ≡ old
-IsKeptAs true old name id new =
+-- what the node keeps when a call was given up, or asked again, or did neither
+abbrev pub IsKeptAs : (given_up asks : Bool) → (old : Keeper) → (name : List ℕ) → (id : ℕ) → (new : Keeper) → Type 0
+IsKeptAs false false old name id new = new ≡ old
+IsKeptAs false true old name id new = IsAskedAgain old name id new
+IsKeptAs true asks old name id new =
     IsOutcomeAt old.objects name (give_up_events (objects_of old.objects name) id) new.objects [] × KeepsRest old new
 
--- what the node keeps when a call got older by a tick: the same, unless the call was given up
+-- of the node, at most what it keeps of objects has changed
+pub record HasSameRest (old new : Node) : Type 0 where
+  pub desk : new.desk ≡ old.desk
+  pub peers : new.peers ≡ old.peers
+  pub named : new.is_named ≡ old.is_named
+
+-- what the node keeps when a call got older by a tick: the same, unless the call was given up, or went on at the
+-- object's start
 abbrev pub IsKeptAtAge : (old : Keeper) → (id : ℕ) → Option Aged → (new : Keeper) → Type 0
 IsKeptAtAge old id None new = new ≡ old
-IsKeptAtAge old id (Some aged) new = IsKeptAs (aged.is_late && not aged.is_move) old aged.name id new
+IsKeptAtAge old id (Some aged) new = IsKeptAs (aged.is_late && not aged.is_move) aged.asks_again old aged.name id new
 
 -- an open call got older by a tick, and sent these requests again
 pub record IsTicked (id : ℕ) (old : Node) (sends : List Sending) (new : Node) : Type 0 where

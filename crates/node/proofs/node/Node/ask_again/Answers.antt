@@ -1,8 +1,8 @@
-use Rattle.std.proofs.Common.{[], ◌∙◌, ap, subst, sym}
+use Rattle.std.proofs.Common.{[], ◌∙◌, false, ap, refl, subst, sym}
 use Rattle.std.proofs.lemmas.List.{append-nil}
 use Rattle.std.proofs.lemmas.Result.{on_ok_weaker}
 use Rattle.node.proofs.TellLemmas.{idle}
-use Rattle.node.specs.Ticks.{PutsOut, again_if}
+use Rattle.node.specs.Ticks.{IsKeptAs, PutsOut, again_if}
 use Rattle.node.proofs.AgainLemmas.{nothing_out}
 use Rattle.node.proofs.node.Node.ask_again.Goals as goal
 
@@ -12,24 +12,44 @@ returns-then-not-call-clause-acts c = λ asker. idle asker [] c.args.self.now.ke
 pub returns-clause-seen : goal.returns-clause-seen
 returns-clause-seen c =
     let work = c.args.work.now in
-    on_ok_weaker c.resend.result
+    on_ok_weaker c.ask_again.result
     (λ sends. record {
       told = sends.to_clients ∙ append-nil work.to_clients.items;
       due = sends.due ∙ append-nil work.due.items;
       notices = sends.notices ∙ append-nil work.notices.items;
-    }) c.resend.ensures.sends
+    }) c.ask_again.ensures.sends
 
 pub returns-then-not-call-clause-again : goal.returns-then-not-call-clause-again
 returns-then-not-call-clause-again c =
     let keeper = c.args.self.now.keeper in
     let call = c.args.call.now in
-    nothing_out keeper c.args.work.now.outputs.items (again_if call.asks_again keeper call.name c.args.id)
-    (ap (λ b. again_if b keeper call.name c.args.id) c.if-not-call.true)
+    nothing_out keeper c.args.work.now.outputs.items (again_if call.asks_again call.asks_all keeper call.name c.args.id)
+    (ap (λ b. again_if b call.asks_all keeper call.name c.args.id) c.if-not-call.true)
 
 pub returns-clause-again : goal.returns-clause-again
 returns-clause-again c =
     let keeper = c.args.self.now.keeper in
     let call = c.args.call.now in
-    on_ok_weaker c.resend.result
-    (λ sends. subst (λ b. PutsOut keeper (again_if b keeper call.name c.args.id) c.args.work.now.outputs.items
-    c.resend.new.work.outputs.items) (sym c.if-not-call.false) sends.outputs) c.resend.ensures.sends
+    on_ok_weaker c.ask_again.result
+    (λ sends. subst (λ b. PutsOut keeper (again_if b call.asks_all keeper call.name c.args.id) c.args.work.now.outputs.items
+    c.ask_again.new.work.outputs.items) (sym c.if-not-call.false) sends.outputs) c.ask_again.ensures.sends
+
+pub returns-then-not-call-clause-kept : goal.returns-then-not-call-clause-kept
+returns-then-not-call-clause-kept c =
+    let keeper = c.args.self.now.keeper in
+    let call = c.args.call.now in
+    subst (λ b. IsKeptAs false b keeper call.name c.args.id keeper) (sym c.if-not-call.true) refl
+
+pub returns-clause-kept : goal.returns-clause-kept
+returns-clause-kept c =
+    let keeper = c.args.self.now.keeper in
+    let call = c.args.call.now in
+    on_ok_weaker c.ask_again.result
+    (λ kept. subst (λ b. IsKeptAs false b keeper call.name c.args.id c.ask_again.new.self) (sym c.if-not-call.false) kept)
+    c.ask_again.ensures.asked
+
+pub returns-then-not-call-clause-rest : goal.returns-then-not-call-clause-rest
+returns-then-not-call-clause-rest c = record { desk = refl; peers = refl; named = refl }
+
+pub returns-clause-rest : goal.returns-clause-rest
+returns-clause-rest c = record { desk = refl; peers = refl; named = refl }

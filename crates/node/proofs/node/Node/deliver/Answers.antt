@@ -7,7 +7,7 @@ use Rattle.node.proofs.TellLemmas.{tells_acts}
 use Rattle.letter.specs.declared.letter.NamedLetter.{NamedLetter}
 use Rattle.node_effects.specs.declared.output.Output.{Output}
 use Rattle.node_effects.specs.declared.work.Work.{Work}
-use Rattle.node_keeper.specs.Delivering.{DeliversLetter, was_dropped}
+use Rattle.node_keeper.specs.Delivering.{CanDeliver, DeliversLetter, was_dropped}
 use Rattle.node_keeper.specs.declared.delivered.Delivered.{Delivered}
 use Rattle.node_keeper.specs.declared.delivered.Delivered.TheVariants as delivered
 use Rattle.node_keeper.specs.declared.keeper.Keeper.{Keeper}
@@ -122,3 +122,13 @@ returns-in_err-end-in-Ended-clause-refused c =
     (λ can. can.1 c.args.work.now new.work new.self ended
     (subst (λ result. DeliversLetter sender it old.keeper c.args.work.now new.self new.work result) c.in-Ended.is
     c.in_ok-deliver.ensures.delivers)) error c.in_err-end-in-Ended.ensures.refused)
+
+pub returns-in_err-deliver-clause-refused : goal.returns-in_err-deliver-clause-refused
+returns-in_err-deliver-clause-refused c =
+    let old = c.args.self.now in
+    let sender = c.args.sender in
+    let it = c.args.it in
+    let error = c.in_err-deliver.field-0.0 in
+    same_error _ c.from_residual.result error c.from_residual.ensures.1
+    (unwritten_fails ⊥ (CanDeliver sender it old.keeper) (CanHear sender it old) (λ can. can.0) error
+    c.in_err-deliver.ensures.refused)

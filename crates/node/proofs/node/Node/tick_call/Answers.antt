@@ -2,13 +2,15 @@ use Rattle.std.proofs.Common.{◌≡◌, [], ◌++◌, ap, refl, subst, sym, fal
 use Rattle.std.proofs.lemmas.Result.{on_ok_weaker}
 use Rattle.node_clients.specs.Calls.{aged_call, becomes_late, call_under}
 use Rattle.node_clients.specs.Served.{IsOlder}
+use Rattle.node_clients.specs.declared.desk.Desk.{Desk}
 use Rattle.node.specs.declared.node.Node.{Node}
 use Rattle.node.proofs.TellLemmas.{idle}
 use Rattle.node.proofs.TickLemmas.{call_ages, call_is_late, none_late, some_late, some_move}
 use Rattle.node_effects.specs.Work.{send_all}
 use Rattle.node_keeper.specs.Sendings.{posted}
 use Rattle.node.specs.Ticks.{aged_at, sent_at_age}
-use Rattle.node.proofs.AgainLemmas.{late_kept, late_sent, none_kept, none_sent, nothing_out, timely_kept, timely_sent}
+use Rattle.node.proofs.AgainLemmas.{kept_rest, late_kept, late_sent, none_kept, none_sent, nothing_out, on_ok_both, timely_kept}
+use Rattle.node.proofs.AgainLemmas.{timely_sent}
 use Rattle.node.proofs.node.Node.tick_call.Goals as goal
 
 pub returns-in_default-clause-acts : goal.returns-in_default-clause-acts
@@ -28,7 +30,7 @@ returns-in_default-clause-serves c =
       clients = c.aged.ensures.clients;
       counts = c.aged.ensures.counts;
     } in
-    call_ages c.args.id old new c.args.work.now c.args.work.now late older refl
+    call_ages c.args.id old new c.args.work.now c.args.work.now late older refl refl
     (record { told = refl; due = refl; notices = refl })
 
 pub returns-then-call-clause-serves : goal.returns-then-call-clause-serves
@@ -53,20 +55,23 @@ returns-then-call-clause-serves c =
 pub returns-clause-serves : goal.returns-clause-serves
 returns-clause-serves c =
     let old = c.args.self.now in
-    let new : Node = record old { desk = c.aged.new.self } in
+    let new = c.ask_again.new.self in
     let call = call_under old.desk.calls c.args.id in
     let some : Some c.in-Some.call ≡ aged_call c.ticks.result call = sym c.in-Some.is ∙ c.in_ok-call.ensures.aged in
     let late : becomes_late old.keeper.file.ticks call ≡ false =
     subst (λ n. becomes_late n call ≡ false) c.ticks.ensures
     (some_late c.ticks.result call c.in-Some.call some ∙ c.if-call.false) in
-    let older : IsOlder old.desk c.args.id new.desk = record {
+    let older : IsOlder old.desk c.args.id c.aged.new.self = record {
       older = c.in_ok-call.ensures.older;
       others = c.aged.ensures.others;
       clients = c.aged.ensures.clients;
       counts = c.aged.ensures.counts;
     } in
-    on_ok_weaker c.ask_again.result
-    (λ seen. call_ages c.args.id old new c.args.work.now c.ask_again.new.work late older refl seen) c.ask_again.ensures.seen
+    on_ok_both c.ask_again.result c.ask_again.ensures.seen c.ask_again.ensures.kept
+    (λ seen kept.
+    let rest = kept_rest c.in-Some.call.asks_again old.keeper new.keeper c.in-Some.call.name c.args.id kept in
+    call_ages c.args.id old new c.args.work.now c.ask_again.new.work late
+    (subst (λ (d : Desk). IsOlder old.desk c.args.id d) (sym c.ask_again.ensures.rest.desk) older) rest.0 rest.1 seen)
 
 pub returns-in_default-clause-again : goal.returns-in_default-clause-again
 returns-in_default-clause-again c =
@@ -124,4 +129,8 @@ returns-clause-kept c =
     let some : aged_at old c.args.id ≡ Some c.in-Some.call =
     subst (λ n. aged_call n call ≡ Some c.in-Some.call) c.ticks.ensures (sym c.in_ok-call.ensures.aged ∙ c.in-Some.is) in
     on_ok_weaker c.ask_again.result
-    (λ out. timely_kept old.keeper c.args.id (aged_at old c.args.id) c.in-Some.call some c.if-call.false) c.ask_again.ensures.again
+    (λ kept. timely_kept old.keeper c.ask_again.new.self.keeper c.args.id (aged_at old c.args.id) c.in-Some.call some c.if-call.false
+    kept) c.ask_again.ensures.kept
+
+pub returns-clause-peers : goal.returns-clause-peers
+returns-clause-peers c = c.ask_again.ensures.rest.peers
