@@ -15,13 +15,14 @@ use Rattle.cluster_file.specs.File.{FileContents}
 use Rattle.deeds.specs.CallId.{CallIds}
 use Rattle.deeds.specs.Deeds.{Notice}
 use Rattle.node_clients.specs.Answers.{kind_answer, last_answer}
-use Rattle.node_clients.specs.Calls.{deletion_of, left_of, wanted_by}
+use Rattle.node_clients.specs.Calls.{deletes, deletion_of, rest_of, wanted_by}
 use Rattle.node_clients.specs.Connections.{asked}
 use Rattle.node_clients.specs.Served.{call_begun}
 use Rattle.node_clients.specs.Services.{begun_notices}
 use Rattle.node_clients.specs.declared.next.Next.{Next}
 use Rattle.node_clients.specs.declared.next.Next.TheVariants as next
 use Rattle.node_clients.specs.declared.open_call.OpenCall.{OpenCall}
+use Rattle.node_clients.specs.declared.rest.Rest.TheVariants as rests
 use Rattle.node_effects.specs.Seen.{all_seen}
 use Rattle.record.specs.declared.call.Entry.{Entry}
 use Rattle.record.specs.declared.call.Operation.TheVariants as operation
@@ -30,7 +31,7 @@ use Rattle.processes.specs.Answers.{IsAnswerTo, IsAnswered, IsCallOf, IsResult, 
 use Rattle.processes.specs.Events.{call_begun as id_begun}
 use Rattle.processes.proofs.CommandViewLemmas.{HasReason, IsEndOf, IsNextOf, IsOpenFor, View}
 use Rattle.processes.proofs.TalkLemmas.{WereTold, WereWritten}
-use Rattle.processes.proofs.FoundCallLemmas.{IsFound, all_same_count, call_of, found, written_of}
+use Rattle.processes.proofs.FoundCallLemmas.{IsFound, all_same_count, call_of, found, moved_of, written_of}
 
 module _ (seen : List Notice) (histories : (name : List ℕ) → SeenHistory seen name)
     (last : (name : List ℕ) (index time : ℕ) (entry : Entry) (notice : Notice) → slice_get (histories name).calls index ≡ Some entry →
@@ -54,7 +55,7 @@ module _ (seen : List Notice) (histories : (name : List ℕ) → SeenHistory see
 
     -- The command's call was answered
 
-    module _ (answer : Answer) (end : IsEndOf client view delta command answer) where
+    module _ (answer : Answer) (end : IsEndOf client view number file command answer) where
       abbrev call : OpenCall
       call = end.call
 
@@ -79,12 +80,16 @@ module _ (seen : List Notice) (histories : (name : List ℕ) → SeenHistory see
           ∙ ap (λ d. last_answer d (kind_answer call.wanted end.ended.kind end.ended.value)) (sym (ap deletion_of begun) ∙ del)
           ∙ ap (λ w. last_answer deletion (kind_answer w end.ended.kind end.ended.value)) (sym (ap wanted_by begun) ∙ want)
 
-      left_as : (asks : Command) (deletion : Deletion) → asks ≡ end.open_for.asks →
-          deletion_of (call_begun client asks) ≡ Some deletion → left_over delta deletion ≡ None
-      left_as asks deletion same del =
-          let begun : call_begun client asks ≡ Some (record call { age = 0 }) =
-          ap (call_begun client) same ∙ end.open_for.call_is in
-          ap (left_of delta) (sym del ∙ ap deletion_of begun) ∙ end.last
+      -- nothing is left of the command
+      none_left : (asks : Command) → asks ≡ end.open_for.asks → rest_of delta (call_begun client asks) ≡ None
+      none_left asks same = ap (rest_of delta) (ap (call_begun client) same ∙ end.open_for.call_is) ∙ end.last
+
+      left_as : (deletion : Deletion) → ask.Delete deletion ≡ end.open_for.asks → left_over delta deletion ≡ None
+      left_as deletion same = nothing (left_over delta deletion) (none_left (ask.Delete deletion) same)
+        where
+          nothing : (found : Option Deletion) → deletes found ≡ None → found ≡ None
+          nothing None none = refl
+          nothing (Some more) none = absurd (cc)
 
       no_call : (asks : Command) → asks ≡ end.open_for.asks → call_begun client asks ≡ None → ⊥
       no_call asks same none =
@@ -115,17 +120,11 @@ module _ (seen : List Notice) (histories : (name : List ℕ) → SeenHistory see
                 ∙ ap (λ k. kind_answer wants.Value k end.ended.value) (sym is.kind ∙ begun.2),
           )
       result_of (ask.Move name layout) same =
-          let begun = begun_as (ask.Move name layout) (Notice.Moves name end.id layout) same refl in (
-            end.ended.value,
-            call_of seen histories last from to end.open_for.notice end.ended is name operation.Move end.ended.value begun.0
-                begun.2 is.value,
-            answer_as (ask.Move name layout) None wants.Value same refl refl
-                ∙ ap (λ k. kind_answer wants.Value k end.ended.value) (sym is.kind ∙ begun.2),
-          )
+          absurd (let wrong : Some (rests.Confirms name) ≡ None = none_left (ask.Move name layout) same in cc)
       result_of (ask.Delete deletion) same = (
         1,
         written_of seen histories last from to told ids delta zero deletion deletion were refl (last_write deletion same)
-            (left_as (ask.Delete deletion) deletion same refl),
+            (left_as deletion same),
         answer_as (ask.Delete deletion) (Some deletion) wants.Value same refl refl,
       )
       result_of (ask.Info sections) same = absurd (no_call (ask.Info sections) same refl)
@@ -144,10 +143,10 @@ module _ (seen : List Notice) (histories : (name : List ℕ) → SeenHistory see
       result_of ask.Login same = absurd (no_call ask.Login same refl)
       result_of ask.Quit same = absurd (no_call ask.Quit same refl)
 
-      end_right : (first : Next) → IsNextOf view delta command first → asked first ≡ Ok end.open_for.asks → Right answer
+      end_right : (first : Next) → IsNextOf view number file command first → asked first ≡ Ok end.open_for.asks → Right answer
       end_right (next.Came frame) same asks =
           inl (end.open_for.asks, ap command_at (sym same) ∙ asks, inl (result_of end.open_for.asks refl))
-      end_right (next.Rest deletion) is_next asks =
+      end_right (next.Rest (rests.Deletes deletion)) is_next asks =
           let same : ask.Delete deletion ≡ end.open_for.asks = cc in
           inl (
             ask.Delete is_next.0,
@@ -155,21 +154,36 @@ module _ (seen : List Notice) (histories : (name : List ℕ) → SeenHistory see
             inl (
               suc is_next.1,
               written_of seen histories last from to told ids delta is_next.1 is_next.0 deletion were is_next.3 (last_write deletion same)
-                  (left_as (ask.Delete deletion) deletion same refl),
+                  (left_as deletion same),
               answer_as (ask.Delete deletion) (Some deletion) wants.Value same refl refl
                   ∙ ap (λ n. answers.Number n) (all_same_count view from delta is_next.1 is_next.0 deletion is_next.3),
+            ),
+          )
+      end_right (next.Rest (rests.Confirms name)) is_next asks =
+          let same : ask.Read wants.Nothing name ≡ end.open_for.asks = cc in
+          let begun = begun_as (ask.Read wants.Nothing name) (Notice.Reads name end.id) same refl in
+          let moved = moved_of seen histories last from to told ids name is_next.0 were is_next.3 in
+          inl (
+            ask.Move name is_next.0,
+            is_next.1,
+            inl (
+              moved.0,
+              moved.1,
+              answer_as (ask.Read wants.Nothing name) None wants.Nothing same refl refl
+                  ∙ ap (λ k. kind_answer wants.Nothing k end.ended.value) (sym is.kind ∙ begun.2),
             ),
           )
 
     -- Any reason
 
-    late_right : (answer : Answer) (id : ℕ) (its : OpenCall) → IsOpenFor client view delta command id its →
+    late_right : (answer : Answer) (id : ℕ) (its : OpenCall) → IsOpenFor client view number file command id its →
         answer ≡ answers.Error NoQuorum → Right answer
     late_right answer id its is late = go is.first is.is_next is.asked_is
       where
-        go : (first : Next) → IsNextOf view delta command first → asked first ≡ Ok is.asks → Right answer
+        go : (first : Next) → IsNextOf view number file command first → asked first ≡ Ok is.asks → Right answer
         go (next.Came frame) same asks = inl (is.asks, ap command_at (sym same) ∙ asks, inr (ap is_some is.call_is, late))
-        go (next.Rest deletion) is_next asks = inl (ask.Delete is_next.0, is_next.2, inr (refl, late))
+        go (next.Rest (rests.Deletes deletion)) is_next asks = inl (ask.Delete is_next.0, is_next.2, inr (refl, late))
+        go (next.Rest (rests.Confirms name)) is_next asks = inl (ask.Move name is_next.0, is_next.1, inr (refl, late))
 
     right : (answer : Answer) → HasReason number client file view command answer → Right answer
     right answer (inl reply) = inr reply

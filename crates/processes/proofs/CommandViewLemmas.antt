@@ -13,7 +13,8 @@ use Rattle.cluster_file.specs.File.{FileContents}
 use Rattle.deeds.specs.CallId.{CallIds}
 use Rattle.deeds.specs.Deeds.{Notice}
 use Rattle.local_object.specs.declared.progress.Ended.{Ended}
-use Rattle.node.specs.Replies.{IsReplyTo}
+use Rattle.layout.specs.Layout.{Layout}
+use Rattle.node.specs.Replies.{IsReplyTo, MayBegin}
 use Rattle.node_clients.specs.Calls.{call_answer, rest_of}
 use Rattle.node_clients.specs.Connections.{asked}
 use Rattle.node_clients.specs.Served.{call_begun}
@@ -21,6 +22,7 @@ use Rattle.node_clients.specs.Services.{begun_notices}
 use Rattle.node_clients.specs.declared.next.Next.{Next}
 use Rattle.node_clients.specs.declared.next.Next.TheVariants as next
 use Rattle.node_clients.specs.declared.open_call.OpenCall.{OpenCall}
+use Rattle.node_clients.specs.declared.rest.Rest.TheVariants as rests
 use Rattle.node_effects.specs.Seen.{all_seen}
 use Rattle.node_strings.specs.Strings.{Strings}
 use Rattle.recoveries.specs.OwnCalls.{WasGiven}
@@ -73,14 +75,22 @@ pub record IsOwnCall (view : View) (from : ℕ) (notice : Notice) (id : ℕ) : T
   pub last : (other : ℕ) (later : Notice) → slice_get view.seen other ≡ Some later → id_begun later ≡ Some id → other ≤ place
   pub given : WasGiven view.ids id
 
--- the empty value was written to a name, and the client was told so or this waits
-pub record WroteOnce (view : View) (from : ℕ) (name : List ℕ) : Type 0 where
+-- a call that began as this says of its id was answered, and the client was told so or this waits
+pub record WasAnswered (view : View) (from : ℕ) (began : ℕ → Notice) : Type 0 where
   pub id : ℕ
-  pub call : IsOwnCall view from (Notice.Writes name id []) id
+  pub call : IsOwnCall view from (began id) id
   pub other : List ℕ
   pub ended : Ended
   pub told : IsAmong view.told (Notice.Tells other ended)
   pub same : ended.id ≡ id
+
+-- the empty value was written to a name, and the client was told so or this waits
+abbrev pub WroteOnce : View → (from : ℕ) → (name : List ℕ) → Type 0
+WroteOnce view from name = WasAnswered view from (λ id. Notice.Writes name id [])
+
+-- an object was moved to a layout, and the client was told so or this waits
+abbrev pub Moved : View → (from : ℕ) → (name : List ℕ) → Layout → Type 0
+Moved view from name layout = WasAnswered view from (λ id. Notice.Moves name id layout)
 
 -- so many writes of a DEL led from what was first left to what is left now
 abbrev pub Wrote : View → (from : ℕ) → (delta : Option ℕ) → (count : ℕ) → (first now : Deletion) → Type 0
@@ -89,35 +99,42 @@ Wrote view from delta (suc count) first now =
     WroteOnce view from (name_now first)
     × (middle : Deletion) × (left_over delta first ≡ Some middle) × Wrote view from delta count middle now
 
--- this is next for the command: its frame, or what is left of its DEL
-abbrev pub IsNextOf : View → (delta : Option ℕ) → (command : Passed) → Next → Type 0
-IsNextOf view delta command (next.Came frame) = frame ≡ command.strings
-IsNextOf view delta command (next.Rest deletion) =
+-- this is next for the command at the node of this number: its frame, what is left of its DEL, or the read of the object
+-- that it has moved
+abbrev pub IsNextOf : View → (number : ℕ) → FileContents → (command : Passed) → Next → Type 0
+IsNextOf view number file command (next.Came frame) = frame ≡ command.strings
+IsNextOf view number file command (next.Rest (rests.Deletes deletion)) =
     (first : Deletion) × (count : ℕ) × (command_at command.strings ≡ Ok (ask.Delete first))
-    × Wrote view command.time delta count first deletion
+    × Wrote view command.time file.fixed.delta count first deletion
+IsNextOf view number file command (next.Rest (rests.Confirms name)) =
+    (layout : Layout) × (command_at command.strings ≡ Ok (ask.Move name layout)) × MayBegin number file (ask.Move name layout)
+    × Moved view command.time name layout
 
 -- the call of this id is open for the command
-pub record IsOpenFor (client : ℕ) (view : View) (delta : Option ℕ) (command : Passed) (id : ℕ) (call : OpenCall) : Type 0 where
+pub record IsOpenFor (client : ℕ) (view : View) (number : ℕ) (file : FileContents) (command : Passed) (id : ℕ)
+    (call : OpenCall) : Type 0 where
   pub first : Next
-  pub is_next : IsNextOf view delta command first
+  pub is_next : IsNextOf view number file command first
   pub asks : Command
   pub asked_is : asked first ≡ Ok asks
+  pub may : MayBegin number file asks
   pub call_is : call_begun client asks ≡ Some (record call { age = 0 })
   pub notice : Notice
   pub begins : all_seen (begun_notices asks id) ≡ notice ∷ []
   pub own : IsOwnCall view command.time notice id
 
 -- the answer is that of the call that was open for the command, and nothing is left of it
-pub record IsEndOf (client : ℕ) (view : View) (delta : Option ℕ) (command : Passed) (answer : Answer) : Type 0 where
+pub record IsEndOf (client : ℕ) (view : View) (number : ℕ) (file : FileContents) (command : Passed)
+    (answer : Answer) : Type 0 where
   pub id : ℕ
   pub call : OpenCall
-  pub open_for : IsOpenFor client view delta command id call
+  pub open_for : IsOpenFor client view number file command id call
   pub name : List ℕ
   pub ended : Ended
   pub told : IsAmong view.told (Notice.Tells name ended)
   pub same : ended.id ≡ id
   pub answer_is : answer ≡ call_answer (Some call) ended
-  pub last : rest_of delta (Some call) ≡ None
+  pub last : rest_of file.fixed.delta (Some call) ≡ None
 
 -- why this is the answer to the command: it is the reply without a call; or the client has quit; or the command's call
 -- was answered; or it was late
@@ -125,8 +142,8 @@ abbrev pub HasReason : (number client : ℕ) → FileContents → View → (comm
 HasReason number client file view command answer =
     IsReplyTo number file client (command_at command.strings) answer
     ⊎ (((command_at command.strings ≡ Ok ask.Quit) × (answer ≡ answers.Ok))
-    ⊎ (IsEndOf client view file.fixed.delta command answer
-    ⊎ ((id : ℕ) × (call : OpenCall) × IsOpenFor client view file.fixed.delta command id call
+    ⊎ (IsEndOf client view number file command answer
+    ⊎ ((id : ℕ) × (call : OpenCall) × IsOpenFor client view number file command id call
     × (answer ≡ answers.Error errors.NoQuorum))))
 
 -- these strings are an answer to the command
@@ -155,10 +172,10 @@ module _ (old new : View) (wide : Widens old new) where
     given = wide.given id is.given;
   }
 
-  once_wider : (from : ℕ) (name : List ℕ) → WroteOnce old from name → WroteOnce new from name
-  once_wider from name is = record {
+  answered_wider : (from : ℕ) (began : ℕ → Notice) → WasAnswered old from began → WasAnswered new from began
+  answered_wider from began is = record {
     id = is.id;
-    call = own_wider from (Notice.Writes name is.id []) is.id is.call;
+    call = own_wider from (began is.id) is.id is.call;
     other = is.other;
     ended = is.ended;
     told = wide.among (Notice.Tells is.other is.ended) is.told;
@@ -169,33 +186,36 @@ module _ (old new : View) (wide : Widens old new) where
       Wrote new from delta count first now
   wrote_wider from delta zero first now same = same
   wrote_wider from delta (suc count) first now is =
-      (once_wider from (name_now first) is.0, is.1, is.2, wrote_wider from delta count is.1 now is.3)
+      (answered_wider from (λ id. Notice.Writes (name_now first) id []) is.0, is.1, is.2, wrote_wider from delta count is.1 now is.3)
 
-  pub next_wider : (delta : Option ℕ) (command : Passed) (first : Next) → IsNextOf old delta command first →
-      IsNextOf new delta command first
-  next_wider delta command (next.Came frame) is = is
-  next_wider delta command (next.Rest deletion) is =
-      (is.0, is.1, is.2, wrote_wider command.time delta is.1 is.0 deletion is.3)
+  pub next_wider : (number : ℕ) (file : FileContents) (command : Passed) (first : Next) → IsNextOf old number file command first →
+      IsNextOf new number file command first
+  next_wider number file command (next.Came frame) is = is
+  next_wider number file command (next.Rest (rests.Deletes deletion)) is =
+      (is.0, is.1, is.2, wrote_wider command.time file.fixed.delta is.1 is.0 deletion is.3)
+  next_wider number file command (next.Rest (rests.Confirms name)) is =
+      (is.0, is.1, is.2, answered_wider command.time (λ id. Notice.Moves name id is.0) is.3)
 
-  pub open_wider : (client : ℕ) (delta : Option ℕ) (command : Passed) (id : ℕ) (call : OpenCall) →
-      IsOpenFor client old delta command id call → IsOpenFor client new delta command id call
-  open_wider client delta command id call is = record {
+  pub open_wider : (client number : ℕ) (file : FileContents) (command : Passed) (id : ℕ) (call : OpenCall) →
+      IsOpenFor client old number file command id call → IsOpenFor client new number file command id call
+  open_wider client number file command id call is = record {
     first = is.first;
-    is_next = next_wider delta command is.first is.is_next;
+    is_next = next_wider number file command is.first is.is_next;
     asks = is.asks;
     asked_is = is.asked_is;
+    may = is.may;
     call_is = is.call_is;
     notice = is.notice;
     begins = is.begins;
     own = own_wider command.time is.notice id is.own;
   }
 
-  end_wider : (client : ℕ) (delta : Option ℕ) (command : Passed) (answer : Answer) → IsEndOf client old delta command answer →
-      IsEndOf client new delta command answer
-  end_wider client delta command answer is = record {
+  end_wider : (client number : ℕ) (file : FileContents) (command : Passed) (answer : Answer) →
+      IsEndOf client old number file command answer → IsEndOf client new number file command answer
+  end_wider client number file command answer is = record {
     id = is.id;
     call = is.call;
-    open_for = open_wider client delta command is.id is.call is.open_for;
+    open_for = open_wider client number file command is.id is.call is.open_for;
     name = is.name;
     ended = is.ended;
     told = wide.among (Notice.Tells is.name is.ended) is.told;
@@ -209,9 +229,9 @@ module _ (old new : View) (wide : Widens old new) where
   reason_wider number client file command answer (inl is) = inl is
   reason_wider number client file command answer (inr (inl is)) = inr (inl is)
   reason_wider number client file command answer (inr (inr (inl is))) =
-      inr (inr (inl (end_wider client file.fixed.delta command answer is)))
+      inr (inr (inl (end_wider client number file command answer is)))
   reason_wider number client file command answer (inr (inr (inr is))) =
-      inr (inr (inr (is.0, is.1, open_wider client file.fixed.delta command is.0 is.1 is.2, is.3)))
+      inr (inr (inr (is.0, is.1, open_wider client number file command is.0 is.1 is.2, is.3)))
 
   pub reply_wider : (number client : ℕ) (file : FileContents) (command : Passed) (strings : Strings) →
       IsReplied number client file old command strings → IsReplied number client file new command strings

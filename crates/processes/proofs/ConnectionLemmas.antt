@@ -2,6 +2,7 @@
 use Rattle.std.proofs.Common.{◌≡◌, ◌≢◌, ◌<◌, ◌≤◌, ◌^◌, ℕ, Bool, true, false, eqb, eqb-true, eq-eqb}
 use Rattle.std.proofs.Common.{List, [], ◌∷◌, ◌++◌, length, map, Option, None, Some, refl, sym, subst, ap, ◌∙◌, arith}
 use Rattle.std.specs.List.{AllByRecursion}
+use Rattle.cluster_file.specs.File.{FileContents}
 use Rattle.node_clients.specs.Connections.{doing, waiting_on}
 use Rattle.node_clients.specs.declared.connection.Connection.{Connection}
 use Rattle.node_clients.specs.declared.connection.State.TheVariants.{Busy, Idle}
@@ -17,33 +18,12 @@ abbrev pub as_came : List Passed → List Next
 as_came commands = map (λ (command : Passed). next.Came command.strings) commands
 
 -- what waits on an idle connection that has to carry out these commands
-abbrev pub Waits : View → (delta : Option ℕ) → List Passed → List Next → Type 0
-Waits view delta [] waiting = waiting ≡ []
-Waits view delta (command ∷ rest) waiting =
-    (first : Next) × (waiting ≡ first ∷ as_came rest) × IsNextOf view delta command first
+abbrev pub Waits : View → (number : ℕ) → FileContents → List Passed → List Next → Type 0
+Waits view number file [] waiting = waiting ≡ []
+Waits view number file (command ∷ rest) waiting =
+    (first : Next) × (waiting ≡ first ∷ as_came rest) × IsNextOf view number file command first
 
-module _ (client : ℕ) (delta : Option ℕ) where
-  -- the connection is busy with the first of these commands, for which this call is open
-  abbrev pub IsOpenHere : View → Option Connection → List Passed → (id : ℕ) → OpenCall → Type 0
-  IsOpenHere view at commands id call =
-      (doing at ≡ Busy) × (command : Passed) × (rest : List Passed) × (commands ≡ command ∷ rest)
-      × (waiting_on at ≡ as_came rest) × IsOpenFor client view delta command id call
-
-  -- The connection still has to carry out these commands. If it is idle, they wait. If a call is open for its client,
-  -- this is the only one, and it is for the first command.
-  pub record HasCommands (view : View) (at : Option Connection) (calls : ℕ → Option OpenCall) (commands : List Passed) : Type 0 where
-    pub idle : doing at ≡ Idle → Waits view delta commands (waiting_on at)
-    pub opened : (id : ℕ) (call : OpenCall) → calls id ≡ Some call → call.client ≡ Some client → IsOpenHere view at commands id call
-    pub one : (id other : ℕ) (call second : OpenCall) → calls id ≡ Some call → call.client ≡ Some client →
-        calls other ≡ Some second → second.client ≡ Some client → id ≡ other
-    pub bound : (command : Passed) (rest : List Passed) → commands ≡ command ∷ rest → client < 2 ^ 64
-    pub times : AllByRecursion (λ (command : Passed). command.time ≤ length view.seen) commands
-
-  -- the same, unless the connection has ended, so that it is not there
-  abbrev pub HasCommandsIf : (ended : Bool) → View → Option Connection → (ℕ → Option OpenCall) → List Passed → Type 0
-  HasCommandsIf false view at calls commands = HasCommands view at calls commands
-  HasCommandsIf true view at calls commands = at ≡ None
-
+module _ (client : ℕ) where
   -- each open call for the client was open before, and is the same but for its age
   abbrev pub HasNoMore : (old new : ℕ → Option OpenCall) → Type 0
   HasNoMore old new = (id : ℕ) (call : OpenCall) → new id ≡ Some call → call.client ≡ Some client →
@@ -56,13 +36,35 @@ module _ (client : ℕ) (delta : Option ℕ) where
   pub no_more_same : (calls : ℕ → Option OpenCall) → HasNoMore calls calls
   no_more_same calls id call e mine = (call, e, refl)
 
+module _ (client number : ℕ) (file : FileContents) where
+  -- the connection is busy with the first of these commands, for which this call is open
+  abbrev pub IsOpenHere : View → Option Connection → List Passed → (id : ℕ) → OpenCall → Type 0
+  IsOpenHere view at commands id call =
+      (doing at ≡ Busy) × (command : Passed) × (rest : List Passed) × (commands ≡ command ∷ rest)
+      × (waiting_on at ≡ as_came rest) × IsOpenFor client view number file command id call
+
+  -- The connection still has to carry out these commands. If it is idle, they wait. If a call is open for its client,
+  -- this is the only one, and it is for the first command.
+  pub record HasCommands (view : View) (at : Option Connection) (calls : ℕ → Option OpenCall) (commands : List Passed) : Type 0 where
+    pub idle : doing at ≡ Idle → Waits view number file commands (waiting_on at)
+    pub opened : (id : ℕ) (call : OpenCall) → calls id ≡ Some call → call.client ≡ Some client → IsOpenHere view at commands id call
+    pub one : (id other : ℕ) (call second : OpenCall) → calls id ≡ Some call → call.client ≡ Some client →
+        calls other ≡ Some second → second.client ≡ Some client → id ≡ other
+    pub bound : (command : Passed) (rest : List Passed) → commands ≡ command ∷ rest → client < 2 ^ 64
+    pub times : AllByRecursion (λ (command : Passed). command.time ≤ length view.seen) commands
+
+  -- the same, unless the connection has ended, so that it is not there
+  abbrev pub HasCommandsIf : (ended : Bool) → View → Option Connection → (ℕ → Option OpenCall) → List Passed → Type 0
+  HasCommandsIf false view at calls commands = HasCommands view at calls commands
+  HasCommandsIf true view at calls commands = at ≡ None
+
   -- What stays
 
   pub waits_wider : (old new : View) → Widens old new → (commands : List Passed) (waiting : List Next) →
-      Waits old delta commands waiting → Waits new delta commands waiting
+      Waits old number file commands waiting → Waits new number file commands waiting
   waits_wider old new wide [] waiting none = none
   waits_wider old new wide (command ∷ rest) waiting is =
-      (is.0, is.1, next_wider old new wide delta command is.0 is.2)
+      (is.0, is.1, next_wider old new wide number file command is.0 is.2)
 
   pub times_wider : (old new : View) → Widens old new → (commands : List Passed) →
       AllByRecursion (λ (command : Passed). command.time ≤ length old.seen) commands →
@@ -72,14 +74,14 @@ module _ (client : ℕ) (delta : Option ℕ) where
       (λ command early. let l = wide.longer in omega arith) commands times
 
   pub commands_kept : (old new : View) (at : Option Connection) (before after : ℕ → Option OpenCall) (commands : List Passed) →
-      Widens old new → HasNoMore before after → HasCommands old at before commands → HasCommands new at after commands
+      Widens old new → HasNoMore client before after → HasCommands old at before commands → HasCommands new at after commands
   commands_kept old new at before after commands wide less is = record {
     idle = λ e. waits_wider old new wide commands (waiting_on at) (is.idle e);
     opened = λ id call e mine. opened id call mine (less id call e mine);
     one = λ id other call second e mine f also.
         (let a = less id call e mine in
         let b = less other second f also in
-        is.one id other a.0 b.0 a.1 (same_client a.0 call a.2 mine) b.1 (same_client b.0 second b.2 also));
+        is.one id other a.0 b.0 a.1 (same_client client a.0 call a.2 mine) b.1 (same_client client b.0 second b.2 also));
     bound = is.bound;
     times = times_wider old new wide commands is.times;
   }
@@ -88,8 +90,8 @@ module _ (client : ℕ) (delta : Option ℕ) where
           ((earlier : OpenCall) × (before id ≡ Some earlier) × (record earlier { age = 0 } ≡ record call { age = 0 })) →
           IsOpenHere new at commands id call
       opened id call mine was =
-          let here = is.opened id was.0 was.1 (same_client was.0 call was.2 mine) in
-          let is_for = open_wider old new wide client delta here.1 id was.0 here.5 in (
+          let here = is.opened id was.0 was.1 (same_client client was.0 call was.2 mine) in
+          let is_for = open_wider old new wide client number file here.1 id was.0 here.5 in (
             here.0,
             here.1,
             here.2,
@@ -100,6 +102,7 @@ module _ (client : ℕ) (delta : Option ℕ) where
               is_next = is_for.is_next;
               asks = is_for.asks;
               asked_is = is_for.asked_is;
+              may = is_for.may;
               call_is = is_for.call_is ∙ ap Some was.2;
               notice = is_for.notice;
               begins = is_for.begins;
@@ -108,14 +111,15 @@ module _ (client : ℕ) (delta : Option ℕ) where
           )
 
   pub kept_if : (ended : Bool) (old new : View) (at : Option Connection) (before after : ℕ → Option OpenCall) (commands : List Passed) →
-      Widens old new → HasNoMore before after → HasCommandsIf ended old at before commands → HasCommandsIf ended new at after commands
+      Widens old new → HasNoMore client before after → HasCommandsIf ended old at before commands →
+      HasCommandsIf ended new at after commands
   kept_if true old new at before after commands wide less gone = gone
   kept_if false old new at before after commands wide less is = commands_kept old new at before after commands wide less is
 
   -- A call that ends
 
   -- the commands behind the first one wait
-  pub rest_waits : (view : View) (rest : List Passed) (waiting : List Next) → waiting ≡ as_came rest → Waits view delta rest waiting
+  pub rest_waits : (view : View) (rest : List Passed) (waiting : List Next) → waiting ≡ as_came rest → Waits view number file rest waiting
   rest_waits view [] waiting e = e
   rest_waits view (command ∷ rest) waiting e = (next.Came command.strings, e, refl)
 
@@ -128,7 +132,7 @@ module _ (client : ℕ) (delta : Option ℕ) where
 
   -- where no call is open for the client, the connection has these commands, if they wait when it is idle
   pub none_left : (view : View) (at : Option Connection) (calls : ℕ → Option OpenCall) (commands : List Passed) →
-      (doing at ≡ Idle → Waits view delta commands (waiting_on at)) →
+      (doing at ≡ Idle → Waits view number file commands (waiting_on at)) →
       ((id : ℕ) (call : OpenCall) → calls id ≡ Some call → call.client ≡ Some client → ⊥) →
       ((command : Passed) (rest : List Passed) → commands ≡ command ∷ rest → client < 2 ^ 64) →
       AllByRecursion (λ (command : Passed). command.time ≤ length view.seen) commands → HasCommands view at calls commands
@@ -160,8 +164,8 @@ module _ (client : ℕ) (delta : Option ℕ) where
   came_append [] second = refl
   came_append (command ∷ first) second = ap (λ ns. next.Came command.strings ∷ ns) (came_append first second)
 
-  waits_more : (view : View) (commands : List Passed) (command : Passed) (waiting : List Next) → Waits view delta commands waiting →
-      Waits view delta (commands ++ command ∷ []) (waiting ++ next.Came command.strings ∷ [])
+  waits_more : (view : View) (commands : List Passed) (command : Passed) (waiting : List Next) → Waits view number file commands waiting →
+      Waits view number file (commands ++ command ∷ []) (waiting ++ next.Came command.strings ∷ [])
   waits_more view [] command waiting none = (next.Came command.strings, ap (λ ns. ns ++ next.Came command.strings ∷ []) none, refl)
   waits_more view (first ∷ rest) command waiting is = (
     is.0,
@@ -172,10 +176,10 @@ module _ (client : ℕ) (delta : Option ℕ) where
 
   pub commands_more : (view : View) (at after : Option Connection) (before then : ℕ → Option OpenCall) (commands : List Passed)
       (command : Passed) → doing after ≡ doing at → waiting_on after ≡ waiting_on at ++ next.Came command.strings ∷ [] →
-      HasNoMore before then → client < 2 ^ 64 → command.time ≤ length view.seen → HasCommands view at before commands →
+      HasNoMore client before then → client < 2 ^ 64 → command.time ≤ length view.seen → HasCommands view at before commands →
       HasCommands view after then (commands ++ command ∷ [])
   commands_more view at after before then commands command state waits less small early is = record {
-    idle = λ e. subst (Waits view delta (commands ++ command ∷ [])) (sym waits)
+    idle = λ e. subst (Waits view number file (commands ++ command ∷ [])) (sym waits)
         (waits_more view commands command (waiting_on at) (is.idle (sym state ∙ e)));
     opened = λ id call e mine. (let here = kept.opened id call e mine in (
       state ∙ here.0,

@@ -5,6 +5,7 @@ use Rattle.std.proofs.lemmas.Option.{same_Some}
 use Rattle.client_commands.specs.Deletion.{Deletion, count_of, is_written_again, left_over, name_now}
 use Rattle.deeds.specs.CallId.{CallIds}
 use Rattle.deeds.specs.Deeds.{Notice}
+use Rattle.layout.specs.Layout.{Layout}
 use Rattle.local_object.specs.declared.progress.Ended.{Ended}
 use Rattle.record.specs.declared.call.Entry.{Entry}
 use Rattle.record.specs.declared.call.Operation.{Operation}
@@ -13,7 +14,7 @@ use Rattle.refinement.specs.SeenHistories.{IsBegunAs, IsToldAt}
 use Rattle.refinement.proofs.PlaceLemmas.{get_same}
 use Rattle.processes.specs.Answers.{AreWritten, IsCallOf, SeenHistory}
 use Rattle.processes.specs.Events.{call_begun as id_begun}
-use Rattle.processes.proofs.CommandViewLemmas.{IsOwnCall, View, WroteOnce, Wrote}
+use Rattle.processes.proofs.CommandViewLemmas.{IsOwnCall, Moved, View, WroteOnce, Wrote}
 use Rattle.processes.proofs.SeenHistoryLemmas.{begins_with}
 use Rattle.processes.proofs.StandingLemmas.{IsAmong}
 use Rattle.processes.proofs.TalkLemmas.{WereTold}
@@ -123,6 +124,17 @@ module _ (seen : List Notice) (histories : (name : List ℕ) → SeenHistory see
   once_of from to told ids name were once =
       let is = found from to (Notice.Writes name once.id []) once.id told ids once.other once.ended once.call once.told once.same were in
       call_of from to (Notice.Writes name once.id []) once.ended is name operation.Write (Some []) is.begun.0 is.begun.2 is.begun.3
+
+  -- a move
+  pub moved_of : (from to : ℕ) (told : List Notice) (ids : CallIds) (name : List ℕ) (layout : Layout) → WereTold seen to told →
+      Moved (record { seen = seen; told = told; ids = ids }) from name layout →
+      (value : Option (List ℕ)) × IsCallOf seen histories name from to operation.Move value
+  moved_of from to told ids name layout were was =
+      let is = found from to (Notice.Moves name was.id layout) was.id told ids was.other was.ended was.call was.told was.same were in (
+        was.ended.value,
+        call_of from to (Notice.Moves name was.id layout) was.ended is name operation.Move was.ended.value is.begun.0 is.begun.2
+            is.value,
+      )
 
   -- all writes of a DEL
   pub written_of : (from to : ℕ) (told : List Notice) (ids : CallIds) (delta : Option ℕ) (count : ℕ) (first now : Deletion) →

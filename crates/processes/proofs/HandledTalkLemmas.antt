@@ -55,7 +55,7 @@ module _ (number : ℕ) (file : FileContents) (view : View) (time : ℕ) (talks 
       (early : time ≤ length view.seen) (follows : AllByRecursion FollowsUp more)
       (done : AreServicesDone file.ticks delta old (coming ++ more) new) (right : AllByRecursion (IsRight number file) (coming ++ more))
       (uses : UseIds view.ids (coming ++ more) after)
-      (each : (client : ℕ) → HasDeskIf client delta (talks client).ended view old (commands client)) where
+      (each : (client : ℕ) → HasDeskIf client number file (talks client).ended view old (commands client)) where
     abbrev All : Option Arrival → Type 0
     All arrival = HaveHandled arrival after new (all_frames (coming ++ more)) (all_seen (all_notices (coming ++ more)))
 
@@ -80,15 +80,16 @@ module _ (number : ℕ) (file : FileContents) (view : View) (time : ℕ) (talks 
         handled_of arrival (coming ++ more) refl refl
         (quiet_services number file file.ticks (coming ++ more) (ended_then arrival) view after old new (commands_then arrival)
         (all_append IsQuiet coming more quiet (all_weaker FollowsUp IsQuiet follows_quiet more follows)) done right uses within
-        (λ client. subst (λ cs. HasDeskIf client delta (ended_then arrival client) view old (commands client ++ cs)) (sym (none client))
-        (subst (λ cs. HasDeskIf client delta (ended_then arrival client) view old cs) (sym (append-nil (commands client)))
-        (subst (λ b. HasDeskIf client delta b view old (commands client)) (sym (same client)) (each client)))))
+        (λ client. subst (λ cs. HasDeskIf client number file (ended_then arrival client) view old (commands client ++ cs))
+        (sym (none client)) (subst (λ cs. HasDeskIf client number file (ended_then arrival client) view old cs)
+        (sym (append-nil (commands client)))
+        (subst (λ b. HasDeskIf client number file b view old (commands client)) (sym (same client)) (each client)))))
 
     -- behind one service that sends nothing, all are quiet
     behind_one : (arrival : Option Arrival) (first : Service) → coming ≡ first ∷ [] → service_frames first ≡ [] →
         service_notices first ≡ [] → (middle : Desk) → AreServicesDone file.ticks delta middle more new →
         AllByRecursion (IsRight number file) more → UseIds view.ids more after →
-        ((client : ℕ) → HasDeskIf client delta (ended_then arrival client) view middle (commands_then arrival client)) → All arrival
+        ((client : ℕ) → HasDeskIf client number file (ended_then arrival client) view middle (commands_then arrival client)) → All arrival
     behind_one arrival first one sends says middle rest rights gave now =
         handled_of arrival more
         (ap (λ fs. fs ++ all_frames more) (sym sends) ∙ ap (λ ss. all_frames (ss ++ more)) (sym one))
@@ -99,7 +100,7 @@ module _ (number : ℕ) (file : FileContents) (view : View) (time : ℕ) (talks 
     -- a command has come in
     now_arrived : (other : ℕ) (command : Strings) (middle : Desk) → other < 2 ^ 64 → IsArrived old other command middle → (client : ℕ) →
         (heard_talk client time (Some (came.Command other command)) (talks client)).reused ≡ false →
-        HasDeskIf client delta (ended_then (Some (came.Command other command)) client) view middle
+        HasDeskIf client number file (ended_then (Some (came.Command other command)) client) view middle
         (commands_then (Some (came.Command other command)) client)
     now_arrived other command middle small is client unused = go (eqb other client) refl unused
       where
@@ -110,34 +111,35 @@ module _ (number : ℕ) (file : FileContents) (view : View) (time : ℕ) (talks 
         now = record talk { commands = talk.commands ++ passed_at time (command ∷ []); reused = talk.reused || talk.ended }
 
         go : (b : Bool) → eqb other client ≡ b → (cond b now talk).reused ≡ false →
-            HasDeskIf client delta (cond b now talk).ended view middle (commands client ++ cond b (passed_at time (command ∷ [])) [])
+            HasDeskIf client number file (cond b now talk).ended view middle (commands client ++ cond b (passed_at time (command ∷ [])) [])
         go false t unused =
-            subst (λ cs. HasDeskIf client delta talk.ended view middle cs) (sym (append-nil (commands client)))
-            (elsewhere client delta view old middle other (commands client) talk.ended
+            subst (λ cs. HasDeskIf client number file talk.ended view middle cs) (sym (append-nil (commands client)))
+            (elsewhere client number file view old middle other (commands client) talk.ended
             (λ same. absurd (let wrong : false ≡ true = sym t ∙ eq-eqb other client same in cc)) is.others is.calls (each client))
         go true t unused =
             let same : other ≡ client = eqb-true other client t in
             let open_still : talk.ended ≡ false = (not_either talk.reused talk.ended unused).1 in
-            subst (λ b. HasDeskIf client delta b view middle (commands client ++ passed_at time (command ∷ []))) (sym open_still)
-            (arrived client delta view old middle other (commands client) command time
+            subst (λ b. HasDeskIf client number file b view middle (commands client ++ passed_at time (command ∷ []))) (sym open_still)
+            (arrived client number file view old middle other (commands client) command time
             (subst (λ n. IsArrived old n command middle) same is) (subst (λ n. n < 2 ^ 64) same small) early
-            (subst (λ b. HasDeskIf client delta b view old (commands client)) open_still (each client)))
+            (subst (λ b. HasDeskIf client number file b view old (commands client)) open_still (each client)))
 
     -- a connection has ended
     now_left : (other : ℕ) (middle : Desk) → IsGone old other middle → (client : ℕ) →
-        HasDeskIf client delta (ended_then (Some (came.Left other)) client) view middle (commands_then (Some (came.Left other)) client)
+        HasDeskIf client number file (ended_then (Some (came.Left other)) client) view middle
+        (commands_then (Some (came.Left other)) client)
     now_left other middle is client =
-        subst (λ cs. HasDeskIf client delta (ended_then (Some (came.Left other)) client) view middle cs)
+        subst (λ cs. HasDeskIf client number file (ended_then (Some (came.Left other)) client) view middle cs)
         (sym (append-nil (commands client))) (go (eqb other client) refl)
       where
         talk : Talk
         talk = talks client
 
         go : (b : Bool) → eqb other client ≡ b →
-            HasDeskIf client delta (cond b (record talk { ended = true }) talk).ended view middle (commands client)
+            HasDeskIf client number file (cond b (record talk { ended = true }) talk).ended view middle (commands client)
         go true t = subst (λ n. connection_of middle n ≡ None) (eqb-true other client t) is.gone
         go false t =
-            elsewhere client delta view old middle other (commands client) talk.ended
+            elsewhere client number file view old middle other (commands client) talk.ended
             (λ same. absurd (let wrong : false ≡ true = sym t ∙ eq-eqb other client same in cc)) is.others is.calls (each client)
 
     pub all_handled : (arrival : Option Arrival) → IsComing old arrival coming →
@@ -170,7 +172,7 @@ module _ (number : ℕ) (file : FileContents) (view : View) (time : ℕ) (talks 
 pub node_handled : (node after : Node) (frame : Strings) (effects : Effects) (view : View) (time : ℕ) (talks : ℕ → Talk)
     (commands : ℕ → List Passed) → Handles node frame effects after → view.ids ≡ node.keeper.ids → HasRanges node.keeper.ids →
     time ≤ length view.seen → ((client : ℕ) → (heard_talk client time (arrival_at frame) (talks client)).reused ≡ false) →
-    ((client : ℕ) → HasDeskIf client node.keeper.file.fixed.delta (talks client).ended view node.desk (commands client)) →
+    ((client : ℕ) → HasDeskIf client node.keeper.ids.node node.keeper.file (talks client).ended view node.desk (commands client)) →
     HaveHandled node.keeper.ids.node node.keeper.file view time talks commands (arrival_at frame) after.keeper.ids after.desk
     effects.answers.items (noticed_by effects)
 node_handled node after frame effects view time talks commands handles ids within early unused each =

@@ -42,6 +42,7 @@ pub mod ConnectionLemmas
 pub mod TakenCommandLemmas
 pub mod ServiceIdLemmas
 pub mod AnswerFrameLemmas
+pub mod LeftCommandLemmas
 pub mod ServiceAnswerLemmas
 pub mod ServiceBeginLemmas
 pub mod ServiceStepLemmas

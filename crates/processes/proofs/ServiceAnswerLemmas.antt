@@ -4,15 +4,11 @@ use Rattle.std.proofs.Common.{List, [], ◌∷◌, length, Option, None, Some, i
 use Rattle.std.specs.List.{AllByRecursion}
 use Rattle.std.proofs.lemmas.Option.{same_Some}
 use Rattle.client_commands.specs.Answers.{sent_strings}
-use Rattle.client_commands.specs.Deletion.{Deletion, left_over}
 use Rattle.client_commands.specs.declared.answer.Answer.{Answer}
-use Rattle.client_commands.specs.declared.command.Command.{Command}
-use Rattle.client_commands.specs.declared.command.Command.TheVariants as ask
 use Rattle.cluster_file.specs.File.{FileContents}
-use Rattle.node_clients.specs.Calls.{call_under, client_waiting, deletion_of, left_of, waiting_for}
+use Rattle.node_clients.specs.Calls.{call_under, client_waiting, waiting_for}
 use Rattle.node_clients.specs.Connections.{doing, waiting_on}
 use Rattle.node_clients.specs.Desk.{IsIdleFor, connection_of, is_connected, listener}
-use Rattle.node_clients.specs.Served.{call_begun}
 use Rattle.node_clients.specs.Services.{Service, told_frames}
 use Rattle.node_clients.specs.declared.connection.Connection.{Connection}
 use Rattle.node_clients.specs.declared.connection.State.TheVariants.{Idle}
@@ -34,9 +30,9 @@ abbrev pub calls_of : Desk → ℕ → Option OpenCall
 calls_of desk id = call_under desk.calls id
 
 -- what a client's connection at a desk still has to carry out, unless it has ended
-abbrev pub HasDeskIf : (client : ℕ) → (delta : Option ℕ) → (ended : Bool) → View → Desk → List Passed → Type 0
-HasDeskIf client delta ended view desk commands =
-    HasCommandsIf client delta ended view (connection_of desk client) (calls_of desk) commands
+abbrev pub HasDeskIf : (client number : ℕ) → FileContents → (ended : Bool) → View → Desk → List Passed → Type 0
+HasDeskIf client number file ended view desk commands =
+    HasCommandsIf client number file ended view (connection_of desk client) (calls_of desk) commands
 
 -- a client may be answered now: a command waits on its idle connection, or it is there, and a call is open for it
 abbrev pub Reaches : Desk → (client : ℕ) → Type 0
@@ -47,17 +43,17 @@ Reaches desk client =
     × (call.client ≡ Some client))
 
 -- the number of such a client has its range
-pub reach_bound : (client : ℕ) (delta : Option ℕ) (ended : Bool) (view : View) (desk : Desk) (commands : List Passed) →
-    HasDeskIf client delta ended view desk commands → Reaches desk client → client < 2 ^ 64
-reach_bound client delta true view desk commands gone (inl is) =
+pub reach_bound : (client number : ℕ) (file : FileContents) (ended : Bool) (view : View) (desk : Desk) (commands : List Passed) →
+    HasDeskIf client number file ended view desk commands → Reaches desk client → client < 2 ^ 64
+reach_bound client number file true view desk commands gone (inl is) =
     absurd (let wrong : is.0 ∷ is.1 ≡ [] = sym is.3 ∙ ap waiting_on gone in cc)
-reach_bound client delta true view desk commands gone (inr is) =
+reach_bound client number file true view desk commands gone (inr is) =
     absurd (let wrong : true ≡ false = sym is.0 ∙ ap is_some gone in cc)
-reach_bound client delta false view desk commands has (inr is) =
+reach_bound client number file false view desk commands has (inr is) =
     let here = has.opened is.1 is.2 is.3 is.4 in has.bound here.1 here.2 here.3
-reach_bound client delta false view desk commands has (inl is) = go commands refl (has.idle is.2)
+reach_bound client number file false view desk commands has (inl is) = go commands refl (has.idle is.2)
   where
-    go : (those : List Passed) → commands ≡ those → Waits view delta those (waiting_on (connection_of desk client)) → client < 2 ^ 64
+    go : (those : List Passed) → commands ≡ those → Waits view number file those (waiting_on (connection_of desk client)) → client < 2 ^ 64
     go [] e waits = absurd (let wrong : is.0 ∷ is.1 ≡ [] = sym is.3 ∙ waits in cc)
     go (command ∷ rest) e waits = has.bound command rest e
 
@@ -78,68 +74,30 @@ listener_is desk (Some other) client e = go (is_connected desk other) refl e
     go true there e = (e, subst (λ n. is_connected desk n ≡ true) (same_Some other client e) there)
     go false there e = absurd (cc)
 
--- a call of which something is left is one of a DEL
-pub deleting : (client : ℕ) (delta : Option ℕ) (command : Command) (call : OpenCall) (rest : Deletion) →
-    call_begun client command ≡ Some (record call { age = 0 }) → left_of delta call.deletion ≡ Some rest →
-    (deletion : Deletion) × (command ≡ ask.Delete deletion) × (left_over delta deletion ≡ Some rest)
-deleting client delta command call rest begun left = go command begun
-  where
-    Is : Command → Type 0
-    Is c = (deletion : Deletion) × (c ≡ ask.Delete deletion) × (left_over delta deletion ≡ Some rest)
-
-    no_deletion : (c : Command) → deletion_of (call_begun client c) ≡ None → call_begun client c ≡ Some (record call { age = 0 }) → Is c
-    no_deletion c none e =
-        let same : call.deletion ≡ None = sym (ap deletion_of e) ∙ none in
-        absurd (let wrong : None ≡ Some rest = sym (ap (left_of delta) same) ∙ left in cc)
-
-    go : (c : Command) → call_begun client c ≡ Some (record call { age = 0 }) → Is c
-    go (ask.Delete deletion) e = (deletion, refl, ap (left_of delta) (ap deletion_of e) ∙ left)
-    go (ask.Read wanted name) e = no_deletion (ask.Read wanted name) refl e
-    go (ask.Set name value) e = no_deletion (ask.Set name value) refl e
-    go (ask.Move name layout) e = no_deletion (ask.Move name layout) refl e
-    go (ask.Info sections) e = no_deletion (ask.Info sections) refl e
-    go ask.CountWritten e = no_deletion ask.CountWritten refl e
-    go (ask.ShowLayout name) e = no_deletion (ask.ShowLayout name) refl e
-    go (ask.Scan cursor options) e = no_deletion (ask.Scan cursor options) refl e
-    go (ask.Ping text) e = no_deletion (ask.Ping text) refl e
-    go (ask.Echo text) e = no_deletion (ask.Echo text) refl e
-    go ask.ListCommands e = no_deletion ask.ListCommands refl e
-    go ask.CountCommands e = no_deletion ask.CountCommands refl e
-    go ask.ClientId e = no_deletion ask.ClientId refl e
-    go ask.DescribeClient e = no_deletion ask.DescribeClient refl e
-    go ask.ClientName e = no_deletion ask.ClientName refl e
-    go ask.Hello e = no_deletion ask.Hello refl e
-    go ask.Select e = no_deletion ask.Select refl e
-    go ask.Login e = no_deletion ask.Login refl e
-    go ask.Quit e = no_deletion ask.Quit refl e
-
 module _ (number client : ℕ) (file : FileContents) where
-  abbrev delta : Option ℕ
-  delta = file.fixed.delta
-
   -- After a service: what it sent to the client are answers to the first of these commands, and its connection still has
   -- to carry out the others.
   pub record HasStepped (ended : Bool) (view : View) (frames : List Strings) (new : Desk) (commands : List Passed) : Type 0 where
     pub left : List Passed
     pub replied : client < 2 ^ 64 → AreReplied number client file view (answers_to client frames) commands left
-    pub has : HasDeskIf client delta ended view new left
+    pub has : HasDeskIf client number file ended view new left
 
   -- a service that is not one for the client
   pub untouched : (ended : Bool) (view then : View) (frames : List Strings) (old new : Desk) (commands : List Passed) → Widens view then →
-      connection_of new client ≡ connection_of old client → HasNoMore client delta (calls_of old) (calls_of new) →
-      (client < 2 ^ 64 → answers_to client frames ≡ []) → HasDeskIf client delta ended view old commands →
+      connection_of new client ≡ connection_of old client → HasNoMore client (calls_of old) (calls_of new) →
+      (client < 2 ^ 64 → answers_to client frames ≡ []) → HasDeskIf client number file ended view old commands →
       HasStepped ended then frames new commands
   untouched ended view then frames old new commands wide same less none has = record {
     left = commands;
     replied = λ small. subst (λ fs. AreReplied number client file then fs commands commands) (sym (none small)) refl;
-    has = subst (λ at. HasCommandsIf client delta ended then at (calls_of new) commands) (sym same)
-        (kept_if client delta ended view then (connection_of old client) (calls_of old) (calls_of new) commands wide less has);
+    has = subst (λ at. HasCommandsIf client number file ended then at (calls_of new) commands) (sym same)
+        (kept_if client number file ended view then (connection_of old client) (calls_of old) (calls_of new) commands wide less has);
   }
 
   -- the first command gets its answer, and the others are left
   pub answers_first : (then : View) (frames : List Strings) (new : Desk) (commands : List Passed) (command : Passed) (rest : List Passed)
       (answer : Answer) → commands ≡ command ∷ rest → answers_to client frames ≡ sent_strings answer ∷ [] →
-      HasReason number client file then command answer → HasDeskIf client delta false then new rest →
+      HasReason number client file then command answer → HasDeskIf client number file false then new rest →
       HasStepped false then frames new commands
   answers_first then frames new commands command rest answer those sent reason has = record {
     left = rest;
@@ -156,7 +114,7 @@ module _ (number client : ℕ) (file : FileContents) where
     pub gone : (later : OpenCall) → call_under new.calls id ≡ Some later → later.client ≡ Some client → ⊥
     pub others : (other : ℕ) → other ≢ id → call_under new.calls other ≡ call_under old.calls other
 
-  closed_less : (old new : Desk) (id : ℕ) → IsClosedFor old new id → HasNoMore client delta (calls_of old) (calls_of new)
+  closed_less : (old new : Desk) (id : ℕ) → IsClosedFor old new id → HasNoMore client (calls_of old) (calls_of new)
   closed_less old new id is other later e mine = go (eqb other id) refl
     where
       go : (b : Bool) → eqb other id ≡ b →
@@ -169,11 +127,11 @@ module _ (number client : ℕ) (file : FileContents) where
   module _ (view then : View) (old new : Desk) (id : ℕ) (answer : Answer) (commands : List Passed) (wide : Widens view then)
       (closed : IsClosedFor old new id)
       (reason : (call : OpenCall) (command : Passed) → call_under old.calls id ≡ Some call → is_connected old client ≡ true →
-      call.client ≡ Some client → IsOpenFor client then delta command id call → HasReason number client file then command answer)
+      call.client ≡ Some client → IsOpenFor client then number file command id call → HasReason number client file then command answer)
       (reach : (other : ℕ) → Reaches old other → other < 2 ^ 64) where
     -- the client's own call
     own_closed : (ended : Bool) (call : OpenCall) → call_under old.calls id ≡ Some call → call.client ≡ Some client →
-        IsIdleFor old.clients (Some client) new.clients → HasDeskIf client delta ended view old commands →
+        IsIdleFor old.clients (Some client) new.clients → HasDeskIf client number file ended view old commands →
         HasStepped ended then (told_frames (cond (is_connected old client) (Some client) None) answer) new commands
     own_closed true call e mine idle gone =
         let none : is_connected old client ≡ false = ap is_some gone in record {
@@ -191,18 +149,18 @@ module _ (number client : ℕ) (file : FileContents) where
         let there : is_connected old client ≡ true = busy_is_there (connection_of old client) here.0 in
         answers_first then (told_frames (cond (is_connected old client) (Some client) None) answer) new commands here.1 here.2 answer here.3
         (ap (λ b. answers_to client (told_frames (cond b (Some client) None) answer)) there ∙ mine_sent client answer)
-        (reason call here.1 e there mine (open_wider view then wide client delta here.1 id call here.5))
-        (none_left client delta then (connection_of new client) (calls_of new) here.2
-        (λ i. rest_waits client delta then here.2 (waiting_on (connection_of new client)) (idle.waiting ∙ here.4))
-        (closed_none client delta view (connection_of old client) (calls_of old) (calls_of new) commands id call has e mine
+        (reason call here.1 e there mine (open_wider view then wide client number file here.1 id call here.5))
+        (none_left client number file then (connection_of new client) (calls_of new) here.2
+        (λ i. rest_waits client number file then here.2 (waiting_on (connection_of new client)) (idle.waiting ∙ here.4))
+        (closed_none client number file view (connection_of old client) (calls_of old) (calls_of new) commands id call has e mine
         closed.gone closed.others)
         (λ command rest f. has.bound here.1 here.2 here.3)
-        (times_wider client delta view then wide here.2
+        (times_wider client number file view then wide here.2
         (subst (AllByRecursion (λ (command : Passed). command.time ≤ length view.seen)) here.3 has.times).1))
 
     -- the call of another client
     other_closed : (ended : Bool) (call : OpenCall) (other : ℕ) → call_under old.calls id ≡ Some call → call.client ≡ Some other →
-        (other ≡ client → ⊥) → IsIdleFor old.clients (Some other) new.clients → HasDeskIf client delta ended view old commands →
+        (other ≡ client → ⊥) → IsIdleFor old.clients (Some other) new.clients → HasDeskIf client number file ended view old commands →
         HasStepped ended then (told_frames (cond (is_connected old other) (Some other) None) answer) new commands
     other_closed ended call other e its differ idle has =
         untouched ended view then (told_frames (cond (is_connected old other) (Some other) None) answer) old new commands wide
@@ -216,7 +174,7 @@ module _ (number client : ℕ) (file : FileContents) where
 
     -- any call, or none
     pub closes : (ended : Bool) (told : Option ℕ) → told ≡ listener old (waiting_for old.calls id) →
-        IsIdleFor old.clients (waiting_for old.calls id) new.clients → HasDeskIf client delta ended view old commands →
+        IsIdleFor old.clients (waiting_for old.calls id) new.clients → HasDeskIf client number file ended view old commands →
         HasStepped ended then (told_frames told answer) new commands
     closes ended told who idle has =
         subst (λ t. HasStepped ended then (told_frames t answer) new commands) (sym who)

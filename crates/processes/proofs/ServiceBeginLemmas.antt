@@ -9,6 +9,7 @@ use Rattle.client_commands.specs.declared.command.Command.{Command}
 use Rattle.cluster_file.specs.File.{FileContents}
 use Rattle.deeds.specs.CallId.{CallIds, HasRanges}
 use Rattle.node.specs.GivenIds.{UsesIds}
+use Rattle.node.specs.Replies.{MayBegin}
 use Rattle.node_clients.specs.Calls.{call_under}
 use Rattle.node_clients.specs.Connections.{asked, waiting_on}
 use Rattle.node_clients.specs.Desk.{connection_of}
@@ -32,7 +33,7 @@ get_last (x ∷ xs) y = get_last xs y
 
 module _ (number client : ℕ) (file : FileContents) (ticks : ℕ) (view : View) (after : CallIds) (old new : Desk) (ended : Bool)
     (commands : List Passed) (within : HasRanges view.ids) (reach : (other : ℕ) → Reaches old other → other < 2 ^ 64)
-    (has : HasDeskIf client file.fixed.delta ended view old commands) where
+    (has : HasDeskIf client number file ended view old commands) where
   abbrev delta : Option ℕ
   delta = file.fixed.delta
 
@@ -46,8 +47,8 @@ module _ (number client : ℕ) (file : FileContents) (ticks : ℕ) (view : View)
 
   own_begins : (first : Next) (command : Command) (id : ℕ) (taken : Desk) → asked first ≡ Ok command →
       IsCommandTaken old client first taken → IsOpened taken (call_begun client command) id new →
-      UsesIds view.ids (Service.Begins client command id) after → Step (Service.Begins client command id)
-  own_begins first command id taken asks is_taken opened uses = go ended has
+      MayBegin number file command → UsesIds view.ids (Service.Begins client command id) after → Step (Service.Begins client command id)
+  own_begins first command id taken asks is_taken opened may uses = go ended has
     where
       service : Service
       service = Service.Begins client command id
@@ -58,25 +59,26 @@ module _ (number client : ℕ) (file : FileContents) (ticks : ℕ) (view : View)
       wide : Widens view then
       wide = service_widens view after service within uses
 
-      go : (b : Bool) → HasDeskIf client delta b view old commands →
+      go : (b : Bool) → HasDeskIf client number file b view old commands →
           HasStepped number client file b then [] new commands
-      go true gone = absurd (none_taken client delta (connection_of old client) (connection_of taken client) first is_taken.taken gone)
+      go true gone =
+          absurd (none_taken client number file (connection_of old client) (connection_of taken client) first is_taken.taken gone)
       go false has =
-          let it = taken_of client delta view (connection_of old client) (connection_of taken client) (calls_of old) commands first
+          let it = taken_of client number file view (connection_of old client) (connection_of taken client) (calls_of old) commands first
           is_taken.taken has in record {
             left = commands;
             replied = λ small. refl;
-            has = subst (λ at. HasCommands client delta then at (calls_of new) commands)
+            has = subst (λ at. HasCommands client number file then at (calls_of new) commands)
                 (sym (ap (λ c. get nat_eq c.by_number client) opened.clients))
-                (opened_here client delta view then (connection_of old client) (connection_of taken client) (calls_of old) (calls_of new)
-                commands first id wide it is_taken.taken.2
+                (opened_here client number file view then (connection_of old client) (connection_of taken client) (calls_of old)
+                (calls_of new) commands first id wide it is_taken.taken.2
                 (λ other differ. opened.others other differ ∙ ap (λ cs. call_under cs other) is_taken.calls)
                 (λ call e. is_for it call e (calling_or_not client command id)));
           }
         where
-          is_for : (it : IsTaken client delta view (connection_of old client) (calls_of old) commands first
+          is_for : (it : IsTaken client number file view (connection_of old client) (calls_of old) commands first
               (waiting_on (connection_of taken client))) (call : OpenCall) → call_under new.calls id ≡ Some call →
-              IsCalling client command id ⊎ IsNotCalling client command id → IsOpenFor client then delta it.command id call
+              IsCalling client command id ⊎ IsNotCalling client command id → IsOpenFor client then number file it.command id call
           is_for it call e (inr none) =
               absurd (let wrong : None ≡ Some call = sym none.call_is ∙ sym opened.opened ∙ e in cc)
           is_for it call e (inl is) =
@@ -87,9 +89,10 @@ module _ (number client : ℕ) (file : FileContents) (ticks : ℕ) (view : View)
               let long : length then.seen ≡ length view.seen + 1 =
               ap (λ ns. length (view.seen ++ ns)) alone ∙ length-append view.seen (is.notice ∷ []) in record {
                 first = first;
-                is_next = next_wider view then wide delta it.command first it.is_next;
+                is_next = next_wider view then wide number file it.command first it.is_next;
                 asks = command;
                 asked_is = asks;
+                may = may;
                 call_is = begun ∙ ap (λ n. Some (record call { age = n })) young;
                 notice = is.notice;
                 begins = is.begins;
@@ -105,8 +108,8 @@ module _ (number client : ℕ) (file : FileContents) (ticks : ℕ) (view : View)
               }
 
   pub begins : (other : ℕ) (command : Command) (id : ℕ) → IsServiceDone ticks delta old (Service.Begins other command id) new →
-      UsesIds view.ids (Service.Begins other command id) after → Step (Service.Begins other command id)
-  begins other command id done uses = go (eqb other client) refl
+      MayBegin number file command → UsesIds view.ids (Service.Begins other command id) after → Step (Service.Begins other command id)
+  begins other command id done may uses = go (eqb other client) refl
     where
       service : Service
       service = Service.Begins other command id
@@ -119,7 +122,7 @@ module _ (number client : ℕ) (file : FileContents) (ticks : ℕ) (view : View)
           let same : is.call ≡ later = same_Some is.call later (sym is.call_is ∙ sym done.4.opened ∙ e) in
           differ (same_Some client other (sym mine ∙ sym (ap (λ (c : OpenCall). c.client) same) ∙ is.mine))
 
-      less : client ≢ other → HasNoMore client delta (calls_of old) (calls_of new)
+      less : client ≢ other → HasNoMore client (calls_of old) (calls_of new)
       less differ i later e mine = one (eqb i id) refl
         where
           one : (b : Bool) → eqb i id ≡ b →
@@ -139,4 +142,4 @@ module _ (number client : ℕ) (file : FileContents) (ticks : ℕ) (view : View)
       go true t =
           let same : other ≡ client = eqb-true other client t in
           own_begins done.0 command id done.2 done.1 (subst (λ n. IsCommandTaken old n done.0 done.2) same done.3)
-          (subst (λ n. IsOpened done.2 (call_begun n command) id new) same done.4) uses
+          (subst (λ n. IsOpened done.2 (call_begun n command) id new) same done.4) may uses

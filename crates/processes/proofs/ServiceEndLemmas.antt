@@ -39,12 +39,12 @@ older_reaches old id older is client (inl reaches) =
     inl (reaches.0, reaches.1, sym (ap doing same) ∙ reaches.2, sym (ap waiting_on same) ∙ reaches.3)
 older_reaches old id older is client (inr reaches) =
     let same = ap (λ c. get nat_eq c.by_number client) is.clients in
-    let was = older_less client None old id older is reaches.1 reaches.2 reaches.3 reaches.4 in
+    let was = older_less client old id older is reaches.1 reaches.2 reaches.3 reaches.4 in
     inr (sym (ap is_some same) ∙ reaches.0, reaches.1, was.0, was.1, ap (λ (c : OpenCall). c.client) was.2 ∙ reaches.4)
 
 module _ (number client : ℕ) (file : FileContents) (ticks : ℕ) (view : View) (after : CallIds) (old new : Desk) (ended : Bool)
     (commands : List Passed) (within : HasRanges view.ids) (reach : (other : ℕ) → Reaches old other → other < 2 ^ 64)
-    (has : HasDeskIf client file.fixed.delta ended view old commands) where
+    (has : HasDeskIf client number file ended view old commands) where
   abbrev delta : Option ℕ
   delta = file.fixed.delta
 
@@ -75,7 +75,8 @@ module _ (number client : ℕ) (file : FileContents) (ticks : ℕ) (view : View)
       wide = service_widens view after service within uses
 
       reason : (call : OpenCall) (command : Passed) → call_under old.calls it.id ≡ Some call → is_connected old client ≡ true →
-          call.client ≡ Some client → IsOpenFor client then delta command it.id call → HasReason number client file then command answer
+          call.client ≡ Some client → IsOpenFor client then number file command it.id call →
+          HasReason number client file then command answer
       reason call command e there mine is_for =
           let listens : has_listener old (waiting_for old.calls it.id) ≡ true =
           ap (λ o. has_listener old (client_waiting o)) e ∙ ap (has_listener old) mine ∙ there in
@@ -97,18 +98,18 @@ module _ (number client : ℕ) (file : FileContents) (ticks : ℕ) (view : View)
   ages id done uses =
       untouched number client file ended view (view_after view (Service.Ages id) after) [] old new commands
       (service_widens view after (Service.Ages id) within uses) (ap (λ c. get nat_eq c.by_number client) done.1.clients)
-      (older_less client delta old id new done.1) (λ small. refl) has
+      (older_less client old id new done.1) (λ small. refl) has
 
-  has_older : (id : ℕ) (older : Desk) → IsOlder old id older → HasDeskIf client delta ended view older commands
+  has_older : (id : ℕ) (older : Desk) → IsOlder old id older → HasDeskIf client number file ended view older commands
   has_older id older is =
-      subst (λ at. HasCommandsIf client delta ended view at (calls_of older) commands)
+      subst (λ at. HasCommandsIf client number file ended view at (calls_of older) commands)
       (sym (ap (λ c. get nat_eq c.by_number client) is.clients))
-      (kept_if client delta ended view view (connection_of old client) (calls_of old) (calls_of older) commands (widens_same view)
-      (older_less client delta old id older is) has)
+      (kept_if client number file ended view view (connection_of old client) (calls_of old) (calls_of older) commands (widens_same view)
+      (older_less client old id older is) has)
 
   -- a late call is answered so
   late : (then : View) (id : ℕ) (older : Desk) (call : OpenCall) (command : Passed) → call_under older.calls id ≡ Some call →
-      is_connected older client ≡ true → call.client ≡ Some client → IsOpenFor client then delta command id call →
+      is_connected older client ≡ true → call.client ≡ Some client → IsOpenFor client then number file command id call →
       HasReason number client file then command (answers.Error NoQuorum)
   late then id older call command e there mine is_for = inr (inr (inr (id, call, is_for, refl)))
 
@@ -148,7 +149,7 @@ module _ (number client : ℕ) (file : FileContents) (ticks : ℕ) (view : View)
   quiet_step (Service.Arrives other command) quiet done right uses = absurd quiet
   quiet_step (Service.Leaves other) quiet done right uses = absurd quiet
   quiet_step (Service.Begins other command id) quiet done right uses =
-      begins number client file ticks view after old new ended commands within reach has other command id done uses
+      begins number client file ticks view after old new ended commands within reach has other command id done right uses
   quiet_step (Service.Replies other first answer) quiet done right uses =
       replies number client file ticks view after old new ended commands within reach has other first answer done right uses
   quiet_step (Service.Quits other) quiet done right uses =

@@ -1,6 +1,6 @@
 -- Each service but the coming and the end of a connection keeps what is known of a client's commands.
-use Rattle.std.proofs.Common.{◌≡◌, ◌≢◌, inl, inr, ◌<◌, ◌^◌, ℕ, Bool, true, false, eqb, eqb-true, eq-eqb}
-use Rattle.std.proofs.Common.{List, Option, None, Some, Ok, refl, sym, subst, ap, ◌∙◌}
+use Rattle.std.proofs.Common.{◌≡◌, ◌≢◌, inl, inr, ◌<◌, ◌^◌, ℕ, Bool, true, false, cond, eqb, eqb-true, eq-eqb}
+use Rattle.std.proofs.Common.{List, Option, None, Some, is_some, Ok, refl, sym, subst, ap, ◌∙◌}
 use Rattle.std.proofs.lemmas.Option.{same_Some}
 use Rattle.client_commands.specs.Reading.{command_at}
 use Rattle.client_commands.specs.declared.answer.Answer.{Answer}
@@ -9,7 +9,8 @@ use Rattle.client_commands.specs.declared.command.Command.TheVariants as ask
 use Rattle.cluster_file.specs.File.{FileContents}
 use Rattle.deeds.specs.CallId.{CallIds, HasRanges}
 use Rattle.node.specs.GivenIds.{UsesIds}
-use Rattle.node.specs.Replies.{IsReplyTo}
+use Rattle.local_object.specs.Doing.{move_refusal, read_refusal}
+use Rattle.node.specs.Replies.{IsMoveRefused, IsRefusedBy, IsReplyTo}
 use Rattle.node_clients.specs.Calls.{call_under, older_call}
 use Rattle.node_clients.specs.Connections.{asked, waiting_on}
 use Rattle.node_clients.specs.Desk.{connection_of}
@@ -20,6 +21,8 @@ use Rattle.node_clients.specs.declared.desk.Desk.{Desk}
 use Rattle.node_clients.specs.declared.next.Next.{Next}
 use Rattle.node_clients.specs.declared.next.Next.TheVariants as next
 use Rattle.node_clients.specs.declared.open_call.OpenCall.{OpenCall}
+use Rattle.node_clients.specs.declared.rest.Rest.TheVariants as rests
+use Rattle.open_calls.specs.OpenCalls.{open_call}
 use Rattle.processes.specs.Answers.{Passed}
 use Rattle.processes.proofs.CommandViewLemmas.{IsNextOf, View, Widens}
 use Rattle.processes.proofs.ConnectionLemmas.{HasNoMore, none_left}
@@ -31,9 +34,9 @@ use Rattle.processes.proofs.AnswerFrameLemmas.{mine_sent, other_sent}
 use Rattle.processes.proofs.TakenCommandLemmas.{none_taken, taken_of}
 
 -- a call that gets older stays open for the same client
-pub older_less : (client : ℕ) (delta : Option ℕ) (old : Desk) (id : ℕ) (older : Desk) → IsOlder old id older →
-    HasNoMore client delta (calls_of old) (calls_of older)
-older_less client delta old id older is other later e mine = go (eqb other id) refl
+pub older_less : (client : ℕ) (old : Desk) (id : ℕ) (older : Desk) → IsOlder old id older →
+    HasNoMore client (calls_of old) (calls_of older)
+older_less client old id older is other later e mine = go (eqb other id) refl
   where
     Was : Type 0
     Was = (before : OpenCall) × (call_under old.calls other ≡ Some before) × (record before { age = 0 } ≡ record later { age = 0 })
@@ -51,9 +54,20 @@ older_less client delta old id older is other later e mine = go (eqb other id) r
         let differ : other ≢ id = λ same. absurd (let wrong : false ≡ true = sym t ∙ eq-eqb other id same in cc) in
         (later, sym (is.others other differ) ∙ e, refl)
 
+-- what is refused for this reason is so whatever other reasons there are
+first_reason : {A : Type 0} (b : Bool) (reason why : A) (later : Option A) → cond b (Some reason) None ≡ Some why →
+    cond b (Some reason) later ≡ Some why
+first_reason true reason why later e = e
+first_reason false reason why later e = absurd (cc)
+
+-- why an object refuses a read, it also refuses a move with the same id
+refused_too : (answer : Answer) → IsRefusedBy read_refusal answer → IsRefusedBy move_refusal answer
+refused_too answer is =
+    (is.0, is.1, is.2, first_reason (is_some (open_call is.0.calls is.1)) _ is.2 _ is.3, is.4)
+
 module _ (number client : ℕ) (file : FileContents) (ticks : ℕ) (view : View) (after : CallIds) (old new : Desk) (ended : Bool)
     (commands : List Passed) (within : HasRanges view.ids) (reach : (other : ℕ) → Reaches old other → other < 2 ^ 64)
-    (has : HasDeskIf client file.fixed.delta ended view old commands) where
+    (has : HasDeskIf client number file ended view old commands) where
   abbrev delta : Option ℕ
   delta = file.fixed.delta
 
@@ -63,18 +77,23 @@ module _ (number client : ℕ) (file : FileContents) (ticks : ℕ) (view : View)
   apart : (other : ℕ) → eqb other client ≡ false → client ≢ other
   apart other t same = absurd (let wrong : false ≡ true = sym t ∙ eq-eqb other client (sym same) in cc)
 
-  same_calls : new.calls ≡ old.calls → HasNoMore client delta (calls_of old) (calls_of new)
+  same_calls : new.calls ≡ old.calls → HasNoMore client (calls_of old) (calls_of new)
   same_calls same id call e mine = (call, sym (ap (λ cs. call_under cs id) same) ∙ e, refl)
 
   -- A command is answered at once
 
   -- the reply to what is next is one to the command
-  reply_right : (command : Passed) (first : Next) (answer : Answer) → IsNextOf view delta command first →
+  reply_right : (command : Passed) (first : Next) (answer : Answer) → IsNextOf view number file command first →
       IsReplyTo number file client (asked first) answer → IsReplyTo number file client (command_at command.strings) answer
   reply_right command (next.Came frame) answer same right =
       subst (λ (f : List (List ℕ)). IsReplyTo number file client (command_at f) answer) same right
-  reply_right command (next.Rest deletion) answer is right =
+  reply_right command (next.Rest (rests.Deletes deletion)) answer is right =
       subst (λ f. IsReplyTo number file client f answer) (sym is.2) right
+  reply_right command (next.Rest (rests.Confirms name)) answer is right =
+      subst (λ f. IsReplyTo number file client f answer) (sym is.1) (
+        is.2.0,
+        subst (λ fault. IsMoveRefused fault answer) (sym is.2.1) (refused_too answer right),
+      )
 
   own_replies : (first : Next) (answer : Answer) (taken : Desk) → IsCommandTaken old client first taken →
       IsClientAnswered taken client new → IsReplyTo number file client (asked first) answer →
@@ -90,18 +109,19 @@ module _ (number client : ℕ) (file : FileContents) (ticks : ℕ) (view : View)
       wide : Widens view then
       wide = service_widens view after service within uses
 
-      go : (b : Bool) → HasDeskIf client delta b view old commands →
+      go : (b : Bool) → HasDeskIf client number file b view old commands →
           HasStepped number client file b then (service_frames service) new commands
-      go true gone = absurd (none_taken client delta (connection_of old client) (connection_of taken client) first is_taken.taken gone)
+      go true gone =
+          absurd (none_taken client number file (connection_of old client) (connection_of taken client) first is_taken.taken gone)
       go false has =
-          let it = taken_of client delta view (connection_of old client) (connection_of taken client) (calls_of old) commands first
+          let it = taken_of client number file view (connection_of old client) (connection_of taken client) (calls_of old) commands first
           is_taken.taken has in
           answers_first number client file then (service_frames service) new commands it.command it.rest answer it.those
           (mine_sent client answer) (inl (reply_right it.command first answer it.is_next right))
-          (none_left client delta then (connection_of new client) (calls_of new) it.rest
-          (λ i. rest_waits client delta then it.rest (waiting_on (connection_of new client)) (answered.idle.waiting ∙ it.waits))
+          (none_left client number file then (connection_of new client) (calls_of new) it.rest
+          (λ i. rest_waits client number file then it.rest (waiting_on (connection_of new client)) (answered.idle.waiting ∙ it.waits))
           (λ id call e mine. it.none id call (sym (ap (λ cs. call_under cs id) (answered.calls ∙ is_taken.calls)) ∙ e) mine)
-          (λ command rest e. it.bound) (times_wider client delta view then wide it.rest it.times))
+          (λ command rest e. it.bound) (times_wider client number file view then wide it.rest it.times))
 
   pub replies : (other : ℕ) (first : Next) (answer : Answer) → IsServiceDone ticks delta old (Service.Replies other first answer) new →
       IsReplyTo number file other (asked first) answer → UsesIds view.ids (Service.Replies other first answer) after →
@@ -128,10 +148,11 @@ module _ (number client : ℕ) (file : FileContents) (ticks : ℕ) (view : View)
 
   -- A client quits
 
-  quit_asked : (command : Passed) (first : Next) → IsNextOf view delta command first → asked first ≡ Ok ask.Quit →
+  quit_asked : (command : Passed) (first : Next) → IsNextOf view number file command first → asked first ≡ Ok ask.Quit →
       command_at command.strings ≡ Ok ask.Quit
   quit_asked command (next.Came frame) same asks = ap command_at (sym same) ∙ asks
-  quit_asked command (next.Rest deletion) is asks = absurd (cc)
+  quit_asked command (next.Rest (rests.Deletes deletion)) is asks = absurd (cc)
+  quit_asked command (next.Rest (rests.Confirms name)) is asks = absurd (cc)
 
   own_quits : (first : Next) (taken : Desk) → asked first ≡ Ok ask.Quit → IsCommandTaken old client first taken →
       HasQuit taken client new → UsesIds view.ids (Service.Quits client) after → Step (Service.Quits client)
@@ -143,18 +164,19 @@ module _ (number client : ℕ) (file : FileContents) (ticks : ℕ) (view : View)
       wide : Widens view then
       wide = service_widens view after (Service.Quits client) within uses
 
-      go : (b : Bool) → HasDeskIf client delta b view old commands →
+      go : (b : Bool) → HasDeskIf client number file b view old commands →
           HasStepped number client file b then (service_frames (Service.Quits client)) new commands
-      go true gone = absurd (none_taken client delta (connection_of old client) (connection_of taken client) first is_taken.taken gone)
+      go true gone =
+          absurd (none_taken client number file (connection_of old client) (connection_of taken client) first is_taken.taken gone)
       go false has =
-          let it = taken_of client delta view (connection_of old client) (connection_of taken client) (calls_of old) commands first
+          let it = taken_of client number file view (connection_of old client) (connection_of taken client) (calls_of old) commands first
           is_taken.taken has in
           answers_first number client file then (service_frames (Service.Quits client)) new commands it.command it.rest answers.Ok it.those
           (mine_sent client answers.Ok) (inr (inl (quit_asked it.command first it.is_next asks, refl)))
-          (none_left client delta then (connection_of new client) (calls_of new) it.rest
+          (none_left client number file then (connection_of new client) (calls_of new) it.rest
           (λ i. absurd (let wrong : Quit ≡ Idle = sym quit.state ∙ i in cc))
           (λ id call e mine. it.none id call (sym (ap (λ cs. call_under cs id) (quit.calls ∙ is_taken.calls)) ∙ e) mine)
-          (λ command rest e. it.bound) (times_wider client delta view then wide it.rest it.times))
+          (λ command rest e. it.bound) (times_wider client number file view then wide it.rest it.times))
 
   pub quits : (other : ℕ) → IsServiceDone ticks delta old (Service.Quits other) new → UsesIds view.ids (Service.Quits other) after →
       Step (Service.Quits other)

@@ -4,6 +4,7 @@ use Rattle.std.proofs.Common.{refl, sym, subst, ap, ◌∙◌}
 use Rattle.std.specs.Prelude.{nat_eq}
 use Rattle.std.proofs.lemmas.Option.{same_Some}
 use Rattle.indexmap.specs.IndexMap.{get}
+use Rattle.cluster_file.specs.File.{FileContents}
 use Rattle.node.specs.Anew.{CarriesOutAll}
 use Rattle.node.specs.Recovering.{CarriesOutCalls, ClosesCall, ClosesTaken, HasCallUnder, KeepsCalls}
 use Rattle.node.specs.declared.node.Node.{Node}
@@ -83,11 +84,11 @@ idle_empty (Some connection) none idle = go connection.state connection.waiting.
     go Quit waiting none idle = absurd (cc)
 
 -- a node that has started, from a new one
-pub started_desk : (client : ℕ) (delta : Option ℕ) (view : View) (new copy after : Node) (entries : List Strings) →
+pub started_desk : (client number : ℕ) (file : FileContents) (view : View) (new copy after : Node) (entries : List Strings) →
     NoneWaits new.desk.clients [] → new.desk.calls.entries ≡ [] → CarriesOutAll new entries copy → after.desk ≡ copy.desk →
-    HasCommands client delta view (connection_of after.desk client) (calls_of after.desk) []
-started_desk client delta view new copy after entries waits empty carried desk =
-    none_left client delta view (connection_of after.desk client) (calls_of after.desk) []
+    HasCommands client number file view (connection_of after.desk client) (calls_of after.desk) []
+started_desk client number file view new copy after entries waits empty carried desk =
+    none_left client number file view (connection_of after.desk client) (calls_of after.desk) []
     (idle_empty (connection_of after.desk client) (subst (λ (cs : Connections). has_next (get nat_eq cs.by_number client) ≡ true → ⊥)
     (sym clients) (λ has. waits client has)))
     (λ id call e mine. absurd (let wrong : None ≡ Some client =

@@ -38,7 +38,7 @@ pub record IsTalk (number client : ℕ) (file : FileContents) (ids : CallIds) (s
       × AreWaiting number client file seen ids seen answers middle left
   pub named : (own : FileContents) → talk.file ≡ Some own → file ≡ own
   pub has : (node : Node) → running ≡ Some node →
-      HasDeskIf client file.fixed.delta talk.ended (view_at seen answers ids) node.desk left
+      HasDeskIf client number file talk.ended (view_at seen answers ids) node.desk left
 
 -- the same of all connections of a process
 pub record AreTalks (number : ℕ) (seen : List Notice) (running : Option Node) (answers : List WaitingAnswers)
@@ -60,11 +60,11 @@ told_wider seen told now ids among = record {
   given = λ id is. is;
 }
 
-pub desk_wider : (client : ℕ) (delta : Option ℕ) (ended : Bool) (old new : View) (node : Node) (left : List Passed) → Widens old new →
-    HasDeskIf client delta ended old node.desk left → HasDeskIf client delta ended new node.desk left
-desk_wider client delta ended old new node left wide has =
-    kept_if client delta ended old new (connection_of node.desk client) (calls_of node.desk) (calls_of node.desk) left wide
-    (no_more_same client delta (calls_of node.desk)) has
+pub desk_wider : (client number : ℕ) (file : FileContents) (ended : Bool) (old new : View) (node : Node) (left : List Passed) →
+    Widens old new → HasDeskIf client number file ended old node.desk left → HasDeskIf client number file ended new node.desk left
+desk_wider client number file ended old new node left wide has =
+    kept_if client number file ended old new (connection_of node.desk client) (calls_of node.desk) (calls_of node.desk) left wide
+    (no_more_same client (calls_of node.desk)) has
 
 module _ (number : ℕ) (seen : List Notice) (running : Option Node) (answers : List WaitingAnswers) (talks : ℕ → Talk)
     (is : AreTalks number seen running answers talks) where
@@ -91,7 +91,7 @@ module _ (number : ℕ) (seen : List Notice) (running : Option Node) (answers : 
           waiting_wider number client is.file seen more is.ids is.ids (λ id given. given) fresh seen (seen ++ more)
               (λ notice among. among_first seen more notice among) answers known.0 talk.left known.2,
         ));
-        has = λ node e. desk_wider client is.file.fixed.delta (talks client).ended (view_at seen answers is.ids)
+        has = λ node e. desk_wider client number is.file (talks client).ended (view_at seen answers is.ids)
             (view_at (seen ++ more) answers is.ids) node talk.left
             (wider (all_told seen answers) (all_told (seen ++ more) answers)
             (all_wider seen (seen ++ more) (λ notice among. among_first seen more notice among) answers))
@@ -115,9 +115,9 @@ module _ (number : ℕ) (seen : List Notice) (running : Option Node) (answers : 
       left = talk.left;
       named = talk.named;
       replied = talk.replied;
-      has = λ other e. subst (λ (n : Node). HasDeskIf client is.file.fixed.delta (talks client).ended (view_at seen answers is.ids) n.desk
+      has = λ other e. subst (λ (n : Node). HasDeskIf client number is.file (talks client).ended (view_at seen answers is.ids) n.desk
           talk.left) (same_Some after other e)
-          (subst₂ (λ at cs. HasCommandsIf client is.file.fixed.delta (talks client).ended (view_at seen answers is.ids) at cs talk.left)
+          (subst₂ (λ at cs. HasCommandsIf client number is.file (talks client).ended (view_at seen answers is.ids) at cs talk.left)
           (sym (ap (λ (c : Connections). get nat_eq c.by_number client) clients)) (sym (ap (λ cs id. call_under cs id) calls))
           (talk.has node runs));
     });
@@ -185,7 +185,7 @@ talks_told number seen running first rest talks only is = record {
       waiting_wider number client is.file seen first.told is.ids is.ids (λ id given. given) fresh (seen ++ first.told) (seen ++ first.told)
           (λ notice among. among) rest known.2.0 talk.left known.2.2,
     ));
-    has = λ node e. desk_wider client is.file.fixed.delta (talks client).ended (view_at seen (first ∷ rest) is.ids)
+    has = λ node e. desk_wider client number is.file (talks client).ended (view_at seen (first ∷ rest) is.ids)
         (view_at (seen ++ first.told) rest is.ids) node talk.left (wide client (all_told (seen ++ first.told) rest)) (talk.has node e);
   });
 }

@@ -3,7 +3,6 @@ use Rattle.std.proofs.Common.{◌≡◌, ℕ, false, List, [], ◌∷◌, ◌++�
 use Rattle.std.proofs.Common.{refl, sym, subst, subst₂, ap, ◌∙◌, arith}
 use Rattle.std.specs.List.{filter}
 use Rattle.std.proofs.lemmas.Option.{same_Some}
-use Rattle.cluster_file.specs.File.{FileContents}
 use Rattle.deeds.specs.CallId.{CallIds, HasRanges}
 use Rattle.deeds.specs.Deeds.{Notice}
 use Rattle.deeds.specs.Ids.{IsLater}
@@ -68,14 +67,14 @@ talks_handled number seen node after answers talks frame effects behind handles 
           (subst (λ v. AreReplied number client is.file v (answers_to client last.frames)
           ((is.each client).left ++ come_in client (length seen) (arrival_at frame)) step.left) then_is (step.replied small))),
     ));
-    has = λ other e. subst (λ (n : Node). HasDeskIf client is.file.fixed.delta
+    has = λ other e. subst (λ (n : Node). HasDeskIf client number is.file
         (heard_talk client (length seen) (arrival_at frame) (talks client)).ended (view_at now (answers ++ last ∷ []) ids) n.desk step.left)
         (same_Some after other e)
-        (subst (λ ns. HasDeskIf client is.file.fixed.delta (heard_talk client (length seen) (arrival_at frame) (talks client)).ended
+        (subst (λ ns. HasDeskIf client number is.file (heard_talk client (length seen) (arrival_at frame) (talks client)).ended
         (record { seen = now; told = ns; ids = ids }) after.desk step.left) (sym (all_pushed now answers last))
-        (desk_wider client is.file.fixed.delta (heard_talk client (length seen) (arrival_at frame) (talks client)).ended then
+        (desk_wider client number is.file (heard_talk client (length seen) (arrival_at frame) (talks client)).ended then
         (record { seen = now; told = all_told now answers ++ last.told; ids = ids }) after step.left wide
-        (subst (λ v. HasDeskIf client is.file.fixed.delta (heard_talk client (length seen) (arrival_at frame) (talks client)).ended v
+        (subst (λ v. HasDeskIf client number is.file (heard_talk client (length seen) (arrival_at frame) (talks client)).ended v
         after.desk step.left) then_is step.has)));
   });
 }
@@ -112,8 +111,8 @@ talks_handled number seen node after answers talks frame effects behind handles 
         (ap (λ (i : CallIds). i.node) same_ids ∙ is.own) (is.runs node refl).1
         (node_handled node after frame effects (view_at seen answers is.ids) (length seen) talks (λ client. (is.each client).left)
         handles (sym same_ids) within (omega arith) unused
-        (λ client. subst (λ (f : FileContents). HasDeskIf client f.fixed.delta (talks client).ended (view_at seen answers is.ids) node.desk
-        (is.each client).left) (sym (is.runs node refl).1) ((is.each client).has node refl)))
+        (λ client. subst₂ (λ n f. HasDeskIf client n f (talks client).ended (view_at seen answers is.ids) node.desk (is.each client).left)
+        (sym (ap (λ (i : CallIds). i.node) same_ids ∙ is.own)) (sym (is.runs node refl).1) ((is.each client).has node refl)))
 
     then : View
     then = record { seen = now; told = all_told seen answers ++ last.told; ids = ids }

@@ -52,9 +52,9 @@ own_event names processes (ProcessEvent.Starts number read anew new copy after) 
     left = [];
     named = λ own e. same_Some after.keeper.file own e;
     replied = λ small. ([], refl, refl);
-    has = λ node e. subst (λ (n : Node). HasDeskIf client after.keeper.file.fixed.delta false
+    has = λ node e. subst (λ (n : Node). HasDeskIf client number after.keeper.file false
         (view_at (processes.seen ++ []) [] after.keeper.ids) n.desk []) (same_Some after node e)
-        (started_desk client after.keeper.file.fixed.delta (view_at (processes.seen ++ []) [] after.keeper.ids) new copy after read of
+        (started_desk client number after.keeper.file (view_at (processes.seen ++ []) [] after.keeper.ids) new copy after read of
         may.is_new.calls may.recovered may.desk);
   };
 }

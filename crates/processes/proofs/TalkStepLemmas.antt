@@ -61,7 +61,7 @@ module _ (number : ℕ) (file : FileContents) (ticks : ℕ) where
   pub quiet_services : (services : List Service) (ended : ℕ → Bool) (view : View) (after : CallIds) (old new : Desk)
       (commands : ℕ → List Passed) → AllByRecursion IsQuiet services → AreServicesDone ticks delta old services new →
       AllByRecursion (IsRight number file) services → UseIds view.ids services after → HasRanges view.ids →
-      ((client : ℕ) → HasDeskIf client delta (ended client) view old (commands client)) →
+      ((client : ℕ) → HasDeskIf client number file (ended client) view old (commands client)) →
       HaveStepped ended view services after new commands
   quiet_services [] ended view after old new commands quiet done right uses within each = record {
     then = view;
@@ -72,7 +72,7 @@ module _ (number : ℕ) (file : FileContents) (ticks : ℕ) where
     each = λ client. record {
       left = commands client;
       replied = λ small. refl;
-      has = subst (λ (d : Desk). HasDeskIf client delta (ended client) view d (commands client)) (sym done) (each client);
+      has = subst (λ (d : Desk). HasDeskIf client number file (ended client) view d (commands client)) (sym done) (each client);
     };
   }
   quiet_services (service ∷ services) ended view after old new commands quiet done right uses within each =
@@ -88,7 +88,7 @@ module _ (number : ℕ) (file : FileContents) (ticks : ℕ) where
       first : (client : ℕ) → HasStepped number client file (ended client) middle (service_frames service) done.0 (commands client)
       first client =
           quiet_step number client file ticks view uses.0 old done.0 (ended client) (commands client) within
-          (λ other reaches. reach_bound other delta (ended other) view old (commands other) (each other) reaches) (each client)
+          (λ other reaches. reach_bound other number file (ended other) view old (commands other) (each other) reaches) (each client)
           service quiet.0 done.1 right.0 uses.1
 
       together : HaveStepped ended middle services after new (λ client. (first client).left) →
@@ -113,24 +113,24 @@ module _ (number : ℕ) (file : FileContents) (ticks : ℕ) where
 
 -- A command comes, or a connection ends
 
-same_less : (client : ℕ) (kept : Option ℕ) (old new : Desk) → new.calls ≡ old.calls → HasNoMore client kept (calls_of old) (calls_of new)
-same_less client kept old new same id call e mine = (call, sym (ap (λ cs. call_under cs id) same) ∙ e, refl)
+same_less : (client : ℕ) (old new : Desk) → new.calls ≡ old.calls → HasNoMore client (calls_of old) (calls_of new)
+same_less client old new same id call e mine = (call, sym (ap (λ cs. call_under cs id) same) ∙ e, refl)
 
-module _ (client : ℕ) (kept : Option ℕ) (view : View) (old new : Desk) (other : ℕ) (commands : List Passed) where
+module _ (client number : ℕ) (file : FileContents) (view : View) (old new : Desk) (other : ℕ) (commands : List Passed) where
   -- nothing changes for another client
   pub elsewhere : (ended : Bool) → (other ≡ client → ⊥) →
       ((n : ℕ) → n ≢ other → connection_of new n ≡ connection_of old n) → new.calls ≡ old.calls →
-      HasDeskIf client kept ended view old commands → HasDeskIf client kept ended view new commands
+      HasDeskIf client number file ended view old commands → HasDeskIf client number file ended view new commands
   elsewhere ended differ others calls has =
-      subst (λ at. HasCommandsIf client kept ended view at (calls_of new) commands)
+      subst (λ at. HasCommandsIf client number file ended view at (calls_of new) commands)
       (sym (others client (λ same. differ (sym same))))
-      (kept_if client kept ended view view (connection_of old client) (calls_of old) (calls_of new) commands (widens_same view)
-      (same_less client kept old new calls) has)
+      (kept_if client number file ended view view (connection_of old client) (calls_of old) (calls_of new) commands (widens_same view)
+      (same_less client old new calls) has)
 
   -- a command has come in on the client's connection, which has not ended
   pub arrived : (command : Strings) (time : ℕ) → IsArrived old client command new → client < 2 ^ 64 → time ≤ length view.seen →
-      HasDeskIf client kept false view old commands →
-      HasDeskIf client kept false view new (commands ++ record { strings = command; time = time } ∷ [])
+      HasDeskIf client number file false view old commands →
+      HasDeskIf client number file false view new (commands ++ record { strings = command; time = time } ∷ [])
   arrived command time is small early has =
-      commands_more client kept view (connection_of old client) (connection_of new client) (calls_of old) (calls_of new) commands
-      (record { strings = command; time = time }) is.state is.waiting (same_less client kept old new is.calls) small early has
+      commands_more client number file view (connection_of old client) (connection_of new client) (calls_of old) (calls_of new) commands
+      (record { strings = command; time = time }) is.state is.waiting (same_less client old new is.calls) small early has
