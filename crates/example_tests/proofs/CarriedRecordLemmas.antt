@@ -74,7 +74,7 @@ records_carried (it ∷ records) plain old new recovers objects same name =
 -- What the entries record
 
 abbrev pub letter_with : Message → Letter
-letter_with message = record { layout = three_nodes; next = None; message = message }
+letter_with message = record { layout = three_nodes; next = None; start = None; message = message }
 
 abbrev pub named_message : (name : List ℕ) → Message → NodeMessage
 named_message name message =
@@ -119,6 +119,7 @@ keep_is member small = record {
   body = ((omega arith, omega arith), (omega arith, omega arith));
   named = refl;
   next = tt;
+  start = tt;
 }
 
 finalize_is : IsMessage (named_message (97 ∷ []) finalize_message)
@@ -133,6 +134,7 @@ finalize_is = record {
   body = (omega arith, omega arith);
   named = refl;
   next = tt;
+  start = tt;
 }
 
 other_is : IsMessage (named_message (98 ∷ []) other_message)
@@ -147,6 +149,7 @@ other_is = record {
   body = ((omega arith, omega arith), (omega arith, omega arith));
   named = refl;
   next = tt;
+  start = tt;
 }
 
 -- the records of the log, of which so many entries behind the synced ones are left

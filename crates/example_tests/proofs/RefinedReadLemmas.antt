@@ -10,13 +10,16 @@ use Rattle.refinement.specs.Refined.{if_replied}
 use Rattle.tag.specs.Tag.{opening_tag}
 use Rattle.layout.specs.Layout.{Layout}
 use Rattle.bank.specs.Bank.{opened_bank}
+use Rattle.bank.specs.declared.kind.Kind.TheVariants.{Next}
 use Rattle.bank.specs.declared.request.Request.TheVariants as request
 use Rattle.bank.specs.declared.status.Status.TheVariants.{Unset}
 use Rattle.local_object.specs.ChangedBanks.{bank_after, changes_bank}
 use Rattle.local_object.specs.Events.{reply_letters}
 use Rattle.local_object.specs.Outcomes.{learnt_from}
 use Rattle.local_object.specs.KeptBanks.{kept_reply}
-use Rattle.local_object.specs.Local.{LocalObject, bank_or_opened}
+use Rattle.letter.specs.declared.letter.Letter.{Letter}
+use Rattle.letter.specs.declared.start.Start.{Start}
+use Rattle.local_object.specs.Local.{LocalObject, bank_or_opened, told_start}
 use Rattle.local_object.specs.declared.kept_bank.KeptBank.TheVariants as kept
 use Rattle.mail.specs.declared.message.Body.TheVariants as body
 use Rattle.refinement.specs.Systems.{MayRunIn, System, system_run}
@@ -97,13 +100,18 @@ settles = (
   ),
 )
 
+-- the reply that the bank's pointer is unset, from a node that tells this start
+abbrev unset_with : Option Start → Option Letter
+unset_with start =
+    Some (record (about 3 4 (body.Reply Next (record { step = 0; answer = answer.Pointer Unset }))) { start = start })
+
 -- whether or not node 0 keeps a bank after the fetch, it replies that the bank's pointer is unset
-still_unset : (local : LocalObject) (keeps : Bool) →
+still_unset : (local : LocalObject) (keeps : Bool) → told_start local ≡ None →
     slice_get (reply_letters local (about 3 4 (body.Request request.Next))
     (kept_reply (bank_or_opened (cond keeps (Some (kept.Open (bank_after (opened_bank 0 None 0) (request.Fetch opening_tag)))) None)
     0 None) request.Next)) 0 ≡ pointer_told 3 4 Unset
-still_unset local true = refl
-still_unset local false = refl
+still_unset local true none = ap unset_with none
+still_unset local false none = ap unset_with none
 
 -- its reply, and the entry of the read if node 0 makes this reply, or none
 pub still_replies : (keeps : Bool) →
@@ -134,7 +142,7 @@ ends = (
   (
     (((_, refl), (_, refl, refl)), (6, refl)),
     (
-      ((_, _, refl), (7, still_unset answers (changes_bank (opened_bank 0 None 0) (request.Fetch opening_tag)))),
+      ((_, _, refl), (7, still_unset answers (changes_bank (opened_bank 0 None 0) (request.Fetch opening_tag)) refl)),
       (((_, refl, ready _ refl refl, refl), tt), tt),
     ),
   ),

@@ -34,11 +34,12 @@ one_file = record { delta = None; mover = 0; first = one_node }
 abbrev pub start : System
 start = opened_system (λ node. one_file)
 
--- a letter between a phase of a call and node 0
+-- a letter between a phase of a call and node 0, from a node whose start is position 0
 abbrev pub about : (call phase : ℕ) → Body → Letter
 about call phase said = record {
   layout = one_node;
   next = None;
+  start = None;
   message = record { call = call; phase = phase; position = 0; member = 0; body = said };
 }
 

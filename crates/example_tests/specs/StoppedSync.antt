@@ -46,7 +46,10 @@ some_digest = replicate 16 0
 abbrev pub served_entry : (name : List ℕ) → Message → Strings
 served_entry name message = record_strings (record_of.Serve (strings_of (record {
   digest = some_digest;
-  named = record { name = name; letter = record { layout = three_nodes; next = None; message = message } };
+  named = record {
+    name = name;
+    letter = record { layout = three_nodes; next = None; start = None; message = message };
+  };
 })))
 
 -- whether the message is a request of a write by which a bank changes
