@@ -16,6 +16,7 @@ mod kills;
 mod lock;
 mod opening;
 mod program;
+mod serving;
 mod system;
 
 fn main(rt: HostRuntime) -> ExitCode {

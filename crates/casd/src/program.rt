@@ -1,25 +1,24 @@
 //! The program, generic over its input and its writers.
-ghost use Rattle.std.specs.Prelude.{◌≡◌, ℕ, List, IsTrue, OnOk, map, string_bytes};
-ghost use Rattle.std.specs.Io.Buffered.{reader_remaining};
+ghost use Rattle.std.specs.Prelude.{◌≡◌, ℕ, List, IsTrue, map, string_bytes};
 ghost use Rattle.cluster_file.specs.File.{IsLawfulFile};
 ghost use Rattle.deeds.specs.Kept.{FileOfNames};
 ghost use Rattle.processes.specs.Events.{IsNewNode};
 ghost use Rattle.words.specs.Word.{Word};
 ghost use Rattle.casd.specs.Ending.{EndsBy, EndsForLog, HasRunNode, Prints, RunsNode};
 ghost use Rattle.casd.specs.Fault.{TellsFailedLog, status_of};
-ghost use Rattle.casd.specs.Program.{HasRun, HasServed, HasServedOnce};
+ghost use Rattle.casd.specs.Program.{HasRun};
 ghost use Rattle.casd.specs.Request.{Spells};
 
 use crate::arguments::{Request, read_request};
 use crate::fault::Fault;
 use crate::files::{GivenFiles, open_log, read_file};
-use crate::opening::{start_with, write_anew};
+use crate::opening::start_with;
+use crate::serving::serve;
 use cluster_file::ClusterFile;
 use node::Node;
-use node_store::{LogEnd, RewritableLog, ServeError, StoredLog, serve_frames};
+use node_store::StoredLog;
 use std::alloc::Global;
-use std::io;
-use std::io::{BufReader, ErrorKind, Read, Write};
+use std::io::{BufReader, Read, Write};
 
 // The size of the buffer of the input, in bytes: that of a pipe.
 const INPUT_BUFFER: usize = 65_536;
@@ -175,78 +174,5 @@ pub fn start_and_serve<L: StoredLog, I: Read + Drop, O: Write, E: Write>(
     match BufReader::with_capacity(alloc, INPUT_BUFFER, input) {
         Ok(mut input) => serve(alloc, node, &mut input, output, log, end, err),
         Err(_) => Err(Fault::NoMemory),
-    }
-}
-
-// The node handles the frames of the input, until it ends. Whenever the log has grown much, which ends there at first,
-// it is written anew, if that is worth it and the node may do so then.
-fn serve<L: RewritableLog, I: Read + Drop, O: Write, E: Write>(
-    alloc: Global,
-    node: &mut Node,
-    input: &mut BufReader<I>,
-    output: &mut O,
-    log: &mut L,
-    end: LogEnd,
-    err: &mut E,
-) -> Result<(), Fault>
-    requires synced { L.kept log.old ≡ L.written log.old }
-    requires sound { IsTrue (L.sound log.old) }
-    ensures serves { HasServed
-        (record {
-          length = end.length;
-          chain = end.chain.state;
-          machine = node.old;
-          left = reader_remaining I.remaining input.old;
-          kept = L.kept log.old;
-          held = O.contents output.old;
-        })
-        node.new (reader_remaining I.remaining input.new) (L.kept log.new) (O.contents output.new) result }
-    ensures failure { TellsFailedLog (L.failed log.old) (L.failed log.new) (status_of result) }
-{
-    let mut end = end;
-    for _ in 0..u64::MAX {
-        match serve_once(alloc, node, input, output, log, end, err) {
-            Ok(Some(now)) => end = now,
-            Ok(None) => return Ok(()),
-            Err(fault) => return Err(fault),
-        }
-    }
-    Err(Fault::Ended(ServeError::NoInput(io::Error::from(ErrorKind::TimedOut))))
-}
-
-// The same until the log has grown and perhaps was written anew. Returns where it ends then, or none if the input has
-// ended.
-fn serve_once<L: RewritableLog, I: Read + Drop, O: Write, E: Write>(
-    alloc: Global,
-    node: &mut Node,
-    input: &mut BufReader<I>,
-    output: &mut O,
-    log: &mut L,
-    end: LogEnd,
-    err: &mut E,
-) -> Result<Option<LogEnd>, Fault>
-    requires synced { L.kept log.old ≡ L.written log.old }
-    requires sound { IsTrue (L.sound log.old) }
-    ensures serves { HasServedOnce
-        (record {
-          length = end.length;
-          chain = end.chain.state;
-          machine = node.old;
-          left = reader_remaining I.remaining input.old;
-          kept = L.kept log.old;
-          held = O.contents output.old;
-        })
-        node.new (reader_remaining I.remaining input.new) (L.kept log.new) (O.contents output.new) result }
-    ensures synced { OnOk result (L.kept log.new ≡ L.written log.new) }
-    ensures sound { OnOk result (IsTrue (L.sound log.new)) }
-    ensures failure { TellsFailedLog (L.failed log.old) (L.failed log.new) (status_of result) }
-{
-    match serve_frames(alloc, node, input, output, log, end, err) {
-        Ok(Some(now)) => match write_anew(alloc, log, node, now, err) {
-            Ok(then) => Ok(Some(then)),
-            Err(fault) => Err(fault),
-        },
-        Ok(None) => Ok(None),
-        Err(error) => Err(Fault::Ended(error)),
     }
 }

@@ -4,7 +4,7 @@ use Rattle.std.proofs.Common.{◌≡◌, ℕ}
 use Rattle.std.specs.Prelude.{IsTrue}
 use Rattle.std.specs.Io.Buffered.{reader_remaining}
 use Rattle.casd.proofs.SessionLemmas.{HasGoneOn, at}
-use Rattle.casd.proofs.program.serve.Given as goal
+use Rattle.casd.proofs.serving.serve.Given as goal
 
 abbrev pub invariant-loop : goal.invariant-loop
 invariant-loop g l =

@@ -3,7 +3,7 @@ use Rattle.std.specs.Io.Buffered.{reader_remaining}
 use Rattle.node_store.specs.declared.end.LogEnd.{LogEnd}
 use Rattle.casd.proofs.LogFaultLemmas.{told_ended, told_same, told_then}
 use Rattle.casd.proofs.SessionLemmas.{at, served_badly, served_half, served_last, served_on}
-use Rattle.casd.proofs.program.serve_once.Goals as goal
+use Rattle.casd.proofs.serving.serve_once.Goals as goal
 
 pub returns-in-Ok-clause-serves : goal.returns-in-Ok-clause-serves
 returns-in-Ok-clause-serves g c =

@@ -3,7 +3,7 @@ use Rattle.std.specs.Io.Buffered.{reader_remaining}
 use Rattle.node_store.specs.declared.stop.ServeError.TheVariants.{NoInput}
 use Rattle.casd.proofs.LogFaultLemmas.{told_going, told_since, told_then}
 use Rattle.casd.proofs.SessionLemmas.{at, broken, ended, gone_on, tired}
-use Rattle.casd.proofs.program.serve.Goals as goal
+use Rattle.casd.proofs.serving.serve.Goals as goal
 
 pub returns-in-Ok-None-clause-serves : goal.returns-in-Ok-None-clause-serves
 returns-in-Ok-None-clause-serves g c =
