@@ -29,6 +29,8 @@ mod memory;
 #[cfg(test)]
 mod messages;
 #[cfg(test)]
+mod moves;
+#[cfg(test)]
 mod names;
 #[cfg(test)]
 mod objects;
@@ -38,3 +40,5 @@ mod order;
 mod pair;
 #[cfg(test)]
 mod rounds;
+#[cfg(test)]
+mod silent;

@@ -4,4 +4,5 @@ mod faults;
 mod heads;
 mod replies;
 mod samples;
+mod starts;
 mod writing;

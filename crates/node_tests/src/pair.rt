@@ -4,6 +4,7 @@ use bytes::Bytes;
 use frames::Frame;
 use node::Node;
 use node_effects::{Effects, Machine, Output};
+use node_messages::read_message;
 use std::alloc::Global;
 use std::process::Abort;
 
@@ -58,16 +59,21 @@ fn is_sent(output: &Output, to: &[u8]) -> bool {
     }
 }
 
-// The strings of a frame that is to be sent.
-fn strings_of(output: &Output) -> &[Bytes] {
+/// Returns the strings of a frame that is to be sent.
+pub(crate) fn strings_of(output: &Output) -> &[Bytes] {
     match output {
         Output::Send(frame) => frame.strings(),
         Output::Log(_) => &[],
     }
 }
 
-// The frame with another address.
-fn readdressed(rt: &impl Abort, alloc: Global, output: &Output, from: &'static str) -> Frame {
+/// Returns the frame with another address.
+pub(crate) fn readdressed(
+    rt: &impl Abort,
+    alloc: Global,
+    output: &Output,
+    from: &'static str,
+) -> Frame {
     let mut strings = Vec::new(alloc);
     push_words(rt, &mut strings, from);
     push_rest(rt, &mut strings, strings_of(output));
@@ -78,6 +84,18 @@ fn push_rest(rt: &impl Abort, strings: &mut Vec<Bytes>, sent: &[Bytes]) {
     for string in sent.iter().skip(1) {
         let shared = string.clone().expect(rt, "one more owner");
         strings.push(shared).expect(rt, "memory");
+    }
+}
+
+// The position of the start that a message tells which is to be sent, if it tells one.
+fn start_in(rt: &impl Abort, alloc: Global, output: &Output) -> Option<u32> {
+    let mut strings = Vec::new(alloc);
+    push_rest(rt, &mut strings, strings_of(output));
+    let frame = Frame::new(strings).expect(rt, "a frame");
+    let message = read_message(alloc, &frame).expect(rt, "a message");
+    match &message.named.letter.start {
+        Some(start) => Some(start.position),
+        None => None,
     }
 }
 
@@ -107,6 +125,16 @@ impl Pair {
             .outputs
             .iter()
             .any(|output| is_sent(output, b"node 2"))
+    }
+
+    /// The position of the start that the first node's request tells the second one, if it tells one.
+    pub(crate) fn told_start(&self, rt: &impl Abort, alloc: Global) -> Option<u32> {
+        for output in &self.last.outputs {
+            if is_sent(output, b"node 2") {
+                return start_in(rt, alloc, output);
+            }
+        }
+        None
     }
 
     /// The second node replies until the first one tells clients something, or has no more requests, and at most so

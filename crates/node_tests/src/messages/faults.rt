@@ -1,5 +1,7 @@
 //! Frames that are no messages, and why.
-use super::samples::{ASK_NEXT, NEXT, PIECE, STEP, Sample, TAG, head, sample_strings, strings};
+use super::samples::{
+    ASK_NEXT, NEXT, PIECE, START, STEP, Sample, TAG, head, sample_strings, strings,
+};
 use bytes::Bytes;
 use frames::Frame;
 use node_messages::{Fault, MessageError, read_message};
@@ -36,7 +38,7 @@ const NONE_FETCHED: Sample = Sample {
     ..ASK_NEXT
 };
 
-static ROWS: [Row; 19] = [
+static ROWS: [Row; 21] = [
     Row(
         Sample {
             codes: [0, 1, 3],
@@ -56,7 +58,7 @@ static ROWS: [Row; 19] = [
             codes: [0, 1, 0],
             ..SPREAD
         },
-        Fault::LongHead,
+        Fault::BadLayout,
     ),
     Row(
         Sample {
@@ -84,7 +86,7 @@ static ROWS: [Row; 19] = [
             next: &[1, 1, 9, 0],
             ..SPREAD
         },
-        Fault::LongHead,
+        Fault::BadLayout,
     ),
     Row(
         Sample {
@@ -99,7 +101,7 @@ static ROWS: [Row; 19] = [
             next: NEXT,
             ..SPREAD_DONE
         },
-        Fault::LongHead,
+        Fault::BadLayout,
     ),
     Row(
         Sample {
@@ -107,6 +109,20 @@ static ROWS: [Row; 19] = [
             ..SPREAD_DONE
         },
         Fault::UnusedPlace,
+    ),
+    Row(
+        Sample {
+            start: &[0, 0, 0, 5, 3, 2, 7, 8, 9, 0],
+            ..SPREAD
+        },
+        Fault::LongHead,
+    ),
+    Row(
+        Sample {
+            start: &[0, 0, 0, 5, 3, 2, 7, 8, 8],
+            ..SPREAD
+        },
+        Fault::BadLayout,
     ),
     Row(
         Sample {
@@ -214,6 +230,18 @@ fn a_head_that_is_cut(rt: HostRuntime) {
     }
     for len in 67..77usize {
         assert_cut(&rt, rt.alloc(), &SPREAD, len, Fault::BadLayout);
+    }
+}
+
+/// A head that is cut right before the start is one that tells none.
+#[test]
+fn a_start_that_is_cut(rt: HostRuntime) {
+    let sample = Sample {
+        start: START,
+        ..SPREAD
+    };
+    for len in 78..86usize {
+        assert_cut(&rt, rt.alloc(), &sample, len, Fault::BadLayout);
     }
 }
 

@@ -6,10 +6,11 @@ use node_messages::Fault;
 /// The place of a byte in the head of `ASK_NEXT`, another byte, and the fault.
 struct Change(usize, u8, Fault);
 
-static CHANGES: [Change; 24] = [
+static CHANGES: [Change; 25] = [
     Change(0, 0, Fault::OtherForm),
     Change(0, 2, Fault::OtherForm),
-    Change(0, 4, Fault::OtherForm),
+    Change(0, 3, Fault::OtherForm),
+    Change(0, 5, Fault::OtherForm),
     Change(0, b'0', Fault::OtherForm),
     Change(17, 4, Fault::NoMember),
     Change(17, 255, Fault::NoMember),
@@ -27,7 +28,7 @@ static CHANGES: [Change; 24] = [
     Change(46, 1, Fault::UnusedPlace),
     Change(50, 1, Fault::UnusedPlace),
     Change(67, 5, Fault::BadLayout),
-    Change(67, 3, Fault::LongHead),
+    Change(67, 3, Fault::BadLayout),
     Change(68, 0, Fault::BadLayout),
     Change(68, 5, Fault::BadLayout),
     Change(69, 6, Fault::BadLayout),

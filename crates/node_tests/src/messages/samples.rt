@@ -18,12 +18,14 @@ pub(crate) struct Sample {
     pub(crate) piece: [u8; 6],
     /// The bytes of the next layout.
     pub(crate) next: &'static [u8],
+    /// The bytes of the start.
+    pub(crate) start: &'static [u8],
     /// The bytes of the piece.
     pub(crate) bytes: Option<&'static [u8]>,
 }
 
-/// Form 3, call 7, phase 2, position 1 and member 3.
-const FRONT: [u8; 18] = [3, 0, 0, 0, 0, 0, 0, 0, 7, 0, 0, 0, 2, 0, 0, 0, 1, 3];
+/// Form 4, call 7, phase 2, position 1 and member 3.
+const FRONT: [u8; 18] = [4, 0, 0, 0, 0, 0, 0, 0, 7, 0, 0, 0, 2, 0, 0, 0, 1, 3];
 
 const DIGEST: [u8; 16] = *b"0123456789abcdef";
 
@@ -34,6 +36,9 @@ const NAME: &[u8] = b"photo";
 
 /// Two members, k = 1, and the members 9 and 0.
 pub(crate) const NEXT: &[u8] = &[2, 1, 9, 0];
+
+/// The start at position 5, whose layout has three members, k = 2, and the members 7, 8 and 9.
+pub(crate) const START: &[u8] = &[0, 0, 0, 5, 3, 2, 7, 8, 9];
 
 /// The tag with the number 12 and the call 345.
 pub(crate) const TAG: [u8; 16] = [0, 0, 0, 0, 0, 0, 0, 12, 0, 0, 0, 0, 0, 0, 1, 89];
@@ -51,6 +56,7 @@ pub(crate) const ASK_NEXT: Sample = Sample {
     step: [0; 8],
     piece: [0; 6],
     next: b"",
+    start: b"",
     bytes: None,
 };
 
@@ -65,6 +71,7 @@ pub(crate) fn head<R: Abort>(rt: &R, alloc: Global, sample: &Sample) -> Vec<u8> 
     push(rt, &mut head, &DIGEST);
     push(rt, &mut head, &LAYOUT);
     push(rt, &mut head, sample.next);
+    push(rt, &mut head, sample.start);
     head
 }
 

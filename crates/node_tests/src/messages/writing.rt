@@ -30,6 +30,7 @@ fn message<R: Abort>(
     let letter = Letter {
         layout: shared_layout(rt, alloc, 2, &[3, 4, 5, 6]),
         next,
+        start: None,
         message,
     };
     let name = Bytes::from_static(name);

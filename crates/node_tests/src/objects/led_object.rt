@@ -26,6 +26,7 @@ pub(crate) fn letter(layout: SharedLayout, next: Option<SharedLayout>, request: 
     Letter {
         layout,
         next,
+        start: None,
         message: Message {
             call: 9,
             phase: 3,

@@ -71,7 +71,7 @@ fn ask_and_give_up(rt: &impl Abort, objects: &mut Objects) {
 fn ask(rt: &impl Abort, objects: &mut Objects) {
     let photo = Bytes::from_static(b"photo");
     let _sent = objects.begin_read(&photo, 1).expect(rt, "a read");
-    let again = objects.resend(&photo, 1).expect(rt, "memory");
+    let again = objects.ask_again(&photo, 1).expect(rt, "memory");
     let letter = again.first().expect(rt, "a letter");
     assert!(rt; answers(objects, &photo, letter) == [Ok(true), Ok(true), Ok(false)]);
 }

@@ -21,8 +21,6 @@ pub(crate) enum Act {
     Move(u8, &'static [u8]),
     /// Sends the letters again that were not answered.
     Resend,
-    /// Hears that calls may begin at this position, whose layout has this k and these members.
-    HearStart(u32, u8, &'static [u8]),
     /// Has the call go on at the object's start.
     ReadOn,
 }
@@ -38,20 +36,28 @@ pub(crate) struct Step {
     pub(crate) ended: &'static str,
 }
 
-/// The nodes 0 to 3, and letters that are under way, each with the node that sent it.
+/// A letter that is under way.
+#[derive(Drop)]
+struct Sent {
+    from: u8,
+    to: u8,
+    letter: Letter,
+}
+
+/// The nodes 0 to 4, and letters that are under way.
 #[derive(Drop)]
 struct Nodes {
     nodes: Vec<LocalObject>,
-    mail: VecDeque<(u8, Letter)>,
+    mail: VecDeque<Sent>,
     // Letters to this node are lost.
     down: Option<u8>,
     // The call that was answered last.
     ended: Option<Ended>,
 }
 
-/// Plays these steps at four nodes, which have the members 0, 1 and 2 first.
+/// Plays these steps at five nodes. The object has the members 0, 1 and 2 first; but node 4 takes 3, 0 and 1 for them.
 pub(crate) fn play(rt: &impl Abort, alloc: Global, steps: &[Step]) {
-    let mut nodes = four_nodes(rt, alloc);
+    let mut nodes = five_nodes(rt, alloc);
     for step in steps {
         nodes.play(rt, alloc, step);
     }
@@ -64,7 +70,7 @@ pub(crate) fn is_request(letter: &Letter) -> bool {
     }
 }
 
-fn four_nodes(rt: &impl Abort, alloc: Global) -> Nodes {
+fn five_nodes(rt: &impl Abort, alloc: Global) -> Nodes {
     let mut nodes = Nodes {
         nodes: Vec::new(alloc),
         mail: VecDeque::new(alloc),
@@ -72,14 +78,15 @@ fn four_nodes(rt: &impl Abort, alloc: Global) -> Nodes {
         ended: None,
     };
     for node in 0..4u8 {
-        nodes.add(rt, alloc, node);
+        nodes.add(rt, alloc, node, &[0, 1, 2]);
     }
+    nodes.add(rt, alloc, 4, &[3, 0, 1]);
     nodes
 }
 
 impl Nodes {
-    fn add(&mut self, rt: &impl Abort, alloc: Global, node: u8) {
-        let object = LocalObject::new(alloc, node, None, layout(rt, 2, &[0, 1, 2]));
+    fn add(&mut self, rt: &impl Abort, alloc: Global, node: u8, first: &[u8]) {
+        let object = LocalObject::new(alloc, node, None, layout(rt, 2, first));
         self.nodes
             .push(object.expect(rt, "memory"))
             .expect(rt, "memory");
@@ -92,71 +99,73 @@ impl Nodes {
     }
 
     fn play(&mut self, rt: &impl Abort, alloc: Global, step: &Step) {
-        let letters = self.act(rt, alloc, step);
-        self.send(rt, step.node, letters);
+        let letters = self.act(rt, step);
+        self.ask(rt, step.node, letters);
         self.down = step.down;
         self.run(rt);
         assert_prints(rt, alloc, &self.ended, step.ended);
     }
 
-    fn act(&mut self, rt: &impl Abort, alloc: Global, step: &Step) -> Vec<Letter> {
+    fn act(&mut self, rt: &impl Abort, step: &Step) -> Vec<Letter> {
         let node = self.node(rt, step.node);
         let letters = match step.act {
             Act::Read => node.begin_read(step.id),
             Act::Write(text) => node.begin_write(step.id, Bytes::from_static(text)),
             Act::Move(k, members) => node.begin_move(step.id, layout(rt, k, members)),
             Act::Resend => node.resend(step.id),
-            Act::HearStart(position, k, members) => {
-                let heard = node.hear_start(position, layout(rt, k, members));
-                heard.expect(rt, "memory");
-                return Vec::new(alloc);
-            }
             Act::ReadOn => node.read_on(step.id),
         };
         letters.expect(rt, "letters")
     }
 
-    fn send(&mut self, rt: &impl Abort, node: u8, letters: Vec<Letter>) {
+    // The node sends requests, each to the member that it names.
+    fn ask(&mut self, rt: &impl Abort, from: u8, letters: Vec<Letter>) {
         for letter in letters {
-            self.mail.push_back((node, letter)).expect(rt, "memory");
+            let to = member(rt, &letter);
+            self.send(rt, from, to, letter);
         }
+    }
+
+    fn send(&mut self, rt: &impl Abort, from: u8, to: u8, letter: Letter) {
+        let sent = Sent { from, to, letter };
+        self.mail.push_back(sent).expect(rt, "memory");
     }
 
     // Handles all letters in the order in which they were sent.
     fn run(&mut self, rt: &impl Abort) {
         for _ in 0..ENOUGH {
-            let Some((from, letter)) = self.mail.pop_front() else {
+            let Some(sent) = self.mail.pop_front() else {
                 return;
             };
-            self.handle(rt, from, letter);
+            self.handle(rt, sent);
         }
     }
 
-    fn handle(&mut self, rt: &impl Abort, from: u8, letter: Letter) {
-        if is_request(&letter) {
-            self.serve(rt, from, letter);
-        } else {
-            self.take(rt, from, letter);
-        }
-    }
-
-    // The member that a request names serves it.
-    fn serve(&mut self, rt: &impl Abort, from: u8, letter: Letter) {
-        let node = member(rt, &letter);
-        if self.down == Some(node) {
+    fn handle(&mut self, rt: &impl Abort, sent: Sent) {
+        let Sent { from, to, letter } = sent;
+        if self.down == Some(to) {
             return;
         }
+        if is_request(&letter) {
+            self.serve(rt, from, to, letter);
+        } else {
+            self.take(rt, to, letter);
+        }
+    }
+
+    // The node serves a request, or sends it back.
+    fn serve(&mut self, rt: &impl Abort, from: u8, node: u8, letter: Letter) {
         let reply = self.node(rt, node).serve(letter).expect(rt, "memory");
-        self.mail
-            .push_back((from, reply.expect(rt, "a reply")))
-            .expect(rt, "memory");
+        if let Some(reply) = reply {
+            self.send(rt, node, from, reply);
+        }
     }
 
     // A call of the node takes the reply.
     fn take(&mut self, rt: &impl Abort, node: u8, letter: Letter) {
         let progress = self.node(rt, node).take(letter).expect(rt, "memory");
         self.note(progress.ended);
-        self.send(rt, node, progress.letters);
+        self.ask(rt, node, progress.letters);
     }
 
     fn note(&mut self, ended: Option<Ended>) {

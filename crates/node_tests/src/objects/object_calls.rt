@@ -63,10 +63,10 @@ static A_MOVE: [Step; 4] = [
     },
 ];
 
-const READ_AT_NODE_0: &str = "Some(Ended { id: 3, kind: Read, value: Some(b\"photo\") })";
+const READ_AT_NODE_3: &str = "Some(Ended { id: 3, kind: Read, value: Some(b\"photo\") })";
 
-// After the move, node 0 reads although there is no quorum of the first members. Node 3 cannot do so before it hears of
-// the start.
+// After the move, there is no quorum of the first members. Node 0's reply tells node 3 the start. Node 4 asks nodes
+// that are not the members for which it takes them, and its requests come back with the start.
 static STARTS: [Step; 6] = [
     Step {
         node: 0,
@@ -83,28 +83,28 @@ static STARTS: [Step; 6] = [
         ended: MOVED,
     },
     Step {
-        node: 0,
+        node: 3,
         id: 3,
         act: Act::Read,
         down: Some(1),
-        ended: READ_AT_NODE_0,
+        ended: MOVED,
     },
     Step {
         node: 3,
+        id: 3,
+        act: Act::ReadOn,
+        down: Some(1),
+        ended: READ_AT_NODE_3,
+    },
+    Step {
+        node: 4,
         id: 4,
         act: Act::Read,
         down: Some(1),
-        ended: READ_AT_NODE_0,
+        ended: READ_AT_NODE_3,
     },
     Step {
-        node: 3,
-        id: 4,
-        act: Act::HearStart(1, 1, &[2, 3]),
-        down: Some(1),
-        ended: READ_AT_NODE_0,
-    },
-    Step {
-        node: 3,
+        node: 4,
         id: 4,
         act: Act::ReadOn,
         down: Some(1),
