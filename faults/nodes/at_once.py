@@ -12,6 +12,8 @@ class Cluster:
     def __init__(self, program, folder):
         self.program, self.folder, self.file = program, Path(folder), Path(folder) / "cluster"
         self.nodes, self.connections, self.answers = {}, 0, {}
+        self.frames = 0  # how many frames of nodes have arrived
+        self.ticks = 0   # how many ticks the last answer took
 
     def start(self, *numbers):
         for number in numbers:
@@ -32,6 +34,7 @@ class Cluster:
             if kind == b"client":
                 self.answers[int(number)] = b"".join(strings)
             elif int(number) in self.nodes:
+                self.frames += 1
                 written = self.nodes[int(number)].give([b"node %d" % sender, *strings])
                 waiting += [(int(number), frame) for frame in written]
 
@@ -40,9 +43,23 @@ class Cluster:
         self.connections += 1
         client = self.connections
         self.route(number, self.nodes[number].give([b"client %d" % client, *words]))
-        for _ in range(MOST_TICKS):
+        for self.ticks in range(MOST_TICKS):
             if client in self.answers:
                 return self.answers.pop(client)
-            for other in list(self.nodes):
-                self.route(other, self.nodes[other].give([b"tick"]))
+            self.tick()
         raise AssertionError(f"node {number} does not answer {words}")
+
+    def tick(self):
+        """A tick at all nodes."""
+        for number in list(self.nodes):
+            self.route(number, self.nodes[number].give([b"tick"]))
+
+    def pass_time(self):
+        """Ticks at all nodes, at which they send again what has had no reply."""
+        for _ in range(MOST_TICKS):
+            self.tick()
+
+    def info(self, number, setting):
+        """What a line of a node's INFO tells."""
+        lines = self.ask(number, b"INFO").decode().splitlines()
+        return next(line.partition(":")[2] for line in lines if line.startswith(f"{setting}:"))

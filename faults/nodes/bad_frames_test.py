@@ -131,19 +131,22 @@ class BadFrames(unittest.TestCase):
 
     def test_letters_that_are_not_heeded(self):
         """A letter with another layout than the node knows, or about a position of which the mover has not heard, is
-        dropped and counts once, as one that is not heeded; one about a member that there is not counts as unreadable."""
+        dropped and counts once, as one that is not heeded; so is one that tells a start with such a layout or position.
+        One about a member that there is not, or with a start whose layout is not lawful, counts as unreadable."""
         node = self.start(CLUSTER.replace("later", "later 2"))
         self.assertEqual(self.answer(node, b"SET", b"a", b"1"), b"+OK\r\n")
         digest = bytes.fromhex(self.line(node, b"cluster").decode())
-        wrong = [{"layout": b"\x01\x02"}, {"position": 1}]
+        wrong = [{"layout": b"\x01\x02"}, {"position": 1}, {"start": (0, b"\x01\x02")}, {"start": (1, b"\x01\x01")}]
         for count, changed in enumerate(wrong, 1):
             self.assertEqual(node.give([b"node 2", *Message(digest, b"a", b"query", **changed).strings()]), [], changed)
             self.assertEqual((self.dropped(node), self.dropped_for(node, b"not_heeded")), (count, count), changed)
         sent = node.give([b"node 2", *Message(digest, b"a", b"query").strings()])
         self.assertEqual([frame[0] for frame in sent], [b"node 2"])
         self.assertEqual((self.dropped(node), self.dropped_for(node, b"not_heeded")), (len(wrong), len(wrong)))
-        self.assertEqual(node.give([b"node 2", *Message(digest, b"a", b"query", member=1).strings()]), [])
-        self.assertEqual((self.dropped(node), self.dropped_for(node, b"unreadable")), (len(wrong) + 1, 1))
+        unlawful = [{"member": 1}, {"start": (1, b"\x02\x01")}]
+        for count, changed in enumerate(unlawful, 1):
+            self.assertEqual(node.give([b"node 2", *Message(digest, b"a", b"query", **changed).strings()]), [], changed)
+            self.assertEqual((self.dropped(node), self.dropped_for(node, b"unreadable")), (len(wrong) + count, count))
 
     @staticmethod
     def spoil(source, strings):

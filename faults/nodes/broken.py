@@ -1,7 +1,7 @@
 #!/usr/bin/env python3
 """A node program that is broken on purpose: broken.py KIND PROGRAM FILE NODE FOLDER. It starts PROGRAM and stands
 between it and its pipes, or changes its log before it starts. `try` requires that the checker of histories finds `hasty`,
-`skips` and `stale`, and that whole banks find `none` and `old`. Runs with `forgets` take minutes, because its reads may
+`skips` and `stale`, and that whole banks find the others but `forgets`, whose runs take minutes, because its reads may
 never end:
 
 forgets  at a start, no request that it served is in the log, as where none was written before the answers went out
@@ -10,6 +10,9 @@ skips    every third write is answered and not carried out
 stale    a read is answered with the value that the node read or wrote last under that name, where there is one
 none     every third fetch of another node that has a piece as its answer is answered without a piece
 old      another node that asks for the greatest tag is told the one before, until it asks again
+early    another node that asks for a pointer which is pending is told that calls may begin at the next position
+shut     a fetch of another node gets no reply where the pointer of the bank is pending, as if the bank were closed
+closes   at a start, the log says that each bank was closed whose pointer is pending
 """
 import ctypes
 import fcntl
@@ -39,6 +42,19 @@ def forget(log):
     log.write_bytes(log_of(kept))
 
 
+def close_pending(log):
+    """Adds an entry to the log for each bank whose pointer is pending, which says that the node closed it."""
+    data, kept, place, told = log.read_bytes() if log.exists() else b"", [], 0, {}
+    while place < len(data) and (entry := frame_at(data, place + HEAD)) is not None:
+        if entry[0][0] == b"serve" and (asked := messages.read(entry[0][1:])).kind == b"spread":
+            told.setdefault((asked.position, asked.name), set()).add(asked.status)
+        kept.append(data[place + HEAD:entry[1]])
+        place = entry[1]
+    kept += [encode([b"close", b"%d" % position, name]) for (position, name), all_told in told.items()
+             if b"final" not in all_told]
+    log.write_bytes(log_of(kept))
+
+
 def wait_for(folder):
     """Waits until no program has the folder locked: one that was killed may not have ended yet."""
     locked = os.open(folder, os.O_RDONLY)
@@ -52,7 +68,7 @@ class Between:
     def __init__(self, kind, child):
         self.kind, self.child = kind, child
         self.values, self.asked, self.answered, self.writes = {}, {}, set(), 0
-        self.fetched, self.greatest = 0, {}
+        self.fetched, self.greatest, self.pending = 0, {}, set()
         self.lock = threading.Lock()
 
     def write(self, data):
@@ -67,6 +83,8 @@ class Between:
     def arrive(self, frame):
         """A frame for the node. Returns whether the node gets it."""
         client, words = frame[0], [word.upper() for word in frame[1:2]]
+        if self.kind == "shut" and client.startswith(b"node "):
+            return self.is_answered(messages.read(frame[1:]))
         if words == [b"SET"] and len(frame) == 4:
             self.values[frame[2]], self.writes = frame[3], self.writes + 1
             if self.kind == "skips" and self.writes % 3 == 0:
@@ -83,11 +101,18 @@ class Between:
                 return False
         return True
 
+    def is_answered(self, asked):
+        """Whether a message of another node is no fetch from a bank whose pointer is pending, by other messages."""
+        bank = asked.name, asked.position
+        if asked.kind == b"spread" and not asked.is_reply:
+            (self.pending.add if asked.status == b"pending" else self.pending.discard)(bank)
+        return asked.is_reply or asked.kind != b"fetch" or bank not in self.pending
+
     def leave(self, frame):
         """A frame from the node. Returns whether it goes on; a reply to another node may be changed."""
         client = frame[0]
         if client.startswith(b"node "):
-            if self.kind in ("none", "old"):
+            if self.kind in ("none", "old", "early"):
                 frame[1:] = self.changed(messages.read(frame[1:])).strings()
             return True
         if len(frame) == 4 and client in self.asked:
@@ -98,7 +123,8 @@ class Between:
         return True
 
     def changed(self, made):
-        """A reply to a fetch without its piece, or one that tells the greatest tag of before."""
+        """A reply to a fetch without its piece, one that tells the greatest tag of before, or one that tells a start
+        too early."""
         if self.kind == "none" and made.is_reply and made.kind == b"fetch" and made.piece:
             self.fetched += 1
             return replace(made, piece=None) if self.fetched % 3 == 0 else made
@@ -106,6 +132,8 @@ class Between:
             told = self.greatest.get((made.name, made.position), made.tag)
             self.greatest[made.name, made.position] = made.tag
             return replace(made, tag=told)
+        if self.kind == "early" and made.is_reply and made.kind == b"next" and made.status == b"pending":
+            return replace(made, start=(made.position + 1, made.next))
         return made
 
     def pass_output(self):
@@ -131,8 +159,8 @@ def end_with_parent():
 
 def main(kind, program, *words):
     wait_for(words[2])
-    if kind == "forgets":
-        forget(Path(words[2]) / "log")
+    if kind in ("forgets", "closes"):
+        (forget if kind == "forgets" else close_pending)(Path(words[2]) / "log")
         os.execv(program, [program, *words])
     child = subprocess.Popen([program, *words], stdin=subprocess.PIPE, stdout=subprocess.PIPE, bufsize=0,
                              preexec_fn=end_with_parent)

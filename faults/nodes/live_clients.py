@@ -83,6 +83,20 @@ class Names:
             return [f"name-{number}" for number in range(1, self.made + 1)]
 
 
+class SameNames(Names):
+    """The same names all the time, in turn, of which few are in use at a time."""
+
+    def __init__(self, count, active, calls):
+        super().__init__(count, None)
+        self.at_once, self.calls_each, self.taken = active, calls, 0
+
+    def take(self, source):
+        with self.lock:
+            self.taken += 1
+            place = self.taken // self.calls_each + source.randrange(self.at_once)
+            return self.active[place % len(self.active)][0]
+
+
 class Values:
     """Values that are all different: a number and a padding that the number determines."""
 

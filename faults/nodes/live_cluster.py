@@ -74,7 +74,7 @@ class LiveCluster:
     def __init__(self, options, folder, network=None, ticks=50, later=0, own_mover=False):
         self.count, self.folder, self.network = options.nodes + later, Path(folder), network
         self.program, self.host = options.program, options.host  # what nodes start with
-        self.numbers = range(1, self.count + 1)
+        self.numbers = range(1, self.count + 1)  # those that have not been stopped for good
         self.file = self.folder / "cluster"
         self.members = list(self.numbers[:options.nodes])
         self.mover = options.nodes + 1 if own_mover else 1
@@ -138,6 +138,11 @@ class LiveCluster:
         fcntl.flock(folder, fcntl.LOCK_EX)
         os.close(folder)
 
+    def retire(self, number):
+        """Kills a node for good."""
+        self.kill(number)
+        self.numbers = [other for other in self.numbers if other != number]
+
     def programs_of(self, number):
         """The processes of the node program that a host has started, if it has."""
         host = self.nodes[number].child
@@ -187,7 +192,7 @@ class LiveCluster:
     def faults_said(self):
         """What a sanitizer or the node program said that no fault of a test explains."""
         words = ("Sanitizer", "runtime error", "panicked", "the log, from byte")
-        said = [line for number in self.numbers for line in self.said_by(number).split("\n")]
+        said = [line for number in self.nodes for line in self.said_by(number).split("\n")]
         return [line for line in said if any(word in line for word in words)]
 
     def remove(self):

@@ -46,17 +46,28 @@ def written(test):
 def give_command(test, command, *nodes):
     """Gives the command until it ends with status 0: clients may have written names meanwhile whose first layout has
     the old node."""
-    cluster, end = test.cluster, time.monotonic() + PATIENCE
-    addresses = [f"{cluster.address_of(number)}:{cluster.ports[number]}" for number in cluster.numbers]
-    words = [TOP / "deploy" / command, *map(str, nodes), *addresses, "--file", cluster.file]
+    end = time.monotonic() + PATIENCE
     while not test.history.faults:
-        ran = subprocess.run(words, capture_output=True, text=True, timeout=PATIENCE, check=False)
-        test.count(f"runs of {command}")
+        ran = run_command(test, command, *nodes)
         if ran.returncode == 0:
             return
         if ran.returncode != 1 or time.monotonic() > end:
-            raise Broken(f"deploy/{command} ended with {ran.returncode}: {ran.stdout[-600:]}{ran.stderr[-600:]}")
+            raise failed(command, ran)
         test.sleep(0.1, 0.3)
+
+
+def run_command(test, command, *nodes):
+    """Gives the command once, with the addresses of all nodes."""
+    cluster = test.cluster
+    addresses = [f"{cluster.address_of(number)}:{cluster.ports[number]}" for number in cluster.numbers]
+    words = [TOP / "deploy" / command, *map(str, nodes), *addresses, "--file", cluster.file]
+    ran = subprocess.run(words, capture_output=True, text=True, timeout=PATIENCE, check=False)
+    test.count(f"runs of {command}")
+    return ran
+
+
+def failed(command, ran):
+    return Broken(f"deploy/{command} ended with {ran.returncode}: {ran.stdout[-600:]}{ran.stderr[-600:]}")
 
 
 def check_layouts(test, names, old):

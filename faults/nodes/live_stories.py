@@ -7,6 +7,7 @@ import sys
 from pathlib import Path
 
 from live_cluster import Broken
+from live_departure import departure
 from live_moves import mover, moves
 from live_replacement import replacement
 from live_upgrade import upgrade
@@ -192,5 +193,5 @@ def noise(test):
 # The stories in which each node has a machine of its own, and those in which all nodes have loopback addresses.
 ON_MACHINES = {"cuts": cuts, "delays": delays}
 ON_LOOPBACK = {"kills": kills, "nats": nats, "relays": relays, "disk": disk, "moves": moves, "mover": mover,
-               "noise": noise, "replacement": replacement, "upgrade": upgrade}
+               "noise": noise, "replacement": replacement, "departure": departure, "upgrade": upgrade}
 NEED_NAMESPACES = {"cuts", "delays", "disk"}

@@ -13,7 +13,7 @@ from pathlib import Path
 
 import live_network
 from check import is_atomic
-from live_clients import LiveHistory, Load, Names, note_answer
+from live_clients import LiveHistory, Load, Names, SameNames, Values, note_answer
 from live_cluster import PATIENCE, Broken, LiveCluster
 from live_stories import ON_LOOPBACK, ON_MACHINES
 from relay import Relays
@@ -21,9 +21,22 @@ from relay import Relays
 PASSED, FAILED, SKIPPED, NOT_SET_UP = 0, 1, 3, 4
 GIVE_UP_SOON = {"nats", "cuts", "delays"}
 LATER = {"replacement": 2, "mover": 1}  # how many nodes are in no first layout, where there are some
-OWN_MOVER = {"mover"}  # where the first of these moves objects
+OWN_MOVER = {"mover", "departure"}  # where the first of these moves objects
 ACTIVE = {"replacement": 120}  # how many names are in use at a time, where they are not four
+LEAST_NAMES = 40  # of `departure`, which has one more for each second
 MOST_READ_AGAIN = 60
+
+
+def later_nodes(name, options):
+    """How many nodes are in no first layout: in `departure` the mover, and one for each of the first nodes."""
+    return options.nodes + 1 if name == "departure" else LATER.get(name, 0)
+
+
+def names_of(name, options):
+    """The names that clients use. A name has a few hundred calls at most, so that its history can be checked."""
+    if name == "departure":
+        return SameNames(LEAST_NAMES + int(options.seconds), 4, 15)
+    return Names(ACTIVE.get(name, 4), 60)
 
 
 class Test:
@@ -32,12 +45,13 @@ class Test:
     def __init__(self, name, options, folder):
         self.name, self.options, self.folder = name, options, Path(folder)
         self.source = self.choices_of(name)
-        self.history, self.names, self.counts, self.why = LiveHistory(), Names(ACTIVE.get(name, 4), 60), {}, None
+        self.history, self.names, self.counts, self.why = LiveHistory(), names_of(name, options), {}, None
         self.lock, self.ends, self.wires, self.mounted = threading.Lock(), 0, None, []
         network = live_network.Network(options.nodes) if name in ON_MACHINES else None
         # Where nodes are often apart, calls are given up soon, so that histories have such calls too.
         self.cluster = LiveCluster(options, folder, network, ticks=15 if name in GIVE_UP_SOON else 50,
-                                   later=LATER.get(name, 0), own_mover=name in OWN_MOVER)
+                                   later=later_nodes(name, options), own_mover=name in OWN_MOVER)
+        self.load = Load(self.cluster, self.history, options.seed, options.clients, self.names, 0.02)
         if name == "upgrade":
             self.cluster.program, self.cluster.host = options.before, options.host_before
         if name == "relays":
@@ -76,11 +90,11 @@ class Test:
 
     def go(self):
         """Runs the story under load, and then everything must be whole."""
-        cluster, options = self.cluster, self.options
+        cluster = self.cluster
         cluster.start()
         cluster.wait_for_all()
-        self.ends = time.monotonic() + options.seconds
-        with Load(cluster, self.history, options.seed, options.clients, self.names, 0.02):
+        self.ends = time.monotonic() + self.options.seconds
+        with self.load:
             {**ON_LOOPBACK, **ON_MACHINES}[self.name](self)
         if self.why is None:
             cluster.wait_for_all()
@@ -89,19 +103,18 @@ class Test:
 
     def read_again(self):
         """Reads names once more, each at one of the nodes, until it is answered."""
-        names = self.names.all()
+        names, nodes = self.names.all(), self.cluster.numbers
         for place, name in enumerate(self.source.sample(names, min(len(names), MOST_READ_AGAIN))):
-            node = place % self.cluster.count + 1
+            node = nodes[place % len(nodes)]
             self.wait_for(f"node {node} does not answer a read of {name}, though everything is whole,",
                           lambda node=node, name=name: self.answers(node, name))
 
-    def answers(self, node, name):
-        """Whether the node answers a read."""
-        before = self.history.answered_reads
+    def answers(self, node, name, value=None):
+        """Whether the node answers a read, or a write where a value is given."""
+        words = [b"GET", name.encode()] if value is None else [b"SET", name.encode(), Values.bytes_of(value)]
         with self.cluster.connect(node) as client:
-            key = self.history.begin(name, None)
-            note_answer(self.history, key, name, None, client.ask(b"GET", name.encode()))
-        return self.history.answered_reads > before
+            key = self.history.begin(name, value)
+            return note_answer(self.history, key, name, value, client.ask(*words)) is not None
 
     def check(self):
         history, faults = self.history, [*self.history.faults, *self.cluster.faults_said()]

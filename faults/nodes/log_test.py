@@ -15,7 +15,7 @@ sys.dont_write_bytecode = True
 
 from frames import Frames, encode  # noqa: E402
 from log_form import FORM, HEAD, bodies_of, log_of, old_log_of, said_of, shifted, split  # noqa: E402
-from messages import old_strings, read  # noqa: E402
+from messages import FORM_BEFORE, old_strings, read  # noqa: E402
 from one_node import OneNode, command  # noqa: E402
 
 QUESTIONS = command(b"GET", b"a") + command(b"GET", b"b")
@@ -33,12 +33,15 @@ def places(log):
     return found
 
 
-def old_bodies(bodies):
-    """The bodies of the same entries with messages of the form before."""
+def old_bodies(bodies, form):
+    """The bodies of the same entries, with messages as in a log of this form."""
     changed = []
     for body in bodies:
         [[word, *strings]] = Frames().take(body)
-        changed.append(encode([word, *old_strings(read(strings))]) if word in (b"serve", b"take") else body)
+        if word in (b"serve", b"take"):
+            it = read(strings)
+            body = encode([word, *(it.strings(FORM_BEFORE) if form == 3 else old_strings(it))])
+        changed.append(body)
     return changed
 
 
@@ -144,14 +147,17 @@ class Logs(unittest.TestCase):
 
     def test_logs_of_older_forms(self):
         """Frames without heads, of the oldest form, are damage."""
-        for old_log in (old_log_of, lambda bodies: log_of(bodies, form=2)):
-            self.is_converted(old_log)
+        for form in (1, 2, 3):
+            self.is_converted(form)
         self.is_reported(encode([b"cluster", bytes(16), b"1", bytes(8)]), 0)
 
-    def is_converted(self, old_log):
+    def is_converted(self, form):
         """A log of an older form is left as it is, and the message names the program that converts it, which keeps it,
         cuts off its end, and refuses damage."""
-        bodies, before_today = bodies_of(self.whole), old_bodies(bodies_of(self.whole))
+        def old_log(bodies):
+            return old_log_of(bodies) if form == 1 else log_of(bodies, form=form)
+
+        bodies, before_today = bodies_of(self.whole), old_bodies(bodies_of(self.whole), form)
         old, end = old_log(before_today), len(old_log(before_today[:-1]))
         text = "casd: the log has an older form; deploy/convert-log FOLDER writes it in today's form\n"
         for log in (old, old_log(before_today[:1]), old + b"x" * 20):
@@ -177,13 +183,15 @@ class Logs(unittest.TestCase):
     def test_logs_that_are_not_converted(self):
         """A log of today's form, damaged ones, one with an entry that no node writes, and one of a node that runs stay as
         they are."""
-        bodies = old_bodies(bodies_of(self.whole))
+        bodies = old_bodies(bodies_of(self.whole), 2)
         old, end = bytearray(log_of(bodies, form=2)), len(log_of(bodies[:-1], form=2))
         old[end + 30] ^= 1
-        strange = log_of([*bodies, encode([b"serve", b"x", b"y"])], form=2)
+        said_of_strange = f"entry {len(bodies)} of the log is none that a node writes"
+        strange = [log_of([*old_bodies(bodies_of(self.whole), form), encode([b"serve", b"x", b"y"])], form=form)
+                   for form in (2, 3)]
         for log, said in ((self.whole, "the log has today's form already"),
                           (bytes(old), f"the log, from byte {end}: wrong checksum"),
-                          (strange, f"entry {len(bodies)} of the log is none that a node writes")):
+                          *((log, said_of_strange) for log in strange)):
             self.node.log.write_bytes(log)
             self.assertEqual(self.convert(), (1, f"convert-log: {said}\n"))
             self.assertEqual(([file.name for file in self.node.folder.iterdir()], self.node.log.read_bytes()), (["log"], log))

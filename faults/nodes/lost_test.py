@@ -37,42 +37,56 @@ class Lost(unittest.TestCase):
         self.addCleanup(lambda: cluster.stop(*cluster.nodes))
         return cluster
 
-    def test_moved_object_needs_its_first_nodes(self):
-        """A node needs a quorum of an object's first nodes until its own move, read or write has left them behind; and
-        it needs them again after it was started."""
+    def test_moved_object_leaves_its_first_nodes(self):
+        """Once an object has moved, it needs a quorum of the new nodes alone, also at a node that was started again."""
         cluster = self.cluster(later="6 7")
         cluster.start(6, 7)
         self.assertEqual(cluster.ask(2, b"SET", b"a", b"value"), b"+OK\r\n")
         self.assertEqual(cluster.ask(1, b"MOVE", b"a", b"3", b"1", b"2", b"3", b"6", b"7"), b"+OK\r\n")
-        cluster.stop(4)
-        self.assertEqual(cluster.ask(6, b"GET", b"a"), b"$5\r\nvalue\r\n")
-        cluster.stop(5)
-        for number in (2, 3, 7):
-            self.assertEqual(cluster.ask(number, b"GET", b"a"), NO_QUORUM)
-        self.assertEqual(cluster.ask(2, b"SET", b"a", b"other"), NO_QUORUM)
-        for number in (1, 6):
+        cluster.stop(4, 5)
+        for number in (1, 2, 3, 6, 7):
             self.assertEqual(cluster.ask(number, b"GET", b"a"), b"$5\r\nvalue\r\n")
-        self.assertEqual(cluster.ask(6, b"SET", b"a", b"third"), b"+OK\r\n")
+        self.assertEqual(cluster.ask(2, b"SET", b"a", b"other"), b"+OK\r\n")
         cluster.stop(6)
+        self.assertEqual(cluster.ask(7, b"GET", b"a"), b"$5\r\nother\r\n")
+        cluster.stop(7)
+        for number in (1, 2, 3):
+            self.assertEqual(cluster.ask(number, b"GET", b"a"), NO_QUORUM)
         cluster.start(6)
-        self.assertEqual(cluster.ask(6, b"GET", b"a"), NO_QUORUM)
-        self.assertEqual(cluster.ask(1, b"GET", b"a"), b"$5\r\nthird\r\n")
-        cluster.start(5)
-        self.assertEqual(cluster.ask(7, b"GET", b"a"), b"$5\r\nthird\r\n")
-        cluster.stop(5)
-        self.assertEqual(cluster.ask(7, b"GET", b"a"), b"$5\r\nthird\r\n")
+        self.assertEqual(cluster.ask(6, b"GET", b"a"), b"$5\r\nother\r\n")
 
-    def test_every_layout_needs_a_quorum(self):
-        """Of the nodes between the first and the last ones, too, a quorum has to be up."""
+    def test_layouts_before_the_last_one_need_no_quorum(self):
+        """Of the nodes between the first and the last ones, too, none has to be up."""
         cluster = self.cluster(later="6 7 8 9")
         cluster.start(6, 7, 8, 9)
         self.assertEqual(cluster.ask(2, b"SET", b"a", b"value"), b"+OK\r\n")
         self.assertEqual(cluster.ask(1, b"MOVE", b"a", b"3", b"1", b"2", b"3", b"6", b"7"), b"+OK\r\n")
         self.assertEqual(cluster.ask(1, b"MOVE", b"a", b"3", b"1", b"2", b"3", b"8", b"9"), b"+OK\r\n")
         cluster.stop(6, 7)
-        self.assertEqual(cluster.ask(2, b"GET", b"a"), NO_QUORUM)
-        cluster.start(7)
         self.assertEqual(cluster.ask(2, b"GET", b"a"), b"$5\r\nvalue\r\n")
+        cluster.stop(8)
+        self.assertEqual(cluster.ask(3, b"GET", b"a"), b"$5\r\nvalue\r\n")
+        cluster.stop(9)
+        self.assertEqual(cluster.ask(2, b"GET", b"a"), NO_QUORUM)
+        cluster.start(8)
+        self.assertEqual(cluster.ask(2, b"GET", b"a"), b"$5\r\nvalue\r\n")
+
+    def test_a_move_that_has_not_ended_needs_a_quorum_of_both_layouts(self):
+        """A move waits for the new nodes, and so do all calls. Until it ends, the old nodes are needed too."""
+        cluster = self.cluster(later="6 7")
+        self.assertEqual(cluster.ask(2, b"SET", b"a", b"value"), b"+OK\r\n")
+        self.assertEqual(cluster.ask(1, b"MOVE", b"a", b"3", b"1", b"2", b"3", b"6", b"7"), NO_QUORUM)
+        for number in (1, 2, 5):
+            self.assertEqual(cluster.ask(number, b"GET", b"a"), NO_QUORUM)
+        cluster.stop(4, 5)
+        cluster.start(6, 7)
+        cluster.pass_time()
+        self.assertEqual(cluster.ask(2, b"GET", b"a"), NO_QUORUM)
+        cluster.start(5)
+        cluster.pass_time()
+        self.assertEqual(cluster.ask(2, b"GET", b"a"), b"$5\r\nvalue\r\n")
+        cluster.stop(5)
+        self.assertEqual(cluster.ask(7, b"GET", b"a"), b"$5\r\nvalue\r\n")
 
     def test_later_nodes_need_the_new_file_everywhere(self):
         """A node that has the old file does not hear a node that joined later."""

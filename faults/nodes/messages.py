@@ -1,13 +1,14 @@
-"""Messages between nodes, for tests: their strings, today and in the form before.
+"""Messages between nodes, for tests: their strings, today and in forms before.
 
-Today a message is a head, the object's name, and the bytes of a piece if it has one. The head is the form, 3; the call,
+Today a message is a head, the object's name, and the bytes of a piece if it has one. The head is the form, 4; the call,
 the phase, the position and the member (8, 4, 4 and 1 bytes); 0 for a request or 1 for a reply; the kind; the status; a
 tag (8 and 8 bytes); the step of a reply (8 bytes); whether there is a piece, its point, and the length of its value (1,
-1 and 4 bytes); the digest of the cluster file; and the layouts, each as the number of its members, k and the members.
-Numbers have their high byte first. What a message does not have is zero."""
+1 and 4 bytes); the digest of the cluster file; the layouts, each as the number of its members, k and the members; and
+the start that the message tells, if it tells one: its position (4 bytes) and its layout. Numbers have their high byte
+first. What a message does not have is zero. In form 3, the form before, no message tells a start."""
 from dataclasses import dataclass
 
-FORM = 3
+FORM, FORM_BEFORE = 4, 3
 KINDS = [b"next", b"spread", b"query", b"pre-write", b"finalize", b"fetch"]
 STATUSES = [b"unset", b"pending", b"final"]
 WIDTHS = {"form": 1, "call": 8, "phase": 4, "position": 4, "member": 1, "is_reply": 1, "kind": 1, "status": 1, "number": 8,
@@ -17,7 +18,8 @@ DIGEST = 16
 
 @dataclass
 class Message:
-    """What a message says. Layouts are k and the members, as bytes; a tag is two numbers."""
+    """What a message says. Layouts are k and the members, as bytes; a tag is two numbers; a start is its position and its
+    layout."""
     digest: bytes
     name: bytes
     kind: bytes
@@ -32,15 +34,33 @@ class Message:
     position: int = 0
     member: int = 0
     next: bytes = b""
+    start: tuple = None
 
-    def strings(self):
+    def names_next(self):
+        """Whether the message says that the pointer is pending or final, so that it has the next layout."""
+        return self.status != b"unset" and self.kind == (b"next" if self.is_reply else b"spread")
+
+    def strings(self, form=FORM):
         """The strings of the message: a piece is its point, the length of its value, and its bytes."""
         point, length, *last = self.piece or (0, 0)
-        said = (FORM, self.call, self.phase, self.position, self.member, self.is_reply, KINDS.index(self.kind),
+        said = (form, self.call, self.phase, self.position, self.member, self.is_reply, KINDS.index(self.kind),
                 STATUSES.index(self.status), *self.tag, self.step, self.piece is not None, point, length)
         numbers = b"".join(it.to_bytes(width, "big") for it, width in zip(said, WIDTHS.values()))
-        layouts = b"".join(bytes([len(it) - 1]) + it for it in (self.layout, self.next) if it)
-        return [numbers + self.digest + layouts, self.name, *last]
+        layouts = b"".join(layout_bytes(it) for it in (self.layout, self.next) if it)
+        start = self.start[0].to_bytes(4, "big") + layout_bytes(self.start[1]) if self.start else b""
+        return [numbers + self.digest + layouts + start, self.name, *last]
+
+
+def layout_bytes(layout):
+    """The number of members, k and the members."""
+    return bytes([len(layout) - 1]) + layout
+
+
+def layout_in(data):
+    """The layout in the first bytes, and the bytes behind it."""
+    end = 2 + data[0]
+    assert len(data) >= end
+    return data[1:end], data[end:]
 
 
 def read(strings):
@@ -50,20 +70,22 @@ def read(strings):
     for word, width in WIDTHS.items():
         said[word] = int.from_bytes(head[place:place + width], "big")
         place += width
-    digest, place, layouts = head[place:place + DIGEST], place + DIGEST, []
-    while place < len(head):
-        end = place + 2 + head[place]
-        layouts.append(head[place + 1:end])
-        place = end
-    assert said["form"] == FORM and place == len(head) and len(layouts) in (1, 2)
-    return Message(digest, name, KINDS[said["kind"]], layouts[0], bool(said["is_reply"]), STATUSES[said["status"]],
-                   (said["number"], said["tag_call"]), said["step"],
-                   (said["point"], said["len"], *last) if said["is_piece"] else None, said["call"], said["phase"],
-                   said["position"], said["member"], b"".join(layouts[1:]))
+    layout, rest = layout_in(head[place + DIGEST:])
+    it = Message(head[place:place + DIGEST], name, KINDS[said["kind"]], layout, bool(said["is_reply"]),
+                 STATUSES[said["status"]], (said["number"], said["tag_call"]), said["step"],
+                 (said["point"], said["len"], *last) if said["is_piece"] else None, said["call"], said["phase"],
+                 said["position"], said["member"])
+    if it.names_next():
+        it.next, rest = layout_in(rest)
+    if rest:
+        layout, behind = layout_in(rest[4:])
+        it.start, rest = (int.from_bytes(rest[:4], "big"), layout), behind
+    assert said["form"] == FORM and not rest
+    return it
 
 
 def old_strings(it):
-    """The strings of a message in the form before, in which all numbers were strings of decimal digits."""
+    """The strings of a message in form 2, in which all numbers were strings of decimal digits, and no start was told."""
     status = [it.status]
     tag = [b"%d" % number for number in it.tag]
     rest = {b"spread": status, b"pre-write": tag, b"finalize": tag, b"fetch": tag}.get(it.kind, [])

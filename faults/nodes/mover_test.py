@@ -119,9 +119,7 @@ class Mover(unittest.TestCase):
         self.assertGreater(len(self.cluster.log()), 19 * MIB)
         self.cluster.start(2)
         self.values_are(large=LARGE, small=SMALL)
-        for _ in range(200):
-            for number in (1, 2, 3):
-                self.cluster.route(number, self.cluster.nodes[number].give([b"tick"]))
+        self.cluster.pass_time()
         self.log_becomes_short()
         self.assertEqual(self.cluster.heard(), [heard(1, b"small", 2)])
         self.values_are(large=LARGE, small=SMALL)

@@ -14,7 +14,7 @@ HERE = Path(__file__).resolve().parent
 sys.path[:0] = [str(HERE), str(HERE.parents[1] / "deploy" / "test")]
 sys.dont_write_bytecode = True
 
-from at_once import MOST_TICKS, Cluster  # noqa: E402
+from at_once import Cluster  # noqa: E402
 from log_form import bodies_of  # noqa: E402
 from one_node import is_embedded  # noqa: E402
 
@@ -58,17 +58,6 @@ class OwnMover(unittest.TestCase):
         for number in numbers:
             self.gives(number, bulk(value), b"GET", name)
 
-    def pass_time(self):
-        """Ticks at all nodes, at which they send again what has had no reply."""
-        for _ in range(MOST_TICKS):
-            for number in list(self.cluster.nodes):
-                self.cluster.route(number, self.cluster.nodes[number].give([b"tick"]))
-
-    def told(self, number, setting):
-        """The value of a line of INFO."""
-        lines = self.cluster.ask(number, b"INFO").decode().splitlines()
-        return next(line.partition(":")[2] for line in lines if line.startswith(f"{setting}:"))
-
     def fails_to_start(self, number, status):
         """What a node says that does not start with this cluster file."""
         started = subprocess.run([PROGRAM, self.cluster.file, str(number), self.cluster.folder / str(number)],
@@ -108,7 +97,7 @@ class OwnMover(unittest.TestCase):
         self.start_again(MOVER)
         self.gives(MOVER, b"-ERR another move of this name is under way\r\n", *move(b"name", 1, 2, 3, 4, 5))
         self.cluster.start(7, 8)
-        self.pass_time()
+        self.cluster.pass_time()
         self.reads(b"name", b"value", (*DATA, 7, 8))
         self.gives(MOVER, OK, *move(b"name", 1, 2, 3, 4, 5))
         self.reads(b"name", b"value", (*DATA, 7, 8))
@@ -121,12 +110,12 @@ class OwnMover(unittest.TestCase):
         self.gives(MOVER, OK, b"SET", b"name", b"y" * 10_000)
         self.reads(b"name", b"y" * 10_000, (*DATA, MOVER))
         self.gives(MOVER, b":0\r\n", b"DBSIZE")
-        self.assertEqual([self.told(MOVER, line) for line in ("bytes_stored", "objects")], ["0", "0"])
+        self.assertEqual([self.cluster.info(MOVER, line) for line in ("bytes_stored", "objects")], ["0", "0"])
         log = self.cluster.folder / str(MOVER) / "log"
         self.assertEqual(len(bodies_of(log.read_bytes())), 2)
         self.assertGreater((self.cluster.folder / "1" / "log").stat().st_size, 10_000)
         self.gives(MOVER, OK, *move(b"name", 5, 4, 3, 2, 1))
-        self.assertEqual(self.told(MOVER, "bytes_stored"), "0")
+        self.assertEqual(self.cluster.info(MOVER, "bytes_stored"), "0")
         self.assertGreater(len(bodies_of(log.read_bytes())), 2)
 
     def test_another_machine(self):
