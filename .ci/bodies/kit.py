@@ -1,7 +1,8 @@
 """The kit's own programs, read as modules: which crates there are, and the words of a check of one.
 
-Written for the wording of `rattle-kit-13f`: a function's line in what a check prints ends in `proved`, in `not proved`
-where its own proof fails, and in `no proof: it calls ..` where only that of a function below it does.
+Written for the wording of `rattle-kit-13b` and `rattle-kit-13f`: a function's line in what a check prints ends in
+`proved`, in `not proved` where its own proof fails, and in `no proof: it calls ..` where only that of a function below it
+does.
 """
 import importlib.machinery
 import importlib.util
