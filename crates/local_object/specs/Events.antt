@@ -21,7 +21,7 @@ use Rattle.open_calls.specs.OpenCalls.{NodeCall, open_call, with_open, without_c
 use Rattle.open_calls.specs.OpenCalls.{taking_open}
 use Rattle.letter.specs.declared.letter.Letter.{Letter}
 use Rattle.local_object.specs.ChangedBanks.{kept_bank}
-use Rattle.local_object.specs.KeptBanks.{after_closing, kept_reply}
+use Rattle.local_object.specs.KeptBanks.{after_closing, after_raising, kept_reply}
 use Rattle.local_object.specs.Local.{LocalObject, layout_here, bank_here, bank_in, heard_place, with_bank_here}
 use Rattle.local_object.specs.Local.{last_position, told_start, with_heard}
 use Rattle.local_object.specs.Outcomes.{Outcome, begun_here, learnt_from, letter_of, on_open_call, phase_letters}
@@ -45,6 +45,7 @@ pub data LocalEvent : Type 0 where
   Redirect : Letter → LocalEvent
   ReadOn : (id : ℕ) → LocalEvent
   BeginAnew : (id : ℕ) → LocalEvent
+  Raise : (position : ℕ) → LocalEvent
 
 -- Calls
 
@@ -112,6 +113,12 @@ closed_here local position = record local {
   places = with_bank_here local.places position (after_closing (bank_in (heard_place local.places position)));
 }
 
+-- after the node raises the pointer of its bank of a position to final
+abbrev pub raised_here : LocalObject → (position : ℕ) → LocalObject
+raised_here local position = record local {
+  places = with_bank_here local.places position (after_raising (bank_in (heard_place local.places position)));
+}
+
 -- after the node sends a letter back, with its own start, to the node that sent it
 abbrev pub redirected_here : LocalObject → Letter → Outcome
 redirected_here local letter = record { local = local; sent = record letter { start = told_start local } ∷ [] }
@@ -144,6 +151,7 @@ done_here fragment local (LocalEvent.ReadOn id) =
     on_open_call local (open_call local.calls id) (λ call. reads_here local call (number_at call local.start))
 done_here fragment local (LocalEvent.BeginAnew id) =
     on_open_call local (open_call local.calls id) (λ call. reads_here local call (anew_number call local.start))
+done_here fragment local (LocalEvent.Raise position) = silent (raised_here local position)
 
 -- after these events, one after another, with all letters in the order in which they were sent
 abbrev pub all_done : Code → LocalObject → List LocalEvent → Outcome

@@ -12,6 +12,7 @@ pub mod Pieces
 pub mod Letters
 pub mod Doing
 pub mod Leaving
+pub mod Passed
 pub mod Coding
 pub mod Going
 pub mod Taking

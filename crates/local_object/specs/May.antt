@@ -1,5 +1,5 @@
 -- When an event may happen at a node's object, as far as the node can tell from what it keeps.
-use Rattle.std.specs.Prelude.{◌≡◌, ◌≢◌, ◌⊎◌, ◌<◌, ℕ, List, [], ◌∷◌, None, Some, IsSome, false, slice_get}
+use Rattle.std.specs.Prelude.{◌≡◌, ◌≢◌, ◌⊎◌, ◌<◌, ℕ, suc, List, [], ◌∷◌, None, Some, IsSome, false, slice_get}
 use Rattle.std.specs.List.{AllByRecursion}
 use Rattle.layout.specs.Layout.{Layout, IsLawful}
 use Rattle.bank.specs.declared.kind.Kind.{Kind}
@@ -48,6 +48,16 @@ pub record HasSpreadAt (call : NodeCall) (position : ℕ) : Type 0 where
   pub complete : IsSome call.phase.end
   pub at : call.phase.position ≡ position
 
+-- the node keeps a bank of a position before its start, as a member of the position, and has heard of the next one
+pub record IsMemberBefore (local : LocalObject) (position : ℕ) : Type 0 where
+  pub before : position < local.start
+  pub bank : IsSome (bank_in (heard_place local.places position))
+  pub layout : Layout
+  pub known : layout_here local position ≡ Some layout
+  pub member : ℕ
+  pub server : slice_get layout.members member ≡ Some local.node
+  pub next : IsSome (layout_here local (suc position))
+
 -- the event may happen, as far as the node can tell
 abbrev pub MayHappenHere : Code → LocalObject → LocalEvent → Type 0
 MayHappenHere fragment local (LocalEvent.BeginRead id) = IsSome (layout_here local local.start)
@@ -79,6 +89,7 @@ MayHappenHere fragment local (LocalEvent.ReadOn id) =
 MayHappenHere fragment local (LocalEvent.BeginAnew id) =
     (call : NodeCall) × IsCarriedOut local id call × IsLacking call × (stage_reached call ≡ ReadBegin)
     × IsSome (layout_here local local.start)
+MayHappenHere fragment local (LocalEvent.Raise position) = IsMemberBefore local position
 
 -- these events may happen here one after another
 abbrev pub MayAllHappen : Code → LocalObject → List LocalEvent → Type 0

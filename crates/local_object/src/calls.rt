@@ -207,8 +207,8 @@ pub(crate) fn has_raised(call: &Call, position: u32) -> bool
     }
 }
 
-/// Returns the position whose pointer the current phase of the call raises to final, if it does so.
-pub(crate) fn final_position(call: &Call) -> Option<u32>
+// The position whose pointer the current phase of the call raises to final, if it does so.
+fn final_position(call: &Call) -> Option<u32>
     ensures { result ≡ if_final call.now.phase.kind call.now.phase.position }
 {
     match call.phase().kind() {

@@ -19,6 +19,7 @@ mod agreement;
 mod begin;
 mod go_on;
 mod hear;
+mod passed;
 mod resend;
 mod starts;
 mod take;

@@ -3,11 +3,10 @@
 ghost use Rattle.std.specs.Prelude.{◌≡◌, ◌↔◌, ◌-◌, ◌^◌, true, false, length, min};
 ghost use Rattle.local_object.specs.Changing.{IsUnchangedBy, is_changed_by, bytes_at_places};
 ghost use Rattle.local_object.specs.Doing.{is_moving, has_move_open};
-ghost use Rattle.local_object.specs.Leaving.{leaving};
 ghost use Rattle.local_object.specs.Local.{new_local};
 ghost use Rattle.local_object.specs.New.{is_new};
 
-use crate::calls::{final_position, is_move};
+use crate::calls::is_move;
 use crate::changes::changes;
 use crate::{LocalObject, Place};
 use layout::Layout;
@@ -36,17 +35,6 @@ impl LocalObject {
         match self.calls.index_of(id) {
             Some(index) => is_move(self.calls.at(index)),
             None => false,
-        }
-    }
-
-    /// Returns the position that the call with this id is leaving, if the call is open here: its current phase raises
-    /// the pointer of that position to final.
-    pub fn leaving(&self, id: CallId) -> Option<u32>
-        ensures { result ≡ leaving self.now id }
-    {
-        match self.calls.index_of(id) {
-            Some(index) => final_position(self.calls.at(index)),
-            None => None,
         }
     }
 
