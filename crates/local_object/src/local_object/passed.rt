@@ -61,8 +61,8 @@ impl LocalObject {
         Ok(())
     }
 
-    // The number of the node as a member of a position, if it has heard of the position, and is a member.
-    fn member_at(&self, position: u32) -> Option<u8>
+    /// Returns the number of the node as a member of a position, if it has heard of the position, and is a member.
+    pub fn member_at(&self, position: u32) -> Option<u8>
         ensures { result ≡ member_of (layout_here self.now position) self.now.node }
     {
         let layout = self.places.layout_of(u64::from(position))?;
@@ -83,7 +83,7 @@ fn passed_in(start: u32, place: &Place) -> Option<u32>
 
 // Whether there is a bank, and it is open.
 fn is_open(bank: Option<&KeptBank>) -> bool
-    ensures { result ≡ is_open (option_copied bank) }
+    ensures { result ≡ is_open (option_copied bank.entry) }
 {
     match bank {
         Some(KeptBank::Open(_)) => true,
@@ -93,7 +93,7 @@ fn is_open(bank: Option<&KeptBank>) -> bool
 
 // Whether there is a bank, it is open, and its pointer is not final.
 fn is_below_final(bank: Option<&KeptBank>) -> bool
-    ensures { result ≡ is_below_final (option_copied bank) }
+    ensures { result ≡ is_below_final (option_copied bank.entry) }
 {
     match bank {
         Some(bank) => bank.is_changed_by(&Request::Spread(Status::Final)),
