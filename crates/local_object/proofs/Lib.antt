@@ -28,3 +28,4 @@ pub mod NewObjectLemmas
 pub mod ReadingTestLemmas
 pub mod ReadingLemmas
 pub mod StartLemmas
+pub mod PassedLemmas

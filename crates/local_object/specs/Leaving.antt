@@ -1,10 +1,9 @@
 -- Positions whose pointers the phases of calls raise to final.
-use Rattle.std.specs.Prelude.{ℕ, Bool, false, ◌==◌, if◌then◌else◌, Option, None, Some}
+use Rattle.std.specs.Prelude.{ℕ, Bool, false, ◌==◌, Option, None, Some}
 use Rattle.bank.specs.declared.kind.Kind.{Kind}
 use Rattle.bank.specs.declared.kind.Kind.TheVariants.{Spread}
 use Rattle.bank.specs.declared.status.Status.TheVariants.{Final}
-use Rattle.open_calls.specs.OpenCalls.{NodeCall, open_call}
-use Rattle.local_object.specs.Local.{LocalObject}
+use Rattle.open_calls.specs.OpenCalls.{NodeCall}
 
 -- the position, if a phase of this kind raises the pointer of the position to final
 abbrev pub if_final : Kind → (position : ℕ) → Option ℕ

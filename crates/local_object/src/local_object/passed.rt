@@ -7,9 +7,9 @@ ghost use Rattle.local_object.specs.Local.{layout_here};
 ghost use Rattle.local_object.specs.Passed.{can_raise, is_below_final, is_open, member_of, passed_in, passed_positions};
 ghost use Rattle.local_object.specs.Passed.{raise_events};
 
+use crate::LocalObject;
 use crate::kept_bank::KeptBank;
 use crate::place::Place;
-use crate::LocalObject;
 use bank::{Request, Status};
 use layout::Layout;
 use tag::Refusal;
@@ -65,8 +65,10 @@ impl LocalObject {
     pub fn member_at(&self, position: u32) -> Option<u8>
         ensures { result ≡ member_of (layout_here self.now position) self.now.node }
     {
-        let layout = self.places.layout_of(u64::from(position))?;
-        layout.point_of(self.node)
+        match self.places.layout_of(u64::from(position)) {
+            Some(layout) => layout.point_of(self.node),
+            None => None,
+        }
     }
 }
 

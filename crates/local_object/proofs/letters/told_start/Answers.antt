@@ -1,6 +1,4 @@
-use Rattle.std.proofs.Common.{ap, ◌∙◌}
-use Rattle.local_object.specs.Local.{heard_place, layout_in}
-use Rattle.local_object.proofs.StartLemmas.{told_known, told_unknown, told_zero}
+use Rattle.local_object.proofs.StartLemmas.{told_zero}
 use Rattle.local_object.proofs.letters.told_start.Goals as goal
 
 pub returns-then-start-eq0-clause-start : goal.returns-then-start-eq0-clause-start

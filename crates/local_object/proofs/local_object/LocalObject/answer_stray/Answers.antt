@@ -1,4 +1,4 @@
-use Rattle.std.proofs.Common.{false, true, is_some, refl, sym, ◌∙◌}
+use Rattle.std.proofs.Common.{is_some, refl, sym, ◌∙◌}
 use Rattle.local_object.proofs.StrayLemmas.{askable_next, dropped, sent_back, unasked}
 use Rattle.local_object.proofs.local_object.LocalObject.answer_stray.Goals as goal
 
