@@ -1,4 +1,4 @@
--- A node raises the pointer of its bank of a position: this is what it does as it serves the letter with which it asks
+-- A node raises the pointer of its bank of a position: it does the same as it serves the letter with which it asks
 -- itself to do so.
 use Rattle.std.proofs.Common.{◌≡◌, ℕ, suc, ◌<◌, ◌+◌, ◌^◌, Bool, true, false, ◌&&◌, cond, eqb, eqb-true, eq-eqb, List, [], ◌∷◌}
 use Rattle.std.proofs.Common.{Option, None, Some, slice_get, refl, sym, subst, ap, ap₂, ◌∙◌}
@@ -13,13 +13,12 @@ use Rattle.letter.specs.declared.start.Start.{Start}
 use Rattle.local_object.specs.declared.kept_bank.KeptBank.{KeptBank}
 use Rattle.local_object.specs.Agreement.{if_there, is_heard, knows_all_of, start_passes}
 use Rattle.local_object.specs.Doing.{is_askable, is_member, is_served, names_node, serve_events, stray_events}
-use Rattle.local_object.specs.Events.{LocalEvent, all_done, raised_here, served_here}
+use Rattle.local_object.specs.Events.{LocalEvent, all_done, served_here}
 use Rattle.local_object.specs.Local.{LocalObject, Place, added_place, bank_in, heard_place, heard_start_if, layout_here}
 use Rattle.local_object.specs.Local.{layout_in, learnt_if, told_start, with_bank_here, with_heard}
 use Rattle.local_object.specs.May.{IsAddressed, MayAllHappen}
 use Rattle.local_object.specs.Outcomes.{learnt_from}
-use Rattle.local_object.specs.Passed.{can_raise, is_below_final, member_of, raise_events}
-use Rattle.local_object.proofs.AgreementLemmas.{known_agrees}
+use Rattle.local_object.specs.Passed.{can_raise, member_of, raise_events}
 use Rattle.local_object.proofs.PassedLemmas.{kept_raised, member_named, raisable}
 use Rattle.object_letters.specs.Letters.{letter_to}
 use Rattle.object_letters.specs.Raising.{raising_letter, raising_to}
@@ -153,8 +152,10 @@ module _ (local : LocalObject) (place : Place) (found : heard_place local.places
     pub may_serve : MayAllHappen fragment local (serve_events local letter)
     may_serve =
         subst (λ b. MayAllHappen fragment local (serves b)) (sym served) (
-          ((request.Spread status.Final, refl),
-              subst (λ (l : LocalObject). IsAddressed l letter) (sym nothing_learnt) (place.layout, heard_here, named)),
+          (
+            (request.Spread status.Final, refl),
+            subst (λ (l : LocalObject). IsAddressed l letter) (sym nothing_learnt) (place.layout, heard_here, named),
+          ),
           tt,
         )
 
