@@ -14,9 +14,9 @@ pub mod EventLogLemmas
 pub mod FittingLemmas
 pub mod HeardNameLemmas
 pub mod IdLemmas
-pub mod LeavingLemmas
 pub mod LetterLemmas
 pub mod NewObjectLemmas
+pub mod PassedBankLemmas
 pub mod PlaceRecordLemmas
 pub mod QuietLemmas
 pub mod ReadLemmas

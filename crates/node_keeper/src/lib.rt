@@ -6,7 +6,6 @@ pub use delivered::{Begun, Delivered};
 pub use entries::push_entry;
 pub use ids::OwnIds;
 pub use keeper::Keeper;
-pub use laws::left_positions_are_final;
 pub use objects::Objects;
 pub use objects::scan::Page;
 
@@ -14,7 +13,6 @@ mod delivered;
 mod entries;
 mod ids;
 mod keeper;
-mod laws;
 mod objects;
 mod placing;
 mod post;
