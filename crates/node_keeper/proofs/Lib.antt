@@ -3,6 +3,7 @@ pub mod AnewLemmas
 pub mod AnewReadLemmas
 pub mod AskedAgainLemmas
 pub mod AskedAllLemmas
+pub mod AskingReadLemmas
 pub mod BegunLemmas
 pub mod CallLemmas
 pub mod CauseLemmas

@@ -6,6 +6,7 @@ pub use delivered::{Begun, Delivered};
 pub use entries::push_entry;
 pub use ids::OwnIds;
 pub use keeper::Keeper;
+pub use laws::reads_ask_for_the_next_position;
 pub use objects::Objects;
 pub use objects::scan::Page;
 
@@ -13,6 +14,7 @@ mod delivered;
 mod entries;
 mod ids;
 mod keeper;
+mod laws;
 mod objects;
 mod placing;
 mod post;
