@@ -19,7 +19,7 @@ use Rattle.object_letters.specs.Raising.{raising_letter, raising_to}
 use Rattle.recoveries.specs.Copies.{IsLogged}
 use Rattle.recoveries.specs.Records.{LogRecord}
 use Rattle.recoveries.proofs.LoggedIdLemmas.{TellsNoId}
-use Rattle.recoveries.proofs.LoggedLemmas.{closes_logged, raises_logged, same_unlogged}
+use Rattle.recoveries.proofs.LoggedLemmas.{closes_logged, raised_logged, same_unlogged}
 use Rattle.node_effects.specs.Work.{log_all}
 use Rattle.node_effects.specs.declared.work.Work.{Work}
 use Rattle.node_keeper.specs.Acts.{Acts, logged_growth}
@@ -99,15 +99,13 @@ lettered local (Some place) (Some member) below some none = cc
 unlettered : (local : LocalObject) (position : ℕ) → raising_letter local position ≡ None → can_raise local position ≡ false
 unlettered local position = go (can_raise local position) refl
   where
-    abbrev place : Option Place
-    place = heard_place local.places position
-
-    abbrev member : Option ℕ
-    member = member_of (layout_here local position) local.node
-
-    go : (b : Bool) → can_raise local position ≡ b → cond b (raising_to local place member) None ≡ None → b ≡ false
+    go : (b : Bool) → can_raise local position ≡ b →
+        cond b (raising_to local (heard_place local.places position) (member_of (layout_here local position) local.node)) None ≡ None →
+        b ≡ false
     go false is none = refl
     go true is none =
+        let place = heard_place local.places position in
+        let member = member_of (layout_here local position) local.node in
         let rest = (and_parts (ltb position local.start) _ is).1 in
         let more = (and_parts (is_below_final (bank_in place)) _ rest).1 in
         absurd (lettered local place member (and_parts (is_below_final (bank_in place)) _ rest).0
@@ -134,7 +132,7 @@ module _ (name : List ℕ) (position : ℕ) (old new : Keeper) (before after : W
       IfSome letter (λ l. position + 1 < 2 ^ 32) → AllByRecursion (IsLoggable old.digest) (serving_records name letter) →
       IsLogged (kept_of old) (serving_records name letter) (kept_of new)
   raise_needs (Some letter) is within fits =
-      raises_logged (kept_of old) (kept_of new) name position letter is within fits.0.message.layout (done_of old new name
+      raised_logged (kept_of old) (kept_of new) name position letter is within fits.0.message.layout (done_of old new name
       (raise_events (objects_of old.objects name) position) [] raises.file raises.ids raises.done)
   raise_needs None is within fits =
       let local = objects_of old.objects name in

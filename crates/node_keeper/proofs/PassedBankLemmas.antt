@@ -1,5 +1,6 @@
 -- Banks of positions before the start, which a node closes one after another.
-use Rattle.std.proofs.Common.{◌≡◌, ℕ, List, [], ◌∷◌, ◌++◌, refl, sym, subst, ap, ◌∙◌}
+use Rattle.std.proofs.Common.{◌≡◌, ◌<◌, ◌+◌, ℕ, List, [], ◌∷◌, ◌++◌, drop, get_or, length, map, take, refl, sym, subst, ap, ◌∙◌}
+use Rattle.std.proofs.lemmas.List.{drop_more, map-id, take-append-drop}
 use Rattle.std.specs.List.{AllByRecursion}
 use Rattle.encoder.specs.Fragment.{fragment}
 use Rattle.local_object.specs.Doing.{close_events}
@@ -65,7 +66,14 @@ module _ (name : List ℕ) (position : ℕ) (old new : Keeper) (before after : W
   pass_after first none = record {
     middle = passes.middle;
     between = passes.between;
-    raises = record passes.raises { grown = grown_then first before passes.between no_growth _ none passes.raises.grown };
+    raises = record {
+        done = passes.raises.done;
+        grown = grown_then first before passes.between no_growth _ none passes.raises.grown;
+        fits = passes.raises.fits;
+        file = passes.raises.file;
+        digest = passes.raises.digest;
+        ids = passes.raises.ids;
+    };
     closes = passes.closes;
   }
 
@@ -88,8 +96,7 @@ passed_more name [] position old middle new before between after is next = (
   new,
   after,
   subst (λ k. PassesBank name position k before new after) is.0 (pass_after name position middle new between after next before is.1),
-  refl,
-  grown_none after,
+  (refl, grown_none after),
 )
 passed_more name (first ∷ positions) position old middle new before between after (k, work, is, rest) next =
     (k, work, is, passed_more name positions position k middle new work between after rest next)
@@ -125,3 +132,14 @@ passed_part P name (first ∷ positions) more position old new before after (mid
     (sym (pass_local name first old middle before between is))
     (all_second P (passed_records name local first)
     (all_passed_records name (after_pass local first) (positions ++ position ∷ more)) all))
+
+-- Positions that a loop goes over
+
+-- a list, where a loop has gone over some of its elements, and this one is the next
+pub split_at : (xs all : List ℕ) (x : ℕ) → map (λ n. n) xs ≡ take (length xs) all →
+    (length xs < length all) × (x ≡ get_or all (length xs) x) → all ≡ xs ++ x ∷ drop (length xs + 1) all
+split_at xs all x front next =
+    sym (take-append-drop (length xs) all)
+    ∙ ap (λ (ys : List ℕ). ys ++ drop (length xs) all) (sym front ∙ map-id xs)
+    ∙ ap (λ (ys : List ℕ). xs ++ ys)
+    (drop_more all (length xs) x next.0 ∙ ap (λ n. n ∷ drop (length xs + 1) all) (sym next.1))
