@@ -67,12 +67,12 @@ module _ (name : List ℕ) (position : ℕ) (old new : Keeper) (before after : W
     middle = passes.middle;
     between = passes.between;
     raises = record {
-        done = passes.raises.done;
-        grown = grown_then first before passes.between no_growth _ none passes.raises.grown;
-        fits = passes.raises.fits;
-        file = passes.raises.file;
-        digest = passes.raises.digest;
-        ids = passes.raises.ids;
+      done = passes.raises.done;
+      grown = grown_then first before passes.between no_growth _ none passes.raises.grown;
+      fits = passes.raises.fits;
+      file = passes.raises.file;
+      digest = passes.raises.digest;
+      ids = passes.raises.ids;
     };
     closes = passes.closes;
   }
