@@ -9,6 +9,7 @@ pub mod CallLemmas
 pub mod CauseLemmas
 pub mod ClosedBankLemmas
 pub mod ClosedRecordLemmas
+pub mod DecliningLemmas
 pub mod DoneLemmas
 pub mod EpochLemmas
 pub mod EventLogLemmas

@@ -1,7 +1,7 @@
 //! Requests that the node serves, and to which its closed bank sends no reply.
 ghost use Rattle.std.specs.Prelude.{◌≡◌, ◌+◌, ◌^◌, nat_lt, true, option_copied, Some};
 ghost use Rattle.local_object.specs.Doing.{has_member};
-ghost use Rattle.local_object.specs.Local.{heard_place};
+ghost use Rattle.local_object.specs.Local.{layout_here};
 ghost use Rattle.object_letters.specs.Closing.{is_closed};
 ghost use Rattle.node_keeper.specs.Declining.{declines, fetches};
 ghost use Rattle.node_keeper.specs.Objects.{objects_of};
@@ -10,8 +10,9 @@ use super::Objects;
 use super::last::place_of;
 use bank::Request;
 use bytes::Bytes;
+use layout::Layout;
 use letter::Letter;
-use local_object::{KeptBank, LocalObject, Place};
+use local_object::{KeptBank, LocalObject};
 use mail::Body;
 
 impl Objects {
@@ -39,20 +40,28 @@ fn declines(object: &LocalObject, letter: &Letter) -> bool
         return false;
     }
     match place_of(object.places(), letter.message.position) {
-        Some(place) => is_closed(place.bank()) && is_member(object, place, letter.message.member),
+        Some(place) => {
+            is_closed(place.bank())
+                && is_member(
+                    object,
+                    letter.message.position,
+                    place.layout(),
+                    letter.message.member,
+                )
+        }
         None => false,
     }
 }
 
-// Whether the node is the member of a place with this number.
-fn is_member(object: &LocalObject, place: &Place, member: u8) -> bool
-    requires { heard_place object.now.places place.now.position ≡ Some place.now }
-    ensures { result ≡ has_member place.now.layout member object.now.node }
+// Whether the node is the member with this number of a position, which has this layout.
+fn is_member(object: &LocalObject, position: u32, layout: &Layout, member: u8) -> bool
+    requires { layout_here object.now position ≡ Some layout.now }
+    ensures { result ≡ has_member layout.now member object.now.node }
 {
-    if member >= place.layout().n() {
+    if member >= layout.n() {
         return false;
     }
-    match object.member_at(place.position()) {
+    match object.member_at(position) {
         Some(own) => own == member,
         None => false,
     }
@@ -60,7 +69,7 @@ fn is_member(object: &LocalObject, place: &Place, member: u8) -> bool
 
 // Whether there is a bank, and it is closed.
 fn is_closed(bank: Option<&KeptBank>) -> bool
-    ensures { result ≡ is_closed (option_copied bank) }
+    ensures { result ≡ is_closed (option_copied bank.entry) }
 {
     match bank {
         Some(KeptBank::Closed(_)) => true,

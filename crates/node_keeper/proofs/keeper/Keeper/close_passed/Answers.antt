@@ -44,7 +44,7 @@ returns-in_err-pass-clause-writes c =
     let next = YieldsList-turn road loop.yielded loop.position-iterator loop.yielded_by c.next.result c.next.new.self
     c.in-Some.position c.in-Some.is c.next.ensures.steps in
     let all : passed_positions (objects_of old.objects name)
-        ≡ loop.yielded ++ c.in-Some.position ∷ drop (length loop.yielded + 1) positions.items =
+    ≡ loop.yielded ++ c.in-Some.position ∷ drop (length loop.yielded + 1) positions.items =
     sym c.in_ok-positions.ensures.positions
     ∙ split_at loop.yielded positions.items c.in-Some.position
     (YieldsList-so_far road loop.yielded loop.position-iterator loop.yielded_by) next in
