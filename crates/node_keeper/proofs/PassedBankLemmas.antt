@@ -1,12 +1,10 @@
 -- Banks of positions before the start, which a node closes one after another.
-use Rattle.std.proofs.Common.{◌≡◌, ◌<◌, ◌+◌, ℕ, List, [], ◌∷◌, ◌++◌, drop, get_or, length, map, take, refl, sym, subst, ap, ◌∙◌}
+use Rattle.std.proofs.Common.{◌≡◌, ◌<◌, ◌+◌, ℕ, Bool, true, false, List, [], ◌∷◌, ◌++◌, drop, get_or, length, map, take}
+use Rattle.std.proofs.Common.{option_to_list, refl, sym, subst, ap, ◌∙◌}
 use Rattle.std.proofs.lemmas.List.{drop_more, map-id, take-append-drop}
 use Rattle.std.specs.List.{AllByRecursion}
-use Rattle.encoder.specs.Fragment.{fragment}
-use Rattle.local_object.specs.Doing.{close_events}
-use Rattle.local_object.specs.Events.{all_done}
+use Rattle.letter.specs.declared.letter.NamedLetter.{NamedLetter}
 use Rattle.local_object.specs.Local.{LocalObject}
-use Rattle.local_object.specs.Passed.{raise_events}
 use Rattle.deeds.proofs.NameLemmas.{own_named}
 use Rattle.object_letters.specs.Closing.{after_close}
 use Rattle.open_calls.proofs.ListLemmas.{all_append}
@@ -14,15 +12,16 @@ use Rattle.recoveries.specs.Records.{LogRecord}
 use Rattle.node_effects.specs.Work.{IsGrown, no_growth}
 use Rattle.node_effects.specs.declared.work.Work.{Work}
 use Rattle.node_effects.proofs.GrowthLemmas.{grown_none, grown_then}
-use Rattle.node_keeper.specs.Closing.{PassesBank, PassesBanks, after_pass, after_raise, all_passed_records, closed_records}
+use Rattle.node_keeper.specs.Closing.{CanClosePassed, PassesBank, PassesBanks, after_pass, after_raise, all_passed_records, closed_records}
 use Rattle.node_keeper.specs.Closing.{passed_records, raised_records}
-use Rattle.node_keeper.specs.Delivering.{KeepsRest}
+use Rattle.node_keeper.specs.Delivering.{CanCloseAfter, HandlesAs, KeepsRest}
+use Rattle.node_keeper.specs.declared.delivered.Delivered.{Delivered}
 use Rattle.node_keeper.specs.Fitting.{IsLoggable}
 use Rattle.node_keeper.specs.Objects.{objects_of}
 use Rattle.node_keeper.specs.declared.keeper.Keeper.{Keeper}
 use Rattle.node_keeper.proofs.AnewLemmas.{all_first, all_second}
 
-rest_then : (a b c : Keeper) → KeepsRest a b → KeepsRest b c → KeepsRest a c
+pub rest_then : (a b c : Keeper) → KeepsRest a b → KeepsRest b c → KeepsRest a c
 rest_then a b c first second = record {
   file = second.file ∙ first.file;
   digest = second.digest ∙ first.digest;
@@ -143,3 +142,24 @@ split_at xs all x front next =
     ∙ ap (λ (ys : List ℕ). ys ++ drop (length xs) all) (sym front ∙ map-id xs)
     ∙ ap (λ (ys : List ℕ). xs ++ ys)
     (drop_more all (length xs) x next.0 ∙ ap (λ n. n ∷ drop (length xs + 1) all) (sym next.1))
+
+-- Letters that were handled, before banks are closed
+
+-- everything but the objects stays
+pub handled_rest : (asks : Bool) (asker : ℕ) (it : NamedLetter) (old new : Keeper) (before after : Work) (result : Delivered) →
+    HandlesAs asks asker it old before new after result → KeepsRest old new
+handled_rest true asker it old new before after result is = is.1.rest
+handled_rest false asker it old new before after result (ended, told, takes) = takes.rest
+
+-- what the log gets as banks are closed behind a letter can be written, if it can whatever comes of the letter
+pub closed_after : (asks : Bool) (asker : ℕ) (it : NamedLetter) (old new : Keeper) (before after : Work) (result : Delivered) →
+    HandlesAs asks asker it old before new after result → CanCloseAfter asks it old →
+    CanClosePassed new.digest it.name (objects_of new.objects it.name)
+closed_after true asker it old new before after result is can =
+    let done = is.1.done in
+    subst (λ d. CanClosePassed d it.name (objects_of new.objects it.name)) (sym is.1.rest.digest)
+    (subst (λ (l : LocalObject). CanClosePassed old.digest it.name l)
+    (sym (done.changed.objects it.name ∙ own_named (objects_of old.objects) it.name done.local ∙ done.done.local)) can)
+closed_after false asker it old new before after result (ended, told, takes) can =
+    subst (λ d. CanClosePassed d it.name (objects_of new.objects it.name)) (sym takes.rest.digest)
+    (can new.objects takes.letters (option_to_list ended) takes.done)

@@ -1,4 +1,4 @@
-use Rattle.std.proofs.Common.{[], ap, inl, refl, subst, ◌∷◌, ◌≡◌}
+use Rattle.std.proofs.Common.{[], ap, inl, refl, subst, ◌∷◌}
 use Rattle.deeds.specs.Deeds.{Notice as Seen}
 use Rattle.local_object.specs.Events.{LocalEvent}
 use Rattle.node_effects.specs.Work.{IsGrown}
