@@ -9,7 +9,8 @@ use Rattle.open_calls.proofs.ListLemmas.{all_append}
 use Rattle.node_keeper.specs.Fitting.{IsSendable}
 use Rattle.node_keeper.specs.Resending.{first_for_all, to_all}
 use Rattle.node_keeper.specs.Sendings.{asked, asks_next, sent_growth}
-use Rattle.node_keeper.proofs.AskedAllLemmas.{all_parts, first_asks, writes_last}
+use Rattle.node_keeper.proofs.AskedAllLemmas.{first_asks}
+use Rattle.node_keeper.proofs.RequestCopyLemmas.{all_parts, writes_last}
 use Rattle.node_keeper.proofs.FittingLemmas.{unwritten_more}
 use Rattle.node_keeper.proofs.ResultLemmas.{fails_same}
 use Rattle.node_keeper.proofs.keeper.Keeper.post_requests.Goals as goal
