@@ -28,7 +28,7 @@ use Rattle.node_keeper.specs.Sendings.{Sending, asked, sent_growth}
 use Rattle.node_keeper.specs.declared.delivered.Begun.{Begun}
 use Rattle.node_keeper.specs.declared.delivered.Begun.TheVariants as begun
 use Rattle.node_keeper.specs.declared.keeper.Keeper.{Keeper}
-use Rattle.node_keeper.proofs.AskedAllLemmas.{all_parts}
+use Rattle.node_keeper.proofs.RequestCopyLemmas.{all_parts}
 use Rattle.node_keeper.proofs.IdLemmas.{begun_later, next_is_node}
 
 -- the node that gives an id has its number

@@ -1,12 +1,11 @@
 -- Banks whose pointers are raised and banks that are closed, as what a node does.
 use Rattle.std.proofs.Common.{◌≡◌, ◌<◌, ◌+◌, ◌^◌, inl, inr, ℕ, Bool, true, false, cond, List, [], ◌∷◌, map, Option, None, Some}
-use Rattle.std.proofs.Common.{is_some, ltb, IfSome, refl, sym, subst, ap, ◌∙◌}
+use Rattle.std.proofs.Common.{is_some, ltb, IfSome, refl, sym, ap, ◌∙◌}
 use Rattle.std.specs.List.{AllByRecursion}
 use Rattle.std.proofs.lemmas.Bool.{and_parts}
 use Rattle.std.proofs.lemmas.List.{append-nil}
 use Rattle.encoder.specs.Fragment.{fragment}
 use Rattle.letter.specs.declared.letter.Letter.{Letter}
-use Rattle.layout.specs.Layout.{Layout}
 use Rattle.local_object.specs.Doing.{can_close, close_events}
 use Rattle.local_object.specs.Events.{LocalEvent, all_done}
 use Rattle.local_object.specs.Local.{LocalObject, Place, bank_in, heard_place, layout_here}

@@ -1,12 +1,11 @@
 -- Requests that a node serves, and to which its closed bank sends no reply.
-use Rattle.std.proofs.Common.{◌≡◌, ◌==◌, ◌≤◌, ◌+◌, ◌^◌, ◌&&◌, ℕ, Bool, true, false, cond, ltb, eqb, eqb-true, List, Option, None, Some, length}
-use Rattle.std.proofs.Common.{slice_get, get_or, refl, sym, subst, ap, ◌∙◌, eq-eqb, arith}
-use Rattle.std.specs.List.{position, position_or_len}
+use Rattle.std.proofs.Common.{◌≡◌, ◌==◌, ◌≤◌, ◌+◌, ◌^◌, ◌&&◌, ℕ, Bool, true, false, cond, ltb, eqb, eqb-true, Option, None, Some, length}
+use Rattle.std.proofs.Common.{slice_get, get_or, refl, sym, ap, ◌∙◌, eq-eqb, arith}
+use Rattle.std.specs.List.{position_or_len}
 use Rattle.std.proofs.lemmas.Bool.{ltb-false}
 use Rattle.std.proofs.lemmas.List.Quantifiers.{position-Some}
 use Rattle.std.proofs.lemmas.List.Sums.{fails_before_first}
 use Rattle.std.proofs.lemmas.Option.{get_or_from_slice_get, slice_get-get_or, slice_get_within}
-use Rattle.bank.specs.declared.request.Request.{Request}
 use Rattle.bank.specs.declared.request.Request.TheVariants as request
 use Rattle.layout.specs.Layout.{IsLawful, Layout}
 use Rattle.letter.specs.declared.letter.Letter.{Letter}

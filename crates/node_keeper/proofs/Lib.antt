@@ -2,6 +2,7 @@ pub mod ActLemmas
 pub mod AnewLemmas
 pub mod AnewReadLemmas
 pub mod AskedAgainLemmas
+pub mod RequestCopyLemmas
 pub mod AskedAllLemmas
 pub mod AskingReadLemmas
 pub mod BegunLemmas

@@ -3,12 +3,8 @@ use Rattle.std.proofs.Common.{◌≡◌, ◌<◌, ◌+◌, ℕ, Bool, true, fals
 use Rattle.std.proofs.Common.{option_to_list, refl, sym, subst, ap, ◌∙◌}
 use Rattle.std.proofs.lemmas.List.{drop_more, map-id, take-append-drop}
 use Rattle.std.specs.List.{AllByRecursion}
-use Rattle.encoder.specs.Fragment.{fragment}
-use Rattle.local_object.specs.Doing.{close_events}
-use Rattle.local_object.specs.Events.{all_done}
-use Rattle.local_object.specs.Local.{LocalObject}
-use Rattle.local_object.specs.Passed.{raise_events}
 use Rattle.letter.specs.declared.letter.NamedLetter.{NamedLetter}
+use Rattle.local_object.specs.Local.{LocalObject}
 use Rattle.deeds.proofs.NameLemmas.{own_named}
 use Rattle.object_letters.specs.Closing.{after_close}
 use Rattle.open_calls.proofs.ListLemmas.{all_append}

@@ -13,7 +13,7 @@ use Rattle.node_effects.specs.declared.notice.Notice.{Notice}
 use Rattle.node_effects.specs.declared.work.Work.{Work}
 use Rattle.node_keeper.specs.Acts.{ClientsSee, GivesId}
 use Rattle.node_keeper.specs.Beginning.{BeginsCall, Beginning, seen_of_begun}
-use Rattle.node_keeper.specs.Closing.{ClosesPassed, PassesBanks}
+use Rattle.node_keeper.specs.Closing.{PassesBanks}
 use Rattle.node_keeper.specs.Declining.{declines}
 use Rattle.node_keeper.specs.Delivering.{DeliversAs, DeliversLetter, HandlesAs, delivered_of, notices_of, served_as, told_by, was_dropped}
 use Rattle.node_keeper.specs.Keeping.{heeds, kept_of}

@@ -1,4 +1,4 @@
-use Rattle.std.proofs.Common.{[], ap, inl, refl, subst, ◌∷◌, ◌≡◌}
+use Rattle.std.proofs.Common.{[], ap, inl, refl, subst, ◌∷◌}
 use Rattle.deeds.specs.Deeds.{Notice as Seen}
 use Rattle.local_object.specs.Events.{LocalEvent}
 use Rattle.node_effects.specs.Work.{IsGrown}
@@ -10,7 +10,8 @@ use Rattle.node_keeper.specs.Resending.{first_for_all, to_all}
 use Rattle.node_keeper.specs.Sendings.{asked}
 use Rattle.node_keeper.specs.declared.keeper.Keeper.{Keeper}
 use Rattle.node_keeper.proofs.ActLemmas.{acts_more}
-use Rattle.node_keeper.proofs.AskedAllLemmas.{all_acts, all_parts, first_asks, sent_as}
+use Rattle.node_keeper.proofs.AskedAllLemmas.{all_acts, first_asks, sent_as}
+use Rattle.node_keeper.proofs.RequestCopyLemmas.{all_parts}
 use Rattle.node_keeper.proofs.AskingReadLemmas.{read_first}
 use Rattle.node_keeper.proofs.BegunLemmas.{begun_acts}
 use Rattle.node_keeper.proofs.EpochLemmas.{refused_if}

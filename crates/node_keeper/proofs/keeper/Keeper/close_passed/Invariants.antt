@@ -1,4 +1,4 @@
-use Rattle.std.proofs.Common.{◌≡◌, ℕ, []}
+use Rattle.std.proofs.Common.{ℕ, []}
 use Rattle.node_keeper.specs.Acts.{Acts}
 use Rattle.node_keeper.specs.Closing.{PassesBanks}
 use Rattle.node_keeper.proofs.keeper.Keeper.close_passed.Given as goal

@@ -1,6 +1,6 @@
 use Rattle.std.proofs.Common.{◌≡◌, ◌∙◌, List, Option, true, ap, subst, sym}
 use Rattle.std.specs.List.{AllByRecursion}
-use Rattle.std.specs.Prelude.{IfSome, OnOk}
+use Rattle.std.specs.Prelude.{IfSome}
 use Rattle.std.proofs.lemmas.Result.{on_ok_weaker}
 use Rattle.letter.specs.declared.letter.Letter.{Letter}
 use Rattle.node_effects.specs.Errors.{WritesOrFails}
@@ -9,7 +9,8 @@ use Rattle.open_calls.proofs.ListLemmas.{all_append}
 use Rattle.node_keeper.specs.Fitting.{IsSendable}
 use Rattle.node_keeper.specs.Resending.{first_for_all, to_all}
 use Rattle.node_keeper.specs.Sendings.{asked, asks_next, sent_growth}
-use Rattle.node_keeper.proofs.AskedAllLemmas.{all_parts, first_asks, writes_last}
+use Rattle.node_keeper.proofs.AskedAllLemmas.{first_asks}
+use Rattle.node_keeper.proofs.RequestCopyLemmas.{all_parts, writes_last}
 use Rattle.node_keeper.proofs.FittingLemmas.{unwritten_more}
 use Rattle.node_keeper.proofs.ResultLemmas.{fails_same}
 use Rattle.node_keeper.proofs.keeper.Keeper.post_requests.Goals as goal
