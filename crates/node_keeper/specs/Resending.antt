@@ -76,8 +76,8 @@ pub record AreSent (asks_all : Bool) (keeper : Keeper) (name : List ℕ) (letter
   pub all : IsGrown between after (sent_growth keeper.ids.node keeper.digest
       (to_all keeper.ids.node keeper.file name (first_for_all asks_all letters)))
 
--- the requests that the call with this id sends as it asks again, with the first of them to all nodes, if they are to be
--- asked
+-- the requests that the call with this id sends as it asks again, with the first of them to all nodes, if they are to
+-- be asked
 unfoldable pub sendings_again : (name : List ℕ) → (id : ℕ) → (asks_all : Bool) → Keeper → List Sending
 sendings_again name id asks_all keeper =
     sendings_of asks_all keeper.ids.node keeper.file name (asked_again (objects_of keeper.objects name) id)

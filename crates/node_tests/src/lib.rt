@@ -15,6 +15,8 @@ mod closes;
 #[cfg(test)]
 mod commands;
 #[cfg(test)]
+mod declines;
+#[cfg(test)]
 mod deletions;
 #[cfg(test)]
 mod disk;

@@ -43,8 +43,8 @@ impl Keeper {
         self.post_requests(name, letters, asks_all, work)
     }
 
-    /// Requests of the object of this name go to their members. If all nodes are to be asked, and these requests ask for
-    /// the next position, the first of them also goes to each other node of the cluster file.
+    /// Requests of the object of this name go to their members. If all nodes are to be asked, and these requests ask
+    /// for the next position, the first of them also goes to each other node of the cluster file.
     pub(super) fn post_requests(
         &self,
         name: &Bytes,

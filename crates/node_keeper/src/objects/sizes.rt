@@ -18,8 +18,8 @@ impl Objects {
         banks
     }
 
-    /// Returns how many closed banks the node keeps, or `u64::MAX` if there are more. An object has at most one for each
-    /// of its positions. It takes time linear in the number of positions of all objects in the map.
+    /// Returns how many closed banks the node keeps, or `u64::MAX` if there are more. An object has at most one for
+    /// each of its positions. It takes time linear in the number of positions of all objects in the map.
     pub fn closed_banks(&self) -> u64
         ensures { result ≡ min (closed_banks self.now) (2 ^ 64 - 1) }
     {
@@ -30,8 +30,8 @@ impl Objects {
         closed
     }
 
-    /// Returns how many tags the open banks know, or `u64::MAX` if there are more. It takes time linear in the number of
-    /// positions of all objects in the map.
+    /// Returns how many tags the open banks know, or `u64::MAX` if there are more. It takes time linear in the number
+    /// of positions of all objects in the map.
     pub fn known_tags(&self) -> u64
         ensures { result ≡ min (known_tags self.now) (2 ^ 64 - 1) }
     {
