@@ -120,9 +120,19 @@ class Freed(MovedCase):
         self.tell(BYTES, [PART, PART, PART, 0, 0, PART, PART, 0])
 
     def test_a_node_that_missed_two_moves(self):
-        """Node 5 was down during two moves. Then it hears of the start as the name moves once more, but not of position
-        1. So it cannot raise its pointer, and keeps its fragment; its calls begin at the start, where nobody tells it
-        of that position. When it has started again, it has forgotten the start, so its call begins at position 0."""
+        """Node 5 was down during two moves. The first nodes tell it the start, and position 1, as its client reads."""
+        self.write_and_move(5)
+        self.move(*OTHER)
+        self.cluster.start(5)
+        self.stores(5, PART)
+        self.gives(5, bulk(VALUE), b"GET", b"a", ticks=0)
+        self.stores(5, 0)
+
+    def test_a_node_that_hears_of_a_later_position_alone(self):
+        """Node 5 was down during two moves, and then hears of the start as the name moves once more, but not of
+        position 1. So it cannot raise its pointer, and keeps its fragment; its calls begin at the start, where nobody
+        tells it of that position. When it has started again, it has forgotten the start, so its call begins at position
+        0."""
         self.write_and_move(5)
         self.move(*OTHER)
         self.cluster.start(5)
