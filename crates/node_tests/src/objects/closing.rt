@@ -1,8 +1,8 @@
-//! A closed bank: it stores no fragment, declines a fetch, and answers a query. A pointer that a node raises by itself.
+//! A closed bank: it stores no fragment, declines a fetch, and answers a query.
 use super::led_object::{FIRST, letter, new_object, pre_write};
 use crate::checks::shared_layout;
 use bank::{Answer, Request, Status};
-use letter::{Letter, SharedLayout, Start};
+use letter::{Letter, SharedLayout};
 use local_object::LocalObject;
 use mail::Body;
 use std::alloc::Global;
@@ -23,40 +23,6 @@ fn close(rt: &impl Abort, alloc: Global) {
     assert!(rt; !object.close(0) && object.bytes_stored() == 3);
     spread(rt, alloc, &mut object, Status::Final);
     assert_closes(rt, alloc, &mut object);
-}
-
-// Node 4 hears of the start 1 while its pointer is unset. It raises the pointer, and then closes its bank.
-#[test]
-fn raises_a_pointer(rt: HostRuntime) {
-    raise(&rt, rt.alloc());
-}
-
-fn raise(rt: &impl Abort, alloc: Global) {
-    let mut object = new_object(rt, alloc);
-    write(rt, alloc, &mut object);
-    assert!(rt; count_passed(rt, &object) == 0 && !object.can_raise(0));
-    hear(rt, alloc, &mut object);
-    assert!(rt; count_passed(rt, &object) == 1 && object.can_raise(0));
-    assert!(rt; object.member_at(0) == Some(1) && object.raise(0).is_ok());
-    assert_closes(rt, alloc, &mut object);
-    assert!(rt; count_passed(rt, &object) == 0 && !object.can_raise(0));
-}
-
-// At how many positions before the start the node keeps an open bank.
-fn count_passed(rt: &impl Abort, object: &LocalObject) -> usize {
-    object.passed_positions().expect(rt, "memory").len()
-}
-
-// A query tells the start 1, whose layout has the members 1, 2 and 3.
-fn hear(rt: &impl Abort, alloc: Global, object: &mut LocalObject) {
-    let first = shared_layout(rt, alloc, 2, &[6, 4, 2]);
-    let mut asked = letter(first, None, Request::Query);
-    asked.start = Some(Start {
-        position: 1,
-        layout: shared_layout(rt, alloc, 2, &[1, 2, 3]),
-    });
-    let reply = object.serve(asked).expect(rt, "memory");
-    assert!(rt; reply.is_some());
 }
 
 fn assert_closes(rt: &impl Abort, alloc: Global, object: &mut LocalObject) {
