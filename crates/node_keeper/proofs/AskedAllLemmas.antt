@@ -6,6 +6,7 @@ use Rattle.std.proofs.lemmas.List.{append-nil}
 use Rattle.std.specs.List.{AllByRecursion}
 use Rattle.bank.specs.declared.kind.Kind.TheVariants.{Next}
 use Rattle.bank.specs.declared.request.Request.TheVariants as request
+use Rattle.cluster_file.specs.File.{FileContents}
 use Rattle.encoder.specs.Fragment.{fragment}
 use Rattle.layout.specs.Layout.{Layout}
 use Rattle.letter.specs.declared.letter.Letter.{Letter}
@@ -36,7 +37,7 @@ use Rattle.node_effects.proofs.GrowthLemmas.{grown_as, grown_then}
 use Rattle.node_keeper.specs.Acts.{Acts}
 use Rattle.node_keeper.specs.Fitting.{IsSendable}
 use Rattle.node_keeper.specs.Objects.{objects_of}
-use Rattle.node_keeper.specs.Resending.{IsAskedAgain, any_or, asked_again, first_for_all, read_on_here, to_all}
+use Rattle.node_keeper.specs.Resending.{AreSent, IsAskedAgain, any_or, asked_again, first_for_all, read_on_here, sendings_of, to_all}
 use Rattle.node_keeper.specs.Sendings.{IsDirected, Sending, asked, asks_next, letters_of, sending, sent_growth, to_others}
 use Rattle.node_keeper.specs.declared.keeper.Keeper.{Keeper}
 use Rattle.node_keeper.proofs.ActLemmas.{acts_more}
@@ -160,7 +161,7 @@ first_asks true (letter ∷ letters) = go (asks_next letter.message.body) refl
     go false is = tt
 
 -- it is the first of the letters
-first_is : (P : Letter → Type 0) (asks_all : Bool) (letters : List Letter) →
+pub first_is : (P : Letter → Type 0) (asks_all : Bool) (letters : List Letter) →
     ((letter : Letter) (more : List Letter) → letters ≡ letter ∷ more → P letter) → IfSome (first_for_all asks_all letters) P
 first_is P false letters is = tt
 first_is P true [] is = tt
@@ -173,7 +174,7 @@ first_is P true (letter ∷ letters) is = go (asks_next letter.message.body)
 -- It may be sent again
 
 -- requests for the next position have no piece
-same_requests : (call number position : ℕ) (members : List ℕ) (member : ℕ) (f g : ℕ → Piece) →
+pub same_requests : (call number position : ℕ) (members : List ℕ) (member : ℕ) (f g : ℕ → Piece) →
     requests call number Next position members member f ≡ requests call number Next position members member g
 same_requests call number position [] member f g = refl
 same_requests call number position (server ∷ servers) member f g =
@@ -250,62 +251,62 @@ module _ (local : LocalObject) (id : ℕ) where
 
 -- A node
 
--- the requests of a call that asks again go out, and then one of them to all nodes
-pub both_grown_again : (number : ℕ) (digest : List ℕ) (xs ys : List Sending) (before middle after : Work) →
-    IsGrown before middle (sent_growth number digest xs) → IsGrown middle after (sent_growth number digest ys) →
-    IsGrown before after (sent_growth number digest (xs ++ ys))
-both_grown_again number digest xs ys before middle after first second =
-    grown_as before after (both_grown (sent_growth number digest xs) (sent_growth number digest ys))
-    (sent_growth number digest (xs ++ ys))
-    (grown_then before middle after (sent_growth number digest xs) (sent_growth number digest ys) first second)
-    (sent_append number digest xs ys)
+-- all that the node's work grew by as requests went out
+pub sent_as : (asks_all : Bool) (keeper : Keeper) (name : List ℕ) (letters : List Letter) (before after : Work) →
+    AreSent asks_all keeper name letters before after → IsGrown before after
+    (sent_growth keeper.ids.node keeper.digest (sendings_of asks_all keeper.ids.node keeper.file name letters))
+sent_as asks_all keeper name letters before after sent =
+    let n = keeper.ids.node in
+    let d = keeper.digest in
+    let xs = asked n name letters in
+    let ys = to_all n keeper.file name (first_for_all asks_all letters) in
+    grown_as before after (both_grown (sent_growth n d xs) (sent_growth n d ys)) (sent_growth n d (xs ++ ys))
+    (grown_then before sent.between after (sent_growth n d xs) (sent_growth n d ys) sent.asked sent.all) (sent_append n d xs ys)
 
-module _ (asker : ℕ) (old new : Keeper) (before middle after : Work) (name : List ℕ) (id : ℕ) (again : IsAskedAgain old name id new)
-  where
-    -- a request of the call, if there is one, goes to all nodes
-    all_acts : (first : Option Letter) → IfSome first (IsResent fragment (objects_of new.objects name)) →
-        IfSome first (λ letter. asks_next letter.message.body ≡ true) →
-        IsGrown middle after (sent_growth new.ids.node new.digest (to_all new.ids.node old.file name first)) →
-        AllByRecursion (IsSendable new.ids.node new.digest) (to_all new.ids.node old.file name first) →
-        Acts asker [] new middle new after
-    all_acts None resent asks grown fits = sent_acts asker new middle after name [] [] tt refl tt grown fits
-    all_acts (Some letter) resent asks grown fits =
-        let n = new.ids.node in
-        let it : NamedLetter = record { name = name; letter = letter } in
-        let nodes = old.file.fixed.nodes ++ old.file.later in
-        sent_acts asker new middle after name (copied n letter nodes) (to_others n it nodes)
-        (copied_all (IsResent fragment (objects_of new.objects name)) n letter resent nodes) (copied_letters n name letter nodes)
-        (others_addressed n asker [] it asks nodes) grown fits
+-- a request of a call's current phase, if there is one, goes to all nodes of a cluster file
+pub all_acts : (asker : ℕ) (keeper : Keeper) (before after : Work) (name : List ℕ) (file : FileContents) (first : Option Letter) →
+    IfSome first (IsResent fragment (objects_of keeper.objects name)) →
+    IfSome first (λ letter. asks_next letter.message.body ≡ true) →
+    IsGrown before after (sent_growth keeper.ids.node keeper.digest (to_all keeper.ids.node file name first)) →
+    AllByRecursion (IsSendable keeper.ids.node keeper.digest) (to_all keeper.ids.node file name first) →
+    Acts asker [] keeper before keeper after
+all_acts asker keeper before after name file None resent asks grown fits =
+    sent_acts asker keeper before after name [] [] tt refl tt grown fits
+all_acts asker keeper before after name file (Some letter) resent asks grown fits =
+    let n = keeper.ids.node in
+    let it : NamedLetter = record { name = name; letter = letter } in
+    let nodes = file.fixed.nodes ++ file.later in
+    sent_acts asker keeper before after name (copied n letter nodes) (to_others n it nodes)
+    (copied_all (IsResent fragment (objects_of keeper.objects name)) n letter resent nodes) (copied_letters n name letter nodes)
+    (others_addressed n asker [] it asks nodes) grown fits
 
-    -- the object after the call asked again
-    after_is : objects_of new.objects name ≡ (read_on_here (objects_of old.objects name) id).local
-    after_is =
-        let done = again.objects.done in
-        done.changed.objects name ∙ own_named (objects_of old.objects) name done.local ∙ done.done.local
+module _ (asker : ℕ) (old new : Keeper) (before after : Work) (name : List ℕ) (id : ℕ) (again : IsAskedAgain old name id new) where
+  -- the object after the call asked again
+  after_is : objects_of new.objects name ≡ (read_on_here (objects_of old.objects name) id).local
+  after_is =
+      let done = again.objects.done in
+      done.changed.objects name ∙ own_named (objects_of old.objects) name done.local ∙ done.done.local
 
-    -- a call asks again, and asks all nodes
-    pub asked_all_acts : (asks_all : Bool) (letters : List Letter) → letters ≡ asked_again (objects_of old.objects name) id →
-        (first : Option Letter) → first ≡ first_for_all asks_all letters →
-        IsGrown before middle (sent_growth old.ids.node old.digest (asked old.ids.node name letters)) →
-        AllByRecursion (IsSendable old.ids.node old.digest) (asked old.ids.node name letters) →
-        IsGrown middle after (sent_growth old.ids.node old.digest (to_all old.ids.node old.file name first)) →
-        AllByRecursion (IsSendable old.ids.node old.digest) (to_all old.ids.node old.file name first) →
-        Acts asker [] old before new after
-    asked_all_acts asks_all letters are first is grown fits more_grown more_fit =
-        let node : new.ids.node ≡ old.ids.node = ap (λ (i : CallIds). i.node) again.rest.ids in
-        let one : first ≡ first_for_all asks_all (asked_again (objects_of old.objects name) id) =
-        is ∙ ap (λ ls. first_for_all asks_all ls) are in
-        let resent : IfSome first (IsResent fragment (objects_of new.objects name)) =
-        subst (λ (l : LocalObject). IfSome first (IsResent fragment l)) (sym after_is)
-        (subst (λ (o : Option Letter). IfSome o (IsResent fragment (read_on_here (objects_of old.objects name) id).local)) (sym one)
-        (first_resent (objects_of old.objects name) id asks_all)) in
-        acts_more asker [] old new new before middle after
-        (asked_acts asker old new before name id again middle letters are grown fits)
-        (all_acts first resent
-        (subst (λ (o : Option Letter). IfSome o (λ letter. asks_next letter.message.body ≡ true)) (sym is) (first_asks asks_all letters))
-        (subst (λ n. IsGrown middle after (sent_growth n new.digest (to_all n old.file name first))) (sym node)
-        (subst (λ d. IsGrown middle after (sent_growth old.ids.node d (to_all old.ids.node old.file name first)))
-        (sym again.rest.digest) more_grown))
-        (subst (λ n. AllByRecursion (IsSendable n new.digest) (to_all n old.file name first)) (sym node)
-        (subst (λ d. AllByRecursion (IsSendable old.ids.node d) (to_all old.ids.node old.file name first)) (sym again.rest.digest)
-        more_fit)))
+  -- a call asks again, and asks all nodes, if it is to
+  pub asked_all_acts : (asks_all : Bool) (letters : List Letter) → letters ≡ asked_again (objects_of old.objects name) id →
+      AreSent asks_all old name letters before after →
+      AllByRecursion (IsSendable old.ids.node old.digest) (sendings_of asks_all old.ids.node old.file name letters) →
+      Acts asker [] old before new after
+  asked_all_acts asks_all letters are sent fit =
+      let node : new.ids.node ≡ old.ids.node = ap (λ (i : CallIds). i.node) again.rest.ids in
+      let first = first_for_all asks_all letters in
+      let more = to_all old.ids.node old.file name first in
+      let fits = all_parts (IsSendable old.ids.node old.digest) (asked old.ids.node name letters) more fit in
+      let one : first ≡ first_for_all asks_all (asked_again (objects_of old.objects name) id) =
+      ap (λ ls. first_for_all asks_all ls) are in
+      let resent : IfSome first (IsResent fragment (objects_of new.objects name)) =
+      subst (λ (l : LocalObject). IfSome first (IsResent fragment l)) (sym after_is)
+      (subst (λ (o : Option Letter). IfSome o (IsResent fragment (read_on_here (objects_of old.objects name) id).local)) (sym one)
+      (first_resent (objects_of old.objects name) id asks_all)) in
+      acts_more asker [] old new new before sent.between after
+      (asked_acts asker old new before name id again sent.between letters are sent.asked fits.0)
+      (all_acts asker new sent.between after name old.file first resent (first_asks asks_all letters)
+      (subst (λ n. IsGrown sent.between after (sent_growth n new.digest (to_all n old.file name first))) (sym node)
+      (subst (λ d. IsGrown sent.between after (sent_growth old.ids.node d more)) (sym again.rest.digest) sent.all))
+      (subst (λ n. AllByRecursion (IsSendable n new.digest) (to_all n old.file name first)) (sym node)
+      (subst (λ d. AllByRecursion (IsSendable old.ids.node d) more) (sym again.rest.digest) fits.1)))

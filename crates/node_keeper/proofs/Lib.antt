@@ -3,6 +3,7 @@ pub mod AnewLemmas
 pub mod AnewReadLemmas
 pub mod AskedAgainLemmas
 pub mod AskedAllLemmas
+pub mod AskingReadLemmas
 pub mod BegunLemmas
 pub mod CallLemmas
 pub mod CauseLemmas
@@ -14,9 +15,9 @@ pub mod EventLogLemmas
 pub mod FittingLemmas
 pub mod HeardNameLemmas
 pub mod IdLemmas
-pub mod LeavingLemmas
 pub mod LetterLemmas
 pub mod NewObjectLemmas
+pub mod PassedBankLemmas
 pub mod PlaceRecordLemmas
 pub mod QuietLemmas
 pub mod ReadLemmas
