@@ -17,7 +17,7 @@ from log_form import bodies_of  # noqa: E402
 from moved_case import FIRST, MIB, NO_QUORUM, OK, MovedCase, bulk  # noqa: E402
 
 VALUE, OTHER = b"x" * 3000, (1, 2, 3, 6, 7)
-BYTES, OPEN, CLOSED = "bytes_stored", "cluster_open_banks", "cluster_closed_banks"
+BYTES, OPEN, CLOSED = "bytes_stored", "cluster_open_banks", "closed_banks"
 # A fragment of the value, of which k = 3 give it back.
 PART = 1000
 

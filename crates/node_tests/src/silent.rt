@@ -1,4 +1,4 @@
-//! Seven nodes of one cluster: a test carries the frames between them, and some are lost.
+//! Seven nodes of one cluster, of which some are silent: a test carries the frames between them.
 use crate::alone::{frame, node_of, start};
 use crate::checks::assert_prints;
 use crate::pair::{readdressed, strings_of};
@@ -27,8 +27,8 @@ struct Step {
     /// The strings of the frame, with `|` between them.
     words: &'static str,
     times: u32,
-    /// Frames to the nodes at these places are lost.
-    lost: &'static [usize],
+    /// Frames to the nodes at places below this one are lost.
+    silent: usize,
     /// The answers that came last, as they are printed for debugging.
     answers: &'static str,
 }
@@ -44,7 +44,7 @@ struct Sent {
 struct Nodes {
     nodes: Vec<Node>,
     mail: VecDeque<Sent>,
-    lost: &'static [usize],
+    silent: usize,
     answers: Vec<Frame>,
 }
 
@@ -66,7 +66,7 @@ fn seven_nodes(rt: &impl Abort, alloc: Global) -> Nodes {
     Nodes {
         nodes,
         mail: VecDeque::new(alloc),
-        lost: &[],
+        silent: 0,
         answers: Vec::new(alloc),
     }
 }
@@ -80,7 +80,7 @@ fn place_of(address: &[u8]) -> Option<usize> {
 
 impl Nodes {
     fn play(&mut self, rt: &impl Abort, alloc: Global, step: &Step) {
-        self.lost = step.lost;
+        self.silent = step.silent;
         for _ in 0..step.times {
             self.give(rt, alloc, step.node, frame(rt, alloc, step.words));
             self.run(rt, alloc);
@@ -109,13 +109,13 @@ impl Nodes {
         self.note(effects.answers);
     }
 
-    // A frame goes to another node, unless it is lost.
+    // A frame goes to another node, unless that is silent.
     fn carry(&mut self, rt: &impl Abort, alloc: Global, from: usize, output: &Output) {
         let [address, ..] = strings_of(output) else {
             return;
         };
         let to = place_of(address.as_slice()).expect(rt, "one of the nodes");
-        if self.lost.contains(&to) {
+        if to < self.silent {
             return;
         }
         let sender = ADDRESSES.get(from).copied().expect(rt, "one of the nodes");
@@ -132,107 +132,47 @@ impl Nodes {
 
 const OK: &str = "[Frame { strings: [b\"client 1\", b\"+OK\\r\\n\"] }]";
 
-// Node 7 misses all messages of the move, and then the nodes of the first layout are silent. At age 8 its read asks all
-// nodes, and those that know the start send it; at age 16 the read goes on there.
+// Node 7 has not heard of the move, and the nodes of the first layout are silent. At age 8 its read asks all nodes, and
+// those that know the start send it; at age 16 the read goes on there.
 static MEMBERS_ARE_SILENT: [Step; 5] = [
     Step {
         node: 3,
         words: "client 1|SET|a|hello",
         times: 1,
-        lost: &[],
+        silent: 0,
         answers: OK,
     },
     Step {
         node: 3,
         words: "client 1|MOVE|a|1|4|5|6",
         times: 1,
-        lost: &[6],
+        silent: 0,
         answers: OK,
     },
     Step {
         node: 6,
         words: "client 2|GET|a",
         times: 1,
-        lost: &[0, 1, 2],
+        silent: 3,
         answers: OK,
     },
     Step {
         node: 6,
         words: "tick",
         times: 15,
-        lost: &[0, 1, 2],
+        silent: 3,
         answers: OK,
     },
     Step {
         node: 6,
         words: "tick",
         times: 1,
-        lost: &[0, 1, 2],
-        answers: HELLO,
+        silent: 3,
+        answers: "[Frame { strings: [b\"client 2\", b\"$5\\r\\n\", b\"hello\", b\"\\r\\n\"] }]",
     },
 ];
-
-const HELLO: &str = "[Frame { strings: [b\"client 2\", b\"$5\\r\\n\", b\"hello\", b\"\\r\\n\"] }]";
 
 #[test]
 fn the_members_are_silent(rt: HostRuntime) {
     play(&rt, rt.alloc(), &MEMBERS_ARE_SILENT);
-}
-
-const FIVE: &str = "[Frame { strings: [b\"client 3\", b\"$35\\r\\n\", b\"# Memory\\r\\n\
-    used_memory_dataset:5\\r\\n\\r\\n\", b\"\\r\\n\"] }]";
-
-const NONE: &str = "[Frame { strings: [b\"client 3\", b\"$35\\r\\n\", b\"# Memory\\r\\n\
-    used_memory_dataset:0\\r\\n\\r\\n\", b\"\\r\\n\"] }]";
-
-// Node 1 misses all messages of the move. Nodes 2 and 3 hear of the start from the mover, and keep no fragment of the
-// old layout. Node 1 keeps its one until it hears of the start from another node, as its client reads the name.
-static OLD_NODES: [Step; 6] = [
-    Step {
-        node: 3,
-        words: "client 1|SET|a|hello",
-        times: 1,
-        lost: &[],
-        answers: OK,
-    },
-    Step {
-        node: 3,
-        words: "client 1|MOVE|a|1|4|5|6",
-        times: 1,
-        lost: &[0],
-        answers: OK,
-    },
-    Step {
-        node: 0,
-        words: "client 3|INFO|memory",
-        times: 1,
-        lost: &[],
-        answers: FIVE,
-    },
-    Step {
-        node: 1,
-        words: "client 3|INFO|memory",
-        times: 1,
-        lost: &[],
-        answers: NONE,
-    },
-    Step {
-        node: 0,
-        words: "client 2|GET|a",
-        times: 1,
-        lost: &[],
-        answers: HELLO,
-    },
-    Step {
-        node: 0,
-        words: "client 3|INFO|memory",
-        times: 1,
-        lost: &[],
-        answers: NONE,
-    },
-];
-
-#[test]
-fn old_nodes_drop_their_fragments(rt: HostRuntime) {
-    play(&rt, rt.alloc(), &OLD_NODES);
 }
