@@ -27,6 +27,8 @@ mod info;
 #[cfg(test)]
 mod log;
 #[cfg(test)]
+mod logged;
+#[cfg(test)]
 mod memory;
 #[cfg(test)]
 mod messages;
@@ -40,6 +42,8 @@ mod objects;
 mod order;
 #[cfg(test)]
 mod pair;
+#[cfg(test)]
+mod passed;
 #[cfg(test)]
 mod rounds;
 #[cfg(test)]
