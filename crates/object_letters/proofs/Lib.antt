@@ -5,6 +5,7 @@ pub mod LateDroppingLemmas
 pub mod LeadableLemmas
 pub mod LeadingLemmas
 pub mod NewObjectLemmas
+pub mod OwnBankLemmas
 pub mod PlaceLetterLemmas
 pub mod ReachedBankLemmas
 pub mod RebuildableLemmas

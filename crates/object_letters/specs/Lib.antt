@@ -3,6 +3,7 @@ pub mod Hearing
 pub mod Laws
 pub mod Leading
 pub mod Letters
+pub mod Raising
 pub mod Reached
 pub mod Rebuildable
 pub mod Requests

@@ -87,8 +87,8 @@ fn requests_for(alloc: Global, bank: &KeptBank) -> Result<Vec<Request>, Refusal>
     }
 }
 
-// The request as a letter to this member of a place.
-fn letter_for(
+/// The request as a letter to this member of a place. `NoMemory` is the only refusal.
+pub(crate) fn letter_for(
     local: &LocalObject,
     place: &Place,
     member: u8,
@@ -157,8 +157,8 @@ fn layout_at(places: &[Place], position: u64) -> Result<Option<SharedLayout>, Re
     }
 }
 
-// Where in the list a position is, if it is there.
-fn index_of(places: &[Place], position: u64) -> Option<usize>
+/// Where in the list a position is, if it is there.
+pub(crate) fn index_of(places: &[Place], position: u64) -> Option<usize>
     ensures { MatchOption result (heard_place places.now position ≡ None) (IsPlaceAt places.now position) }
 {
     first_of(places, position)

@@ -12,10 +12,12 @@ pub use laws::{
 };
 pub use leading::can_be_led_to;
 pub use letters::letters_of;
+pub use raising::raising_letter;
 pub use requests::requests_of;
 
 mod bank_laws;
 mod laws;
 mod leading;
 mod letters;
+mod raising;
 mod requests;

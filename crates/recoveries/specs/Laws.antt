@@ -1,14 +1,16 @@
 -- The contracts that docs/trusted.md lists do not depend on this file; other contracts and proofs do.
 -- The laws: which records a log needs of what a node does, and that a node which carries them out again has started
 -- again as it has to.
-use Rattle.std.specs.Prelude.{◌≡◌, ℕ, true, false, List, [], ◌∷◌, ◌++◌, None}
-use Rattle.layout.specs.Layout.{Layout}
+use Rattle.std.specs.Prelude.{◌≡◌, ◌<◌, ◌+◌, ◌^◌, ℕ, true, false, List, [], ◌∷◌, ◌++◌, None, Some}
+use Rattle.layout.specs.Layout.{IsLawful, Layout}
 use Rattle.letter.specs.declared.letter.Letter.{Letter}
 use Rattle.local_object.specs.Changing.{IsUnchangedBy}
 use Rattle.local_object.specs.Doing.{close_events, give_up_events, has_move_open, move_refusal, read_refusal}
 use Rattle.local_object.specs.Doing.{serve_events, write_refusal}
 use Rattle.local_object.specs.Events.{LocalEvent}
+use Rattle.local_object.specs.Passed.{raise_events}
 use Rattle.local_object.specs.ReadingOn.{read_on_events}
+use Rattle.object_letters.specs.Raising.{raising_letter}
 use Rattle.deeds.specs.Kept.{FileOfNames, KeptNode, new_node}
 use Rattle.deeds.specs.Restarts.{IsRestarted}
 use Rattle.recoveries.specs.Copies.{IsCopyOf, IsHeeded, IsLogged, IsRecorded}
@@ -44,6 +46,13 @@ abbrev pub ClosesAreLogged : Type 0
 ClosesAreLogged = (old new : KeptNode) (name : List ℕ) (position : ℕ) →
     IsNamedOutcome old name (close_events (old.objects name) position) new →
     IsLogged old (LogRecord.Closes name position ∷ []) new
+
+-- a pointer that is raised to final: the record has the letter with which the node asks itself to raise it
+abbrev pub RaisesAreLogged : Type 0
+RaisesAreLogged = (old new : KeptNode) (name : List ℕ) (position : ℕ) (letter : Letter) →
+    raising_letter (old.objects name) position ≡ Some letter → position + 1 < 2 ^ 32 → IsLawful letter.layout →
+    IsNamedOutcome old name (raise_events (old.objects name) position) new →
+    IsLogged old (LogRecord.Serves name letter ∷ []) new
 
 -- What needs no record
 

@@ -5,7 +5,8 @@
 #![tactic(auto)]
 
 pub use logged::{
-    closes_are_logged, moves_are_logged, served_is_logged, starts_are_logged, taken_is_logged,
+    closes_are_logged, moves_are_logged, raises_are_logged, served_is_logged, starts_are_logged,
+    taken_is_logged,
 };
 pub use own_calls::{
     handling_keeps_own_calls, logged_ids_differ, new_nodes_have_own_calls,

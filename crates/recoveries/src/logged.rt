@@ -1,6 +1,6 @@
 //! What a node does that its log has to record.
 ghost use Rattle.recoveries.specs.Laws.{ClosesAreLogged, MovesAreLogged, ServedIsLogged, StartsAreLogged};
-ghost use Rattle.recoveries.specs.Laws.{TakenIsLogged};
+ghost use Rattle.recoveries.specs.Laws.{RaisesAreLogged, TakenIsLogged};
 
 /// A law: for an epoch that begins, the record `Starts` is enough.
 pub fn starts_are_logged()
@@ -25,4 +25,10 @@ pub fn moves_are_logged()
 /// A law: for a bank that is closed, the record `Closes` is enough.
 pub fn closes_are_logged()
     ensures { ClosesAreLogged }
+{}
+
+/// A law: for a pointer that the node raises to final, the record `Serves` is enough, with the letter with which the
+/// node asks itself to raise it.
+pub fn raises_are_logged()
+    ensures { RaisesAreLogged }
 {}
