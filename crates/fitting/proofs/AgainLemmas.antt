@@ -86,7 +86,7 @@ resent_fit local id fit = go (open_call local.calls id) refl
 
 -- Calls that go on at the object's start
 
-read_on_room : (local : LocalObject) (id : ℕ) → HaveRoom local (read_on_events local id)
+pub read_on_room : (local : LocalObject) (id : ℕ) → HaveRoom local (read_on_events local id)
 read_on_room local id = room (reads_on local (open_call local.calls id)) refl
   where
     small : (call : NodeCall) → reads_on local (Some call) ≡ true → number_at call local.start < 2 ^ 32

@@ -122,7 +122,7 @@ ending_fit old id fit = leave_fit old (give_up_events old id) fit (go (gives_up 
 pub hearing_fit : HearingStaysFit
 hearing_fit old position layout fit small lawful = heard_fit old position layout small lawful fit
 
-raise_room : (local : LocalObject) (position : ℕ) → HaveRoom local (raise_events local position)
+pub raise_room : (local : LocalObject) (position : ℕ) → HaveRoom local (raise_events local position)
 raise_room local position = go (can_raise local position) refl
   where
     known : can_raise local position ≡ true → IsSome (layout_here local (suc position))
@@ -138,7 +138,7 @@ raise_room local position = go (can_raise local position) refl
     go true e = (known e, tt)
     go false e = tt
 
-close_room : (local : LocalObject) (position : ℕ) → HaveRoom local (close_events local position)
+pub close_room : (local : LocalObject) (position : ℕ) → HaveRoom local (close_events local position)
 close_room local position = go (can_close local position)
   where
     go : (b : Bool) → HaveRoom local (cond b (LocalEvent.Close position ∷ []) [])

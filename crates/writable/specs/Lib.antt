@@ -1,0 +1,4 @@
+pub mod Keepers
+pub mod Laws
+pub mod Staying
+pub mod Starting
