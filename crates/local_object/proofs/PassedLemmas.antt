@@ -75,7 +75,8 @@ raisable local p e =
 
 -- a pointer that is raised by a request
 pub raise_done : (local : LocalObject) (p member : ℕ) (new : List Place) → can_raise local p ≡ true
-    → new ≡ with_bank_here local.places p (kept_bank (bank_in (heard_place local.places p)) member local.delta (request.Spread status.Final))
+    → new ≡ with_bank_here local.places p
+    (kept_bank (bank_in (heard_place local.places p)) member local.delta (request.Spread status.Final))
     → IsOutcome local (raise_events local p) (record local { places = new }) []
 raise_done local p member new can is =
     let may = raisable local p can in

@@ -1,5 +1,5 @@
--- What a node keeps of a bank, as declared in src/kept_bank.rt: what it answers, how its pointer is raised, and how it is
--- closed.
+-- What a node keeps of a bank, as declared in src/kept_bank.rt: what it answers, how its pointer is raised, and how it
+-- is closed.
 use Rattle.std.specs.Prelude.{Option, None, Some}
 use Rattle.bank.specs.Serve.{reply_to}
 use Rattle.bank.specs.declared.reply.Reply.{Reply}

@@ -32,6 +32,11 @@ layouts_same heard layout e =
     ap₂ (λ (k : ℕ) (members : List ℕ). let l : Layout = record { k = k; members = members } in l)
     (eqb-true heard.k layout.k is.0) ((members_decided heard.members layout.members).0 is.1)
 
+-- a layout that was heard of is this one, if it is the same
+pub itself_heard : (layout : Layout) → is_heard (Some layout) layout ≡ true
+itself_heard layout =
+    ap₂ (λ a b. a && b) (eq-eqb layout.k layout.k refl) ((members_decided layout.members layout.members).1 refl)
+
 fits_by : (o : Option Layout) (layout : Layout) → is_not_another o layout ≡ true → (o ≡ None) ⊎ (o ≡ Some layout)
 fits_by None layout e = inl refl
 fits_by (Some heard) layout e = inr (ap Some (layouts_same heard layout e))

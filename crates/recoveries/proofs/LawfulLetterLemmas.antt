@@ -161,6 +161,7 @@ event_lawful local (LocalEvent.Settle id value) is may fit = silent_lawful local
 event_lawful local (LocalEvent.Answer id) is may fit = tt
 event_lawful local (LocalEvent.GiveUp id) is may fit = tt
 event_lawful local (LocalEvent.Close position) is may fit = tt
+event_lawful local (LocalEvent.Raise position) is may fit = tt
 event_lawful local (LocalEvent.Grow id) is may fit = tt
 event_lawful local (LocalEvent.Hear letter) is may fit = tt
 event_lawful local (LocalEvent.Redirect letter) is may fit = ((fit.0, fit.1, told_lawful local is), tt)

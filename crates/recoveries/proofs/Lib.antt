@@ -27,3 +27,4 @@ pub mod OwnCallLemmas
 pub mod LoggedIdLemmas
 pub mod LoggedMoveLemmas
 pub mod RewrittenIdLemmas
+pub mod RaisedBankLemmas

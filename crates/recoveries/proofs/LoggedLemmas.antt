@@ -1,21 +1,26 @@
 -- Which records a log needs of what a node does.
-use Rattle.std.proofs.Common.{◌≡◌, ℕ, suc, ◌<◌, ◌^◌, cond, List, [], ◌∷◌}
-use Rattle.std.proofs.Common.{refl, sym, subst, ap, ◌∙◌}
+use Rattle.std.proofs.Common.{◌≡◌, ℕ, suc, ◌<◌, ◌+◌, ◌^◌, true, cond, List, [], ◌∷◌, Some}
+use Rattle.std.proofs.Common.{refl, sym, subst, ap, ◌∙◌, arith}
 use Rattle.std.proofs.lemmas.Bool.{lt-ltb}
 use Rattle.deeds.specs.CallId.{CallIds, with_next_epoch}
 use Rattle.encoder.specs.Fragment.{fragment}
+use Rattle.local_object.specs.Agreement.{knows_all_of}
 use Rattle.local_object.specs.Doing.{close_events, give_up_events, serve_events}
 use Rattle.local_object.specs.Events.{LocalEvent, all_done}
-use Rattle.local_object.specs.Local.{LocalObject}
+use Rattle.local_object.specs.Local.{LocalObject, heard_place}
+use Rattle.local_object.specs.May.{MayAllHappen}
+use Rattle.local_object.specs.Passed.{can_raise, raise_events}
 use Rattle.local_object.specs.ReadingOn.{read_on_events}
 use Rattle.local_object.specs.Restarts.{IsKeptHere}
 use Rattle.deeds.specs.Kept.{KeptNode}
 use Rattle.recoveries.specs.Copies.{IsCopyOf, IsLogged}
 use Rattle.recoveries.specs.Laws.{ClosesAreLogged, GivenUpNeedsNoRecord, MovesAreLogged, ReadingOnNeedsNoRecord, ReadsNeedNoRecord}
-use Rattle.recoveries.specs.Laws.{SameNeedsNoRecord, ServedIsLogged}
+use Rattle.recoveries.specs.Laws.{RaisesAreLogged, SameNeedsNoRecord, ServedIsLogged}
 use Rattle.recoveries.specs.Laws.{StartsAreLogged, TakenIsLogged, TakenNeedsNoRecord, UnchangedNeedsNoRecord, WritesNeedNoRecord}
 use Rattle.recoveries.specs.Records.{IsNamedOutcome, IsKeptUnder, IsStarted, LogRecord, RecoversOne}
+use Rattle.local_object.proofs.AgreementLemmas.{known_agrees}
 use Rattle.recoveries.proofs.KeptCallLemmas.{IsObjectCopy}
+use Rattle.recoveries.proofs.RaisedBankLemmas.{all_known, may_serve, raising_is, serving_raises}
 use Rattle.recoveries.proofs.TakenReplyLemmas.{move_takes}
 use Rattle.recoveries.proofs.ClientCallLemmas.{client_takes, reads_on_alone}
 use Rattle.recoveries.proofs.ServedLetterLemmas.{both_serve, serves_alone}
@@ -101,6 +106,35 @@ served_logged old new name letter heeded done =
     (done_put copy name (serve_events (copy.objects name) letter) copied again)
     (both_serve (Moves old) (old.objects name) (copy.objects name) (object_copy old copy is name) letter heeded.agrees
     heeded.lawful))
+
+-- a pointer that is raised is one that a letter asks the node to raise
+pub raised_logged : RaisesAreLogged
+raised_logged old new name position letter e room lawful done =
+    let local = old.objects name in
+    let is = raising_is local position letter e in
+    let place = is.place in
+    let found : heard_place local.places place.position ≡ Some place = ap (heard_place local.places) is.at ∙ is.found in
+    let here : place.position + 1 < 2 ^ 32 = let at = is.at in omega (arith, at, room) in
+    let known : knows_all_of local letter ≡ true =
+    ap (knows_all_of local) is.is ∙ all_known local place found is.member in
+    served_logged old new name letter (record {
+      lawful = lawful;
+      agrees = known_agrees local letter known;
+      mover = λ mover. known;
+    }) (record {
+      local = done.local;
+      sent = (all_done fragment local (serve_events local letter)).sent;
+      done = record {
+        may = subst (λ l. MayAllHappen fragment local (serve_events local l)) (sym is.is)
+            (may_serve local place found is.member is.named here);
+        local = done.done.local
+            ∙ ap (λ p. (all_done fragment local (raise_events local p)).local) (sym is.at)
+            ∙ sym (serving_raises local place found is.member is.named here (ap (can_raise local) is.at ∙ is.can))
+            ∙ ap (λ l. (all_done fragment local (serve_events local l)).local) (sym is.is);
+        letters = refl;
+      };
+      put = done.put;
+    })
 
 pub taken_logged : TakenIsLogged
 taken_logged old new name letter move taken =

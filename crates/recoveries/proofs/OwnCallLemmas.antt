@@ -114,6 +114,8 @@ event_own local (LocalEvent.Answer id) before after same within own =
     (filter_own (λ call. not (eqb call.id id)) local.calls before own)
 event_own local (LocalEvent.Close position) before after same within own =
     subst (λ ids. AreOwnCalls ids local.calls) same own
+event_own local (LocalEvent.Raise position) before after same within own =
+    subst (λ ids. AreOwnCalls ids local.calls) same own
 event_own local (LocalEvent.GiveUp id) before after same within own =
     subst (λ ids. AreOwnCalls ids (without_call id local.calls)) same
     (filter_own (λ call. not (eqb call.id id)) local.calls before own)

@@ -40,6 +40,7 @@ event_fit got name (LocalEvent.Settle id value) lawful fed = tt
 event_fit got name (LocalEvent.Answer id) lawful fed = tt
 event_fit got name (LocalEvent.GiveUp id) lawful fed = tt
 event_fit got name (LocalEvent.Close position) lawful fed = tt
+event_fit got name (LocalEvent.Raise position) lawful fed = tt
 event_fit got name (LocalEvent.Grow id) lawful fed = tt
 event_fit got name (LocalEvent.Hear letter) lawful fed = of_one IsLawfulLetter got lawful fed.0 _ fed.1
 event_fit got name (LocalEvent.Redirect letter) lawful fed = of_one IsLawfulLetter got lawful fed.0 _ fed.1

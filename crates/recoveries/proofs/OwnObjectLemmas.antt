@@ -136,6 +136,11 @@ module _ (q : ℕ) (layout : Layout) where
     delta = refl;
     known = λ e. layout_with local position _ q ∙ e;
   }
+  event_same local (LocalEvent.Raise position) = record {
+    node = refl;
+    delta = refl;
+    known = λ e. layout_with local position _ q ∙ e;
+  }
   event_same local (LocalEvent.Grow id) = record { node = refl; delta = refl; known = λ e. e }
   event_same local (LocalEvent.Hear letter) = letter_same local letter
   event_same local (LocalEvent.Redirect letter) = itself local

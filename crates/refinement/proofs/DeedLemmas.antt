@@ -72,6 +72,7 @@ noticed_beside name other local (LocalEvent.Hear letter) apart = tt
 noticed_beside name other local (LocalEvent.Redirect letter) apart = tt
 noticed_beside name other local (LocalEvent.ReadOn id) apart = tt
 noticed_beside name other local (LocalEvent.BeginAnew id) apart = tt
+noticed_beside name other local (LocalEvent.Raise position) apart = tt
 
 -- One deed
 

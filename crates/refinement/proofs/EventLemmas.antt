@@ -208,6 +208,9 @@ module _ (fragment : Code) (name : List ℕ) (system : System) (ids : ℕ → Ca
   acted (LocalEvent.BeginAnew id) may fed allowed given =
       leads (LocalEvent.BeginAnew id) [] may tt (still_used (given_later mine now None within given))
       (quiet (after (LocalEvent.BeginAnew id)).now (not_less system.now (event_count local (LocalEvent.BeginAnew id))))
+  acted (LocalEvent.Raise position) may fed allowed given =
+      leads (LocalEvent.Raise position) [] may tt (still_used (given_later mine now None within given))
+      (quiet (after (LocalEvent.Raise position)).now (not_less system.now (event_count local (LocalEvent.Raise position))))
   acted (LocalEvent.Hear letter) may fed allowed given =
       leads (LocalEvent.Hear letter) [] may (follows.posted letter fed) (still_used (given_later mine now None within given))
       (quiet (after (LocalEvent.Hear letter)).now (not_less system.now (event_count local (LocalEvent.Hear letter))))

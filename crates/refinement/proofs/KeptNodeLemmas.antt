@@ -74,6 +74,7 @@ node_kept fragment local (LocalEvent.Settle id value) =
 node_kept fragment local (LocalEvent.Answer id) = refl
 node_kept fragment local (LocalEvent.GiveUp id) = refl
 node_kept fragment local (LocalEvent.Close position) = refl
+node_kept fragment local (LocalEvent.Raise position) = refl
 node_kept fragment local (LocalEvent.Grow id) = refl
 node_kept fragment local (LocalEvent.Hear letter) = node_heard local letter
 node_kept fragment local (LocalEvent.Redirect letter) = refl

@@ -27,6 +27,7 @@ pub mod LocalEventLemmas
 pub mod PartLemmas
 pub mod PlaceLemmas
 pub mod PlainEventLemmas
+pub mod RaisedPointerLemmas
 pub mod ReadOnLemmas
 pub mod RefinedEventLemmas
 pub mod ResentLetterLemmas

@@ -4,13 +4,14 @@ use Rattle.local_object.specs.Events.{LocalEvent}
 use Rattle.local_object.specs.Local.{LocalObject}
 use Rattle.refinement.specs.Laws.{IsEventOfWorld, LocalEventsAreWorldEvents}
 use Rattle.refinement.specs.Refined.{world_events}
-use Rattle.refinement.specs.Starting.{event_count, is_at_start}
+use Rattle.refinement.specs.Starting.{event_count, is_known_by_count}
 use Rattle.refinement.proofs.BegunAnewLemmas.{anew_has_events}
 use Rattle.refinement.proofs.PlainEventLemmas.{each_plain}
+use Rattle.refinement.proofs.RaisedPointerLemmas.{raise_has_events}
 use Rattle.refinement.proofs.ReadOnLemmas.{read_on_has_events}
 use Rattle.refinement.proofs.StartedCallLemmas.{read_has_events, write_has_events}
 
-exactly : (event : LocalEvent) → is_at_start event ≡ false →
+exactly : (event : LocalEvent) → is_known_by_count event ≡ false →
     ((local : LocalObject) → length (world_events local event) ≡ event_count local event) → IsEventOfWorld event
 exactly event plain counted fragment world local formed part may premised =
     let done = each_plain event plain fragment world local formed part may premised in
@@ -32,3 +33,4 @@ each_refined (LocalEvent.Hear letter) = exactly (LocalEvent.Hear letter) refl (�
 each_refined (LocalEvent.Redirect letter) = exactly (LocalEvent.Redirect letter) refl (λ local. refl)
 each_refined (LocalEvent.ReadOn id) = read_on_has_events id
 each_refined (LocalEvent.BeginAnew id) = anew_has_events id
+each_refined (LocalEvent.Raise position) = raise_has_events position

@@ -1,4 +1,4 @@
--- Each event at a node that is not at its start is at most one event of the world.
+-- Each event at a node is at most one event of the world, unless only the number of events is known.
 use Rattle.local_object.specs.Events.{LocalEvent}
 use Rattle.refinement.specs.Laws.{PlainEventsAreWorldEvents}
 use Rattle.refinement.proofs.AdvancedCallLemmas.{advance_refined}
@@ -27,3 +27,4 @@ each_plain (LocalEvent.Hear letter) plain = hear_refined letter
 each_plain (LocalEvent.Redirect letter) plain = redirect_refined letter
 each_plain (LocalEvent.ReadOn id) plain = absurd (cc)
 each_plain (LocalEvent.BeginAnew id) plain = absurd (cc)
+each_plain (LocalEvent.Raise position) plain = absurd (cc)

@@ -1,5 +1,6 @@
 -- The premises of an event at a node hold in the world of all nodes.
 use Rattle.std.proofs.Common.{◌≡◌, ℕ, suc, Some, slice_get, sym, subst, ap, ◌∙◌}
+use Rattle.std.proofs.lemmas.Option.{slice_get_within}
 use Rattle.std.specs.List.{AllByRecursion}
 use Rattle.record.specs.declared.call.Entry.{Entry}
 use Rattle.record.specs.Fragments.{Code}
@@ -8,12 +9,14 @@ use Rattle.network.specs.Worlds.{ClusterFile, World}
 use Rattle.network.specs.Laws.{IsReached}
 use Rattle.letter.specs.declared.letter.Letter.{Letter}
 use Rattle.starts.specs.Starts.{IsStart}
+use Rattle.starts.proofs.AskedWorldLemmas.{start_asked}
 use Rattle.local_object.specs.Events.{LocalEvent}
 use Rattle.local_object.specs.May.{MayHappenHere}
 use Rattle.refinement.specs.Parts.{WasSentAs}
-use Rattle.refinement.specs.Refined.{IsPremisedHere}
+use Rattle.refinement.specs.Refined.{IsAskedToRaise, IsPremisedHere}
 use Rattle.refinement.specs.Systems.{IsPremisedIn, IsWorldOf, System}
 use Rattle.refinement.specs.WellFormed.{IsWellFormed}
+use Rattle.refinement.proofs.LearntPartLemmas.{known_by_all}
 use Rattle.refinement.proofs.StartedCallLemmas.{starts_are_grown}
 
 module _ (fragment : Code) (world : World) (system : System) (reached : IsReached fragment world) (formed : IsWellFormed fragment world)
@@ -48,6 +51,15 @@ module _ (fragment : Code) (world : World) (system : System) (reached : IsReache
       (starts_are_grown fragment world (system.objects node) id call reached formed (is.parts node) may.1 spread.kind spread.complete
       (subst (IsStart world) (sym spread.at) (is.parts node).start))
 
+  -- at a position before its start, a node was asked to raise the pointer
+  asked_there : (node position : ℕ) → MayHappenHere fragment (system.objects node) (LocalEvent.Raise position) →
+      IsAskedToRaise world (system.objects node) position
+  asked_there node position may member layout known server =
+      let part = is.parts node in
+      start_asked fragment world (system.objects node).start position member layout reached part.start may.before
+      (known_by_all world formed.one (system.objects node).node position layout (part.layouts position layout known))
+      (slice_get_within layout.members member (system.objects node).node server)
+
   pub premised_there : (node : ℕ) (event : LocalEvent) → MayHappenHere fragment (system.objects node) event →
       IsPremisedIn system node event → IsPremisedHere world (system.objects node) event
   premised_there node (LocalEvent.BeginRead id) may premised = unused_there id premised
@@ -65,3 +77,4 @@ module _ (fragment : Code) (world : World) (system : System) (reached : IsReache
   premised_there node (LocalEvent.Redirect letter) may premised = letter_there letter premised
   premised_there node (LocalEvent.ReadOn id) may premised = tt
   premised_there node (LocalEvent.BeginAnew id) may premised = tt
+  premised_there node (LocalEvent.Raise position) may premised = asked_there node position may

@@ -18,7 +18,7 @@ use Rattle.refinement.specs.Parts.{IsPartOf, WasSentAs}
 use Rattle.refinement.specs.WellFormed.{IsWellFormed}
 use Rattle.local_object.specs.Restarts.{IsKeptHere}
 use Rattle.refinement.specs.Refined.{IsPremisedHere, IsRefined, history_after}
-use Rattle.refinement.specs.Starting.{HasEvents, event_count, is_at_start}
+use Rattle.refinement.specs.Starting.{HasEvents, event_count, is_known_by_count}
 use Rattle.refinement.specs.Refined.{restart_event, world_events}
 use Rattle.refinement.specs.Systems.{ArePremisedIn, IsDoneIn, IsReachedSystem, IsWorldOf, System, SystemEvent}
 use Rattle.refinement.specs.Systems.{system_after}
@@ -32,9 +32,10 @@ IsPlainEventOfWorld event = (fragment : Code) (world : World) (local : LocalObje
     × ((world_after fragment (world_events local event) world).history
     ≡ history_after local event (suc world.now) world.history)
 
--- unless a call begins or goes on at the node's start, what a node does is what the events of `world_events` do
+-- unless a call begins or goes on at the node's start, or the node raises a pointer, what a node does is what the
+-- events of `world_events` do
 abbrev pub PlainEventsAreWorldEvents : Type 0
-PlainEventsAreWorldEvents = (event : LocalEvent) → is_at_start event ≡ false → IsPlainEventOfWorld event
+PlainEventsAreWorldEvents = (event : LocalEvent) → is_known_by_count event ≡ false → IsPlainEventOfWorld event
 
 -- what a node does is what some events of the world do, so many, and the history is the same
 abbrev pub IsEventOfWorld : LocalEvent → Type 0

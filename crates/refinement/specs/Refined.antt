@@ -1,7 +1,8 @@
 -- The contracts that docs/trusted.md lists do not depend on this file; other contracts and proofs do.
 -- Which events of the world an event at a node is, and when the world after them agrees with what all nodes keep.
-use Rattle.std.specs.Prelude.{◌≡◌, ◌≢◌, ◌+◌, ℕ, suc, List, [], ◌∷◌, ◌++◌, length, map, Option, None, Some}
+use Rattle.std.specs.Prelude.{◌≡◌, ◌≢◌, ◌+◌, ℕ, suc, List, [], ◌∷◌, ◌++◌, length, map, Option, None, Some, slice_get}
 use Rattle.std.specs.List.{AllByRecursion}
+use Rattle.layout.specs.Layout.{Layout}
 use Rattle.bank.specs.declared.reply.Reply.{Reply}
 use Rattle.mail.specs.declared.message.Body.{Body}
 use Rattle.mail.specs.declared.message.Body.TheVariants as body
@@ -14,10 +15,10 @@ use Rattle.network.specs.Worlds.{World, after_restart}
 use Rattle.open_calls.specs.OpenCalls.{NodeCall, open_call}
 use Rattle.network.specs.Events.{Event, world_after, answered_entry}
 use Rattle.network.specs.Premises.{IsUnused, MayHappenInTurn}
-use Rattle.starts.specs.Starts.{IsStart}
+use Rattle.starts.specs.Starts.{IsStart, WasAskedToRaise}
 use Rattle.letter.specs.declared.letter.Letter.{Letter}
 use Rattle.local_object.specs.KeptBanks.{kept_reply}
-use Rattle.local_object.specs.Local.{LocalObject, bank_here}
+use Rattle.local_object.specs.Local.{LocalObject, bank_here, layout_here}
 use Rattle.local_object.specs.Events.{LocalEvent}
 use Rattle.local_object.specs.Outcomes.{Outcome}
 use Rattle.refinement.specs.Parts.{IsPartOf, WasSentAs}
@@ -41,9 +42,9 @@ served_events local letter (body.Request asked) =
     (Event.Serve letter.message)
 served_events local letter (body.Reply kind made) = []
 
--- the events of the world that an event at a node is, unless a call begins or goes on at the node's start: one; or none
--- if the node takes a reply to a call that it does not carry out, gives such a call up, serves a request that its bank
--- declines, hears of a letter or sends one back, closes a bank, or its start grows
+-- the events of the world that an event at a node is, unless what the node keeps only says how many these are
+-- (`is_known_by_count`): one; or none if the node takes a reply to a call that it does not carry out, gives such a call
+-- up, serves a request that its bank declines, hears of a letter or sends one back, closes a bank, or its start grows
 abbrev pub world_events : LocalObject → LocalEvent → List Event
 world_events local (LocalEvent.BeginMove id layout) = Event.BeginMove local.node id layout ∷ []
 world_events local (LocalEvent.Advance id) = Event.Advance id ∷ []
@@ -55,8 +56,13 @@ world_events local (LocalEvent.Answer id) = Event.Answer id ∷ []
 world_events local (LocalEvent.GiveUp id) = if_carried (open_call local.calls id) (Event.GiveUp id)
 world_events local _ = []
 
+-- a request to raise the pointer of the position to final was sent to the node, as whichever member of it the node is
+abbrev pub IsAskedToRaise : World → LocalObject → (position : ℕ) → Type 0
+IsAskedToRaise world local position = (member : ℕ) (layout : Layout) → layout_here local position ≡ Some layout →
+    slice_get layout.members member ≡ Some local.node → WasAskedToRaise world position member
+
 -- what is assumed of an event at a node: a letter is one that was sent, the id of a call is new, only the node that
--- moves objects begins a move, and a start grows to a start of the world
+-- moves objects begins a move, a start grows to a start of the world, and a node that raises a pointer was asked to
 abbrev pub IsPremisedHere : World → LocalObject → LocalEvent → Type 0
 IsPremisedHere world local (LocalEvent.BeginRead id) = IsUnused world id
 IsPremisedHere world local (LocalEvent.BeginWrite id value) = IsUnused world id
@@ -67,6 +73,7 @@ IsPremisedHere world local (LocalEvent.Take letter) = WasSentAs world letter
 IsPremisedHere world local (LocalEvent.Grow id) = IsStart world (suc local.start)
 IsPremisedHere world local (LocalEvent.Hear letter) = WasSentAs world letter
 IsPremisedHere world local (LocalEvent.Redirect letter) = WasSentAs world letter
+IsPremisedHere world local (LocalEvent.Raise position) = IsAskedToRaise world local position
 IsPremisedHere world local _ = Unit {0}
 
 -- The history

@@ -49,7 +49,7 @@ kind_to (PreWrite tag) piece = refl
 kind_to (Finalize tag) piece = refl
 kind_to (Fetch tag) piece = refl
 
-requests_are : (call number : ℕ) (kind : Kind) (position : ℕ) (servers : List ℕ) (first : ℕ) (piece : ℕ → Piece) (i : ℕ)
+pub requests_are : (call number : ℕ) (kind : Kind) (position : ℕ) (servers : List ℕ) (first : ℕ) (piece : ℕ → Piece) (i : ℕ)
     (message : Message) → slice_get (requests call number kind position servers first piece) i ≡ Some message →
     IsRequestTo call number kind position (first + length servers) message
 requests_are call number kind position [] first piece i message at = absurd (cc)

@@ -26,7 +26,7 @@ use Rattle.starts.specs.Starts.{HasFinal, IsFinalAt}
 -- Banks
 
 -- the pointer of the bank is final
-abbrev IsFinal : Bank → Type 0
+abbrev pub IsFinal : Bank → Type 0
 IsFinal bank = status_of bank.pointer ≡ status.Final
 
 raised_final : (p : Pointer) (s : Status) (now : ℕ) → status_of p ≡ status.Final → status_of (raised p s now) ≡ status.Final
@@ -50,7 +50,7 @@ final_set (bank ∷ banks) (suc place) zero new keeps final = final
 final_set (bank ∷ banks) (suc place) (suc other) new keeps final = final_set banks place other new keeps final
 
 -- the bank of a member of a position
-abbrev bank_in : List (List Bank) → (position member : ℕ) → Bank
+abbrev pub bank_in : List (List Bank) → (position member : ℕ) → Bank
 bank_in banks position member = get_or (get_or banks position []) member no_bank
 
 final_set_in : (banks : List (List Bank)) (position member other member2 : ℕ) (new : Bank) →

@@ -1,4 +1,6 @@
 pub mod AdvancedCallLemmas
+pub mod AskedMemberLemmas
+pub mod AskedWorldLemmas
 pub mod BankRowLemmas
 pub mod BegunPhaseLemmas
 pub mod BegunReadingLemmas
@@ -6,6 +8,7 @@ pub mod FinalPointerLemmas
 pub mod FinalPositionLemmas
 pub mod GatheredReplyLemmas
 pub mod LeadingLemmas
+pub mod RaisedBankLemmas
 pub mod ReachedWorldLemmas
 pub mod ReadingLemmas
 pub mod ServedReplyLemmas

@@ -1,5 +1,5 @@
 -- Calls of a world that is reached.
-use Rattle.std.proofs.Common.{◌≡◌, ◌+◌, ◌*◌, ◌-◌, ◌<◌, ℕ, List, [], ◌∷◌, Some, sym, subst}
+use Rattle.std.proofs.Common.{◌≡◌, ◌+◌, ◌*◌, ◌-◌, ◌<◌, List, [], ◌∷◌, Some, sym, subst}
 use Rattle.std.specs.List.{AllByRecursion}
 use Rattle.open_calls.specs.OpenCalls.{NodeCall, open_call}
 use Rattle.open_calls.proofs.OpenCallLemmas.{found}

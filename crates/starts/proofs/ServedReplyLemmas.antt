@@ -27,7 +27,7 @@ use Rattle.starts.proofs.LeadingLemmas.{still_sent}
 
 -- The requests of a phase
 
-requests_at : (call number : ℕ) (kind : Kind) (position : ℕ) (servers : List ℕ) (first : ℕ) (piece : ℕ → Piece) (place : ℕ) →
+pub requests_at : (call number : ℕ) (kind : Kind) (position : ℕ) (servers : List ℕ) (first : ℕ) (piece : ℕ → Piece) (place : ℕ) →
     place < length servers → slice_get (requests call number kind position servers first piece) place ≡ Some (record {
       call = call;
       phase = number;

@@ -13,7 +13,7 @@ use Rattle.record.specs.Journals.{entry_value}
 use Rattle.record.specs.PhaseOrder.{begun_at}
 use Rattle.record.specs.Records.{no_layout}
 use Rattle.record.specs.Steps.{new_phase}
-use Rattle.open_calls.specs.OpenCalls.{NodeCall, due_phase, open_call, stage_reached}
+use Rattle.open_calls.specs.OpenCalls.{NodeCall, open_call, stage_reached}
 use Rattle.open_calls.proofs.OpenCallLemmas.{all_filter, all_with, found}
 use Rattle.network.specs.Worlds.{ClusterFile, World, known_layout, known_layouts}
 use Rattle.network.specs.Events.{advanced_world, answered_entry, answered_world, call_pieces, on_open}

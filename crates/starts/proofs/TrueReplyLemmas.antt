@@ -96,8 +96,9 @@ pub record Grows (world new : World) : Type 0 where
   pub keeps : Keeps world new
   pub known : (id : ℕ) → IsKnown world.history id → IsKnown new.history id
 
-module _ (world new : World) (grows : Grows world new) where
-  layout_still : (position member : ℕ) → IsWithin world position member → known_layout new 0 position ≡ known_layout world 0 position
+-- a position that has a member keeps its layout
+module _ (world new : World) (keeps : Keeps world new) where
+  pub layout_still : (position member : ℕ) → IsWithin world position member → known_layout new 0 position ≡ known_layout world 0 position
   layout_still position member within = go (slice_get (known_layouts world 0) position) refl
     where
       go : (o : Option Layout) → slice_get (known_layouts world 0) position ≡ o →
@@ -107,12 +108,13 @@ module _ (world new : World) (grows : Grows world new) where
           subst (λ (l : Layout). member < length l.members) (get_none (known_layouts world 0) position no_layout none) within in
           absurd (omega (arith, few))
       go (Some layout) at =
-          get_or_from_slice_get (known_layouts new 0) position layout no_layout (layouts_grow world new grows.keeps position layout at)
+          get_or_from_slice_get (known_layouts new 0) position layout no_layout (layouts_grow world new keeps position layout at)
           ∙ sym (get_or_from_slice_get (known_layouts world 0) position layout no_layout at)
 
+module _ (world new : World) (grows : Grows world new) where
   pub within_still : (position member : ℕ) → IsWithin world position member → IsWithin new position member
   within_still position member within =
-      subst (λ (l : Layout). member < length l.members) (sym (layout_still position member within)) within
+      subst (λ (l : Layout). member < length l.members) (sym (layout_still world new grows.keeps position member within)) within
 
   pub so_far_still : (phase : Phase) (message : Message) → IsSoFar world phase message → IsSoFar new phase message
   so_far_still phase message (inl before) = inl before
@@ -121,7 +123,7 @@ module _ (world new : World) (grows : Grows world new) where
     kind = is.kind;
     at = is.at;
     within = within_still phase.position message.member is.within;
-    quorum = is.quorum ∙ ap quorum_of (sym (layout_still phase.position message.member is.within));
+    quorum = is.quorum ∙ ap quorum_of (sym (layout_still world new grows.keeps phase.position message.member is.within));
   })
 
   replies_still : (phase : Phase) → HasTrueReplies world phase → HasTrueReplies new phase
@@ -135,7 +137,8 @@ module _ (world new : World) (grows : Grows world new) where
         let has = is.complete ended in record {
           member = has.member;
           within = within_still phase.position has.member has.within;
-          enough = subst (λ l. quorum_of l ≤ length phase.replies) (sym (layout_still phase.position has.member has.within)) has.enough;
+          enough = subst (λ l. quorum_of l ≤ length phase.replies)
+              (sym (layout_still world new grows.keeps phase.position has.member has.within)) has.enough;
         };
   }
 

@@ -1,5 +1,5 @@
 -- In each world that is reached, what messages and open calls tell of final pointers is true.
-use Rattle.std.proofs.Common.{◌≡◌, ℕ, suc, List, [], ◌∷◌, ◌++◌, length, map, get_or, None, not, ◌&&◌, eqb}
+use Rattle.std.proofs.Common.{◌≡◌, ℕ, List, [], ◌∷◌, ◌++◌, length, map, get_or, None, not, ◌&&◌, eqb}
 use Rattle.std.proofs.Common.{slice_get, refl, sym, ap, ◌∙◌, subst, Some}
 use Rattle.std.proofs.lemmas.List.{map-append}
 use Rattle.std.specs.List.{AllByRecursion}
@@ -121,7 +121,7 @@ begins_true world is node id kind unused =
     beginning_true world (ticked world) (kept_same world (ticked world) refl refl refl) refl refl refl is.one is.lawful is.banks is node
     id kind (begun_at (first_stage kind 0) 0) Next 0 unused
 
-event_true : (fragment : Code) (world : World) (event : Event) → MayHappen fragment world event → IsPremised world event →
+pub event_true : (fragment : Code) (world : World) (event : Event) → MayHappen fragment world event → IsPremised world event →
     IsTruthful world → IsTruthful (happens fragment world event)
 event_true fragment world (Event.BeginRead node id) may premised is = begins_true world is node id Read premised.ids
 event_true fragment world (Event.BeginWrite node id value) may premised is = begins_true world is node id (Write value) premised.ids
@@ -167,7 +167,7 @@ event_true fragment world (Event.Restart node banks calls) may premised is =
     (subst (AllByRecursion (IsTrueCall new)) (sym premised.log.1)
     (all_filter (IsTrueCall new) (λ c. not (eqb c.node node && not (is_move c.kind))) world.calls old))
 
-opened_true : (files : ℕ → ClusterFile) → IsOneFile files → IsLawful (files 0).first → IsTruthful (opened_world files)
+pub opened_true : (files : ℕ → ClusterFile) → IsOneFile files → IsLawful (files 0).first → IsTruthful (opened_world files)
 opened_true files one lawful = record {
   one = one;
   lawful = (lawful, tt);

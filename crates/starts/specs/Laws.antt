@@ -1,15 +1,16 @@
 -- The contracts that docs/trusted.md lists do not depend on this file; other contracts and proofs do.
 -- The laws about starts.
-use Rattle.std.specs.Prelude.{◌≡◌, ◌+◌, ◌*◌, ◌-◌, ◌<◌, ℕ, List, IsSome}
+use Rattle.std.specs.Prelude.{◌≡◌, ◌+◌, ◌*◌, ◌-◌, ◌<◌, ℕ, List, length, Some, slice_get, IsSome}
+use Rattle.layout.specs.Layout.{Layout}
 use Rattle.bank.specs.declared.kind.Kind.TheVariants.{Spread}
 use Rattle.bank.specs.declared.status.Status.TheVariants as status
 use Rattle.record.specs.Fragments.{Code}
 use Rattle.open_calls.specs.OpenCalls.{NodeCall}
-use Rattle.network.specs.Worlds.{World}
+use Rattle.network.specs.Worlds.{World, known_layouts}
 use Rattle.network.specs.Events.{Event, IsOpen, happens, world_after}
 use Rattle.network.specs.Premises.{IsUnused, MayHappenInTurn}
 use Rattle.network.specs.Laws.{IsReached}
-use Rattle.starts.specs.Starts.{IsFinalAt, IsStart}
+use Rattle.starts.specs.Starts.{IsFinalAt, IsStart, WasAskedToRaise}
 use Rattle.starts.specs.Reading.{HasBegunToRead, IsReading, LeadsTo, most_events, reading_at}
 
 -- a pointer that is final at a quorum is so after events that may happen, however many
@@ -38,3 +39,10 @@ abbrev pub CompleteSpreadsAreFinal : Type 0
 CompleteSpreadsAreFinal = (fragment : Code) (world : World) (id : ℕ) (call : NodeCall) →
     IsReached fragment world → IsOpen world id call → call.phase.kind ≡ Spread status.Final →
     IsSome call.phase.end → IsFinalAt world call.phase.position
+
+-- at each position before a start, a request to raise the pointer to final was sent to each member
+abbrev pub MembersWereAsked : Type 0
+MembersWereAsked = (fragment : Code) (world : World) (start position member : ℕ) (layout : Layout) →
+    IsReached fragment world → IsStart world start → position < start →
+    slice_get (known_layouts world 0) position ≡ Some layout → member < length layout.members →
+    WasAskedToRaise world position member

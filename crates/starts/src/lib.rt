@@ -4,7 +4,13 @@
 //! The definitions are in `specs/`. Each law is the contract of a function with an empty body.
 #![tactic(auto)]
 
-ghost use Rattle.starts.specs.Laws.{BegunCallsRead, CallsReadOn, CompleteSpreadsAreFinal, FinalsStay};
+ghost use Rattle.starts.specs.Laws.{
+  BegunCallsRead,
+  CallsReadOn,
+  CompleteSpreadsAreFinal,
+  FinalsStay,
+  MembersWereAsked,
+};
 
 /// A law: once the pointer of a position is final at a quorum, it is so after any number of events that may happen and
 /// meet the premises. So a start stays a start.
@@ -30,4 +36,10 @@ pub fn begun_calls_read()
 /// the pointer of the position is final at a quorum. So a node learns from its own calls where it may begin later.
 pub fn complete_spreads_are_final()
     ensures { CompleteSpreadsAreFinal }
+{}
+
+/// A law: in a world that is reached, at each position before a start, a request to raise the pointer to final was sent
+/// to each member. So a member whose own pointer is not final yet may serve this request, as if it only came now.
+pub fn members_were_asked()
+    ensures { MembersWereAsked }
 {}
