@@ -1,8 +1,8 @@
 -- What a call does as it asks again is fit: the letters that it sends again, and those of the phase in which it goes on.
-use Rattle.std.proofs.Common.{◌≡◌, ℕ, ◌<◌, ◌^◌, ◌&&◌, not, Bool, true, false, cond, List, [], ◌∷◌}
-use Rattle.std.proofs.Common.{nat_lt, Option, Some, None, ltb-true, refl, sym, subst}
-use Rattle.std.specs.Prelude.{IfSome}
+use Rattle.std.proofs.Common.{◌≡◌, ℕ, ◌<◌, ◌^◌, ◌&&◌, not, Bool, true, false, cond, List, [], ◌∷◌, nat_lt, Option, Some, None, ltb-true}
+use Rattle.std.proofs.Common.{refl, sym, subst, ap, ◌∙◌}
 use Rattle.std.specs.List.{AllByRecursion, filter}
+use Rattle.std.specs.Prelude.{IfSome}
 use Rattle.std.proofs.lemmas.Bool.{and_parts}
 use Rattle.call.specs.Call.{OpenCall as Machine}
 use Rattle.encoder.specs.Fragment.{fragment}
@@ -12,24 +12,21 @@ use Rattle.local_object.specs.Coding.{is_sendable}
 use Rattle.local_object.specs.Events.{LocalEvent, pieces_here}
 use Rattle.local_object.specs.Going.{is_restart, next_here}
 use Rattle.local_object.specs.Local.{LocalObject, layout_here}
+use Rattle.local_object.specs.ReadingOn.{is_reading, read_on_events, reads_on}
 use Rattle.local_object.specs.Resent.{current_letters, letters_again_at, letters_again_of}
 use Rattle.local_object.specs.Sent.{due_again}
+use Rattle.local_object.specs.Starting.{number_at}
 use Rattle.local_object.specs.Taking.{machine_of}
 use Rattle.mail.specs.Phase.{has_taken}
 use Rattle.open_calls.specs.OpenCalls.{NodeCall, open_call}
 use Rattle.open_calls.proofs.OpenCallLemmas.{found}
-use Rattle.std.proofs.Common.{ap, ◌∙◌}
-use Rattle.local_object.specs.ReadingOn.{is_reading, read_on_events, reads_on}
-use Rattle.local_object.specs.Starting.{number_at}
-use Rattle.fitting.specs.Outcomes.{ReadingOnStaysFit}
-use Rattle.fitting.proofs.RequestLemmas.{knows_fit}
 use Rattle.fitting.specs.Calls.{IsFitCall}
 use Rattle.fitting.specs.Events.{HaveRoom}
 use Rattle.fitting.specs.Letters.{IsFitLayout, IsFitLetter}
 use Rattle.fitting.specs.Objects.{IsFitObject}
-use Rattle.fitting.specs.Outcomes.{ResentIsFit}
+use Rattle.fitting.specs.Outcomes.{ReadingOnStaysFit, ResentIsFit}
+use Rattle.fitting.proofs.RequestLemmas.{knows_fit, pieces_fit, requests_fit}
 use Rattle.fitting.proofs.KnownLemmas.{known_fit, known_small}
-use Rattle.fitting.proofs.RequestLemmas.{pieces_fit, requests_fit}
 use Rattle.fitting.proofs.GoingLemmas.{leave_fit}
 
 -- Letters that are sent again

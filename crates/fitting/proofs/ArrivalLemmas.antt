@@ -1,16 +1,12 @@
 -- What a node does with a request has room, whether the node serves it, hears of it or sends it back.
-use Rattle.std.proofs.Common.{◌≡◌, suc, ◌+◌, ◌<◌, ◌^◌, ◌&&◌, Bool, true, false, cond, [], ◌∷◌}
-use Rattle.std.proofs.Common.{nat_lt, is_some, ltb-true, refl, arith}
+use Rattle.std.proofs.Common.{◌≡◌, suc, ◌+◌, ◌<◌, ◌^◌, ◌&&◌, Bool, true, false, cond, [], ◌∷◌, nat_lt, is_some, ltb-true, refl, arith, ◌++◌}
 use Rattle.std.proofs.lemmas.Bool.{and_parts}
 use Rattle.letter.specs.declared.letter.Letter.{Letter}
-use Rattle.local_object.specs.Doing.{is_member, is_served}
-use Rattle.local_object.specs.Doing.{serve_events}
+use Rattle.local_object.specs.Doing.{is_member, is_served, serve_events, is_askable, is_sent_back, stray_events}
 use Rattle.local_object.specs.Events.{LocalEvent}
 use Rattle.local_object.specs.Local.{LocalObject, layout_here}
 use Rattle.local_object.specs.Outcomes.{learnt_from}
 use Rattle.mail.specs.Message.{is_request}
-use Rattle.std.proofs.Common.{◌++◌}
-use Rattle.local_object.specs.Doing.{is_askable, is_sent_back, stray_events}
 use Rattle.fitting.specs.Events.{HaveRoom}
 use Rattle.fitting.specs.Letters.{IsFitLetter}
 use Rattle.fitting.specs.Outcomes.{ServingStaysFit}

@@ -1,13 +1,13 @@
 -- A bank that serves fit requests stays fit, and its replies fit.
-use Rattle.std.proofs.Common.{◌≡◌, ℕ, suc, ◌<◌, ◌≤◌, ◌^◌, Bool, true, false, cond, [], ◌∷◌, length, get_or}
-use Rattle.std.proofs.Common.{Option, Some, None, option_map, refl, sym, subst, ◌∙◌, arith}
-use Rattle.std.specs.Prelude.{IfSome}
+use Rattle.std.proofs.Common.{◌≡◌, ℕ, suc, ◌<◌, ◌≤◌, ◌^◌, Bool, true, false, cond, [], ◌∷◌, length, get_or, Option, Some, None, option_map}
+use Rattle.std.proofs.Common.{refl, sym, subst, ◌∙◌, arith}
 use Rattle.std.specs.FinMap as map
 use Rattle.std.specs.List.{AllByRecursion}
+use Rattle.std.specs.Prelude.{IfSome}
 use Rattle.std.proofs.lemmas.Option.{none-some, same_Some}
 use Rattle.bank.specs.Answer.{answer_bytes}
-use Rattle.bank.specs.Bank.{Bank, opened_bank, opening_row, piece_of, piece_of_row, row_after_finalize, row_after_pre_write}
-use Rattle.bank.specs.Bank.{filled_arrival, finalized, piece_that_came, pre_written}
+use Rattle.bank.specs.Bank.{Bank, opened_bank, opening_row, piece_of, piece_of_row, row_after_finalize, row_after_pre_write, filled_arrival}
+use Rattle.bank.specs.Bank.{finalized, piece_that_came, pre_written}
 use Rattle.bank.specs.Collect.{collected, emptied_arrival, emptied_row, fetched_piece, is_outside, kept_row}
 use Rattle.bank.specs.Floor.{is_forgotten, remembered}
 use Rattle.bank.specs.Knowledge.{is_dropped, is_finalized}
@@ -28,8 +28,8 @@ use Rattle.local_object.specs.ChangedBanks.{bank_after}
 use Rattle.mail.specs.Message.{request_bytes}
 use Rattle.node_messages.specs.Message.{IsAnswer, IsRequest, IsTag, is_answer_to}
 use Rattle.piece.specs.declared.piece.Piece.{Piece}
-use Rattle.tag.specs.declared.tag.Tag.{Tag}
 use Rattle.tag.specs.Tag.{later_tag, opening_tag, tag_cmp, tag_eq, tag_lt}
+use Rattle.tag.specs.declared.tag.Tag.{Tag}
 use Rattle.tag.proofs.TagOrderLemmas.{tag_eq-true}
 use Rattle.fitting.specs.Letters.{IsFitPiece}
 use Rattle.fitting.specs.Objects.{IsFitBank, IsFitRow}

@@ -1,18 +1,16 @@
 -- Calls of a fit object that begin, go on, and take replies.
-use Rattle.std.proofs.Common.{◌≡◌, ℕ, suc, ◌<◌, ◌^◌, Bool, true, false, cond, List, [], ◌∷◌, ◌++◌}
-use Rattle.std.proofs.Common.{Option, Some, None, refl, sym, subst, ap, ◌∙◌}
-use Rattle.std.specs.Prelude.{IfSome}
+use Rattle.std.proofs.Common.{◌≡◌, ℕ, suc, ◌<◌, ◌^◌, Bool, true, false, cond, List, [], ◌∷◌, ◌++◌, Option, Some, None, refl, sym, subst, ap}
+use Rattle.std.proofs.Common.{◌∙◌}
 use Rattle.std.specs.List.{AllByRecursion}
+use Rattle.std.specs.Prelude.{IfSome}
 use Rattle.bank.specs.Bank.{empty_piece}
 use Rattle.bank.specs.declared.kind.Kind.{Kind}
 use Rattle.bank.specs.declared.kind.Kind.TheVariants as kind
 use Rattle.bank.specs.declared.reply.Reply.{Reply}
-use Rattle.bank.specs.declared.request.Request.{Request}
 use Rattle.encoder.specs.Fragment.{fragment}
 use Rattle.layout.specs.Layout.{Layout}
 use Rattle.local_object.specs.Events.{advanced_at, advanced_here, pieces_here}
-use Rattle.local_object.specs.Local.{LocalObject, Place}
-use Rattle.local_object.specs.Local.{layout_here}
+use Rattle.local_object.specs.Local.{LocalObject, Place, layout_here}
 use Rattle.local_object.specs.Outcomes.{Outcome, begun_here, on_open_call}
 use Rattle.local_object.specs.Starting.{reading_call, reads_at}
 use Rattle.local_object.specs.Taking.{knows_next}
@@ -21,12 +19,12 @@ use Rattle.mail.specs.declared.message.Body.{Body}
 use Rattle.mail.specs.declared.message.Body.TheVariants as body
 use Rattle.mail.specs.declared.message.Message.{Message}
 use Rattle.node_messages.specs.Message.{IsAnswer, IsBody, IsKind}
-use Rattle.open_calls.proofs.OpenCallLemmas.{all_with, found}
 use Rattle.open_calls.specs.OpenCalls.{NodeCall, due_phase, open_call, stage_reached, taking_open, with_open}
+use Rattle.open_calls.proofs.OpenCallLemmas.{all_with, found}
 use Rattle.record.specs.PhaseOrder.{begun_at}
+use Rattle.record.specs.Steps.{new_phase}
 use Rattle.record.specs.declared.call.CallKind.{CallKind}
 use Rattle.record.specs.declared.stage.Stage.{Stage}
-use Rattle.record.specs.Steps.{new_phase}
 use Rattle.fitting.specs.Calls.{IsFitCall, IsFitStage, IsFitTaken, WritesShort}
 use Rattle.fitting.specs.Events.{HasRoomFor}
 use Rattle.fitting.specs.Letters.{IsFitLayout, IsFitLetter}

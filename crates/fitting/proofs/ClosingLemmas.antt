@@ -17,8 +17,7 @@ use Rattle.mail.specs.Message.{status_names_next}
 use Rattle.fitting.specs.Objects.{IsFitBank, IsFitKept, IsFitObject, says_next}
 use Rattle.fitting.proofs.BankLemmas.{after_fit, greatest_fit}
 use Rattle.fitting.proofs.PlaceLemmas.{put_fit}
-use Rattle.fitting.proofs.KnownLemmas.{says_known}
-use Rattle.fitting.proofs.KnownLemmas.{place_bank}
+use Rattle.fitting.proofs.KnownLemmas.{says_known, place_bank}
 
 -- Banks that are closed
 

@@ -1,20 +1,17 @@
 -- Whatever a node does with a fit object, if there is room for it, the object stays fit, and the letters sent are fit.
-use Rattle.std.proofs.Common.{suc, [], ◌∷◌}
-use Rattle.std.proofs.Common.{Some, refl, arith}
+use Rattle.std.proofs.Common.{suc, [], ◌∷◌, Some, refl, arith}
 use Rattle.std.specs.Prelude.{not, ◌==◌}
 use Rattle.bank.specs.declared.kind.Kind.TheVariants as kind
-use Rattle.bank.specs.declared.reply.Answer.{Answer}
 use Rattle.bank.specs.declared.status.Status.TheVariants as status
 use Rattle.encoder.specs.Fragment.{fragment}
 use Rattle.letter.specs.declared.letter.Letter.{Letter}
 use Rattle.local_object.specs.Events.{LocalEvent, advanced_here, all_done, done_here}
-use Rattle.local_object.specs.Local.{LocalObject, last_position}
-use Rattle.local_object.specs.Local.{layout_here, told_start, with_heard}
+use Rattle.local_object.specs.Local.{LocalObject, last_position, layout_here, told_start, with_heard}
 use Rattle.local_object.specs.Outcomes.{learnt_from, silent}
 use Rattle.local_object.specs.Starting.{anew_number, first_number, number_at, reads_here}
+use Rattle.open_calls.specs.OpenCalls.{due_phase, taking_open, with_open, without_call}
 use Rattle.open_calls.proofs.ListLemmas.{all_append}
 use Rattle.open_calls.proofs.OpenCallLemmas.{all_filter}
-use Rattle.open_calls.specs.OpenCalls.{due_phase, taking_open, with_open, without_call}
 use Rattle.record.specs.Legal.{first_stage}
 use Rattle.record.specs.declared.call.CallKind.TheVariants as calls
 use Rattle.record.specs.declared.stage.Stage.TheVariants as stage

@@ -1,6 +1,6 @@
 -- What a call of a fit object does as it goes on has room.
-use Rattle.std.proofs.Common.{◌≡◌, inl, inr, ℕ, suc, ◌+◌, ◌<◌, ◌^◌, ◌&&◌, not, Bool, true, false, cond, List, [], ◌∷◌, ◌++◌}
-use Rattle.std.proofs.Common.{nat_lt, Option, Some, None, is_some, ltb-true, refl, sym, subst, ap, ◌∙◌, arith}
+use Rattle.std.proofs.Common.{◌≡◌, inl, inr, ℕ, suc, ◌+◌, ◌<◌, ◌^◌, ◌&&◌, not, Bool, true, false, cond, List, [], ◌∷◌, ◌++◌, nat_lt, Option}
+use Rattle.std.proofs.Common.{Some, None, is_some, ltb-true, refl, sym, subst, ap, ◌∙◌, arith}
 use Rattle.std.specs.List.{AllByRecursion}
 use Rattle.std.proofs.lemmas.Bool.{and_parts}
 use Rattle.std.proofs.lemmas.Option.{same_Some}
@@ -18,9 +18,8 @@ use Rattle.local_object.specs.Going.{next_here, next_if, unless_unsettled}
 use Rattle.local_object.specs.Leaving.{final_position, is_at}
 use Rattle.local_object.specs.Local.{LocalObject, layout_here}
 use Rattle.local_object.specs.Starting.{first_number}
-use Rattle.local_object.specs.Taking.{AreSettling, begin_anew_events, begin_events}
-use Rattle.local_object.specs.Taking.{call_events, can_begin, can_begin_anew, grow_events, grows_by, is_read_begin}
-use Rattle.local_object.specs.Taking.{knows_next, lead_events, machine_of, step_events}
+use Rattle.local_object.specs.Taking.{AreSettling, begin_anew_events, begin_events, call_events, can_begin, can_begin_anew, grow_events}
+use Rattle.local_object.specs.Taking.{grows_by, is_read_begin, knows_next, lead_events, machine_of, step_events}
 use Rattle.local_object.proofs.NextLemmas.{again_begin, again_restart, begin_of, due_begun, restart_of}
 use Rattle.open_calls.specs.OpenCalls.{NodeCall, due_phase, open_call, stage_reached}
 use Rattle.open_calls.proofs.OpenCallLemmas.{found}

@@ -1,11 +1,10 @@
 -- What is known of a fit object is fit: the layouts, the banks, the start, and the last position.
-use Rattle.std.proofs.Common.{◌≡◌, ℕ, suc, ◌<◌, ◌^◌, Bool, true, false, cond, eqb, nat_lt, List, [], ◌∷◌}
-use Rattle.std.proofs.Common.{Option, Some, None, IsSome, refl, sym, subst, arith}
-use Rattle.std.specs.Prelude.{IfSome, ◌==◌}
+use Rattle.std.proofs.Common.{◌≡◌, ℕ, suc, ◌<◌, ◌^◌, Bool, true, false, cond, eqb, nat_lt, List, [], ◌∷◌, Option, Some, None, IsSome, refl}
+use Rattle.std.proofs.Common.{sym, subst, arith}
 use Rattle.std.specs.List.{AllByRecursion}
+use Rattle.std.specs.Prelude.{IfSome, ◌==◌}
 use Rattle.layout.specs.Layout.{Layout}
-use Rattle.local_object.specs.Local.{LocalObject, Place, bank_in, heard_place, layout_here, layout_in}
-use Rattle.local_object.specs.Local.{greatest_position, last_position}
+use Rattle.local_object.specs.Local.{LocalObject, Place, bank_in, heard_place, layout_here, layout_in, greatest_position, last_position}
 use Rattle.local_object.specs.Local.{start_at, told_start, with_heard}
 use Rattle.object_letters.proofs.PlaceLetterLemmas.{at_place}
 use Rattle.fitting.specs.Letters.{IsFitLayout, IsFitStart}

@@ -1,7 +1,7 @@
 -- A fit letter with a short name is a message, and its strings are a frame.
 use Rattle.std.proofs.Common.{◌≡◌, ◌≤◌, ◌&&◌, Bool, true, [], ◌∷◌, length, leb, Option, Some, None, Ok, leb-true}
-use Rattle.std.specs.Prelude.{IfSome}
 use Rattle.std.specs.List.{AllByRecursion, list_all}
+use Rattle.std.specs.Prelude.{IfSome}
 use Rattle.std.proofs.lemmas.Bool.{and_parts}
 use Rattle.cluster_file.specs.declared.file.TheConstants.{DIGEST_LENGTH}
 use Rattle.frames.specs.Frame.{IsFrame, IsShort}

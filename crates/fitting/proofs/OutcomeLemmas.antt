@@ -1,20 +1,19 @@
 -- What else the functions of a node's object do has room, so a fit object stays fit.
-use Rattle.std.proofs.Common.{◌≡◌, ℕ, suc, ◌+◌, ◌<◌, ◌^◌, ◌&&◌, Bool, true, false, cond, List, [], ◌∷◌}
-use Rattle.std.proofs.Common.{length, nat_lt, Option, Some, None, is_some, ltb-true, ltb-false, refl, subst, arith}
-use Rattle.std.specs.Prelude.{IfSome}
+use Rattle.std.proofs.Common.{◌≡◌, ℕ, suc, ◌+◌, ◌<◌, ◌^◌, ◌&&◌, Bool, true, false, cond, List, [], ◌∷◌, length, nat_lt, Option, Some, None}
+use Rattle.std.proofs.Common.{is_some, ltb-true, ltb-false, refl, subst, arith, IsSome}
 use Rattle.std.specs.List.{AllByRecursion}
+use Rattle.std.specs.Prelude.{IfSome}
 use Rattle.std.proofs.lemmas.Bool.{and_parts}
 use Rattle.bank.specs.Bank.{empty_piece}
 use Rattle.bank.specs.declared.kind.Kind.TheVariants as kind
 use Rattle.bank.specs.declared.status.Status.TheVariants as status
-use Rattle.call.specs.declared.next.Next.{Next}
 use Rattle.encoder.specs.Fragment.{fragment}
 use Rattle.layout.specs.Layout.{Layout}
-use Rattle.local_object.specs.Doing.{can_close, close_events, give_up_events, gives_up, is_moving}
-use Rattle.local_object.specs.Doing.{move_refusal, unless_open, write_refusal}
+use Rattle.local_object.specs.Doing.{can_close, close_events, give_up_events, gives_up, is_moving, move_refusal, unless_open, write_refusal}
 use Rattle.local_object.specs.Events.{LocalEvent, done_here}
-use Rattle.local_object.specs.Local.{LocalObject, layout_here, last_position, with_heard}
+use Rattle.local_object.specs.Local.{LocalObject, layout_here, last_position, with_heard, bank_in, heard_place}
 use Rattle.local_object.specs.Outcomes.{begun_here}
+use Rattle.local_object.specs.Passed.{can_raise, is_below_final, member_of, raise_events}
 use Rattle.local_object.specs.Starting.{called_at, first_number}
 use Rattle.open_calls.specs.OpenCalls.{open_call}
 use Rattle.record.specs.Legal.{first_stage}
@@ -23,20 +22,14 @@ use Rattle.record.specs.declared.call.CallKind.TheVariants as calls
 use Rattle.tag.specs.declared.limits.TheConstants.{LONGEST_VALUE}
 use Rattle.tag.specs.declared.refusal.Refusal.{Refusal}
 use Rattle.tag.specs.declared.refusal.Refusal.TheVariants.{Full, MovePending, NotNow, TooLong}
-use Rattle.std.proofs.Common.{IsSome}
-use Rattle.local_object.specs.Local.{bank_in, heard_place}
-use Rattle.local_object.specs.Passed.{can_raise, is_below_final, member_of, raise_events}
-use Rattle.fitting.specs.Outcomes.{ClosingStaysFit}
-use Rattle.fitting.proofs.RequestLemmas.{knows_fit}
-use Rattle.fitting.proofs.KnownLemmas.{start_small}
 use Rattle.fitting.specs.Calls.{IsShortValue}
 use Rattle.fitting.specs.Events.{HaveRoom}
 use Rattle.fitting.specs.Letters.{IsFitLayout, IsFitLetter}
 use Rattle.fitting.specs.Objects.{IsFitObject}
-use Rattle.fitting.specs.Outcomes.{BeginningStaysFit, EndingStaysFit, FirstLettersAreFit, HearingStaysFit}
+use Rattle.fitting.specs.Outcomes.{ClosingStaysFit, BeginningStaysFit, EndingStaysFit, FirstLettersAreFit, HearingStaysFit}
+use Rattle.fitting.proofs.RequestLemmas.{knows_fit, KnowsFit, requests_fit}
+use Rattle.fitting.proofs.KnownLemmas.{start_small, heard_knows, known_fit, known_small, last_small}
 use Rattle.fitting.proofs.PlaceLemmas.{heard_fit, heard_known}
-use Rattle.fitting.proofs.KnownLemmas.{heard_knows, known_fit, known_small, last_small}
-use Rattle.fitting.proofs.RequestLemmas.{KnowsFit, requests_fit}
 use Rattle.fitting.proofs.GoingLemmas.{leave_fit}
 
 -- Calls that begin

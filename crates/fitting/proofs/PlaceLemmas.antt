@@ -1,25 +1,24 @@
 -- What a node keeps for positions stays fit as it hears of positions, and as banks change.
-use Rattle.std.proofs.Common.{◌≡◌, ℕ, suc, ◌<◌, ◌^◌, Bool, true, false, cond, eqb, eqb-true, List, [], ◌∷◌}
-use Rattle.std.proofs.Common.{Option, Some, None, IsSome, eq-eqb, option_map, refl, sym, subst, arith}
-use Rattle.std.specs.Prelude.{IfSome}
+use Rattle.std.proofs.Common.{◌≡◌, ℕ, suc, ◌<◌, ◌^◌, Bool, true, false, cond, eqb, eqb-true, List, [], ◌∷◌, Option, Some, None, IsSome}
+use Rattle.std.proofs.Common.{eq-eqb, option_map, refl, sym, subst, arith}
 use Rattle.std.specs.List.{AllByRecursion}
+use Rattle.std.specs.Prelude.{IfSome}
 use Rattle.bank.specs.declared.kind.Kind.{Kind}
 use Rattle.bank.specs.declared.kind.Kind.TheVariants as kind
 use Rattle.bank.specs.declared.status.Status.TheVariants as status
 use Rattle.layout.specs.Layout.{Layout}
 use Rattle.letter.specs.declared.letter.Letter.{Letter}
 use Rattle.letter.specs.declared.start.Start.{Start}
-use Rattle.local_object.specs.Local.{LocalObject, Place, added_place, heard_place, layout_here, layout_in, learnt_if}
-use Rattle.local_object.specs.Local.{heard_start, heard_start_if, is_later_start, new_local}
-use Rattle.local_object.specs.Local.{with_bank_here, with_heard}
+use Rattle.local_object.specs.Local.{LocalObject, Place, added_place, heard_place, layout_here, layout_in, learnt_if, heard_start}
+use Rattle.local_object.specs.Local.{heard_start_if, is_later_start, new_local, with_bank_here, with_heard}
 use Rattle.local_object.specs.Outcomes.{layouts_learnt, learnt_from}
 use Rattle.local_object.specs.Starting.{first_number}
 use Rattle.local_object.specs.Taking.{knows_next}
 use Rattle.local_object.specs.declared.kept_bank.KeptBank.{KeptBank}
 use Rattle.local_object.proofs.HeardPlaceLemmas.{place_with, with_new}
 use Rattle.local_object.proofs.StartLemmas.{later_small}
-use Rattle.open_calls.proofs.ListLemmas.{all_weaker}
 use Rattle.open_calls.specs.OpenCalls.{NodeCall}
+use Rattle.open_calls.proofs.ListLemmas.{all_weaker}
 use Rattle.fitting.specs.Calls.{IsFitCall}
 use Rattle.fitting.specs.Letters.{IsFitLayout, IsFitLetter, IsFitStart}
 use Rattle.fitting.specs.Objects.{IsFitKept, IsFitObject, IsFitPlace, says_next}

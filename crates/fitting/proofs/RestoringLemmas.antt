@@ -1,10 +1,10 @@
 -- The letters that lead to the banks of a fit object are fit, and so is the one with which a node asks itself to raise a
 -- pointer.
-use Rattle.std.proofs.Common.{◌≡◌, ℕ, suc, ◌<◌, Bool, true, false, cond, List, [], ◌∷◌, ◌++◌, length, map}
-use Rattle.std.proofs.Common.{Option, Some, None, IsSome, refl, sym, subst, arith}
-use Rattle.std.specs.Prelude.{IfSome, is_some, ◌==◌}
+use Rattle.std.proofs.Common.{◌≡◌, ℕ, suc, ◌<◌, Bool, true, false, cond, List, [], ◌∷◌, ◌++◌, length, map, Option, Some, None, IsSome, refl}
+use Rattle.std.proofs.Common.{sym, subst, arith}
 use Rattle.std.specs.FinMap as map
 use Rattle.std.specs.List.{AllByRecursion, position}
+use Rattle.std.specs.Prelude.{IfSome, is_some, ◌==◌}
 use Rattle.std.proofs.lemmas.List.Quantifiers.{position-Some}
 use Rattle.bank.specs.Bank.{piece_that_came}
 use Rattle.bank.specs.Pointer.{status_of}

@@ -1,8 +1,8 @@
 -- A fit object that serves a request stays fit, and its reply is fit.
-use Rattle.std.proofs.Common.{◌≡◌, ◌⊎◌, inl, inr, ℕ, suc, ◌<◌, ◌≤◌, ◌^◌, Bool, true, false, cond}
-use Rattle.std.proofs.Common.{Option, Some, None, IsSome, refl, sym, subst, ap, ◌∙◌, arith}
-use Rattle.std.specs.Prelude.{IfSome, is_some}
+use Rattle.std.proofs.Common.{◌≡◌, ◌⊎◌, inl, inr, ℕ, suc, ◌<◌, ◌≤◌, ◌^◌, Bool, true, false, cond, Option, Some, None, IsSome, refl, sym}
+use Rattle.std.proofs.Common.{subst, ap, ◌∙◌, arith}
 use Rattle.std.specs.List.{AllByRecursion}
+use Rattle.std.specs.Prelude.{IfSome, is_some}
 use Rattle.bank.specs.Bank.{Bank, opened_bank}
 use Rattle.bank.specs.Pointer.{raised, status_of}
 use Rattle.bank.specs.Serve.{answer_to, kind_of, reply_to}
@@ -21,11 +21,9 @@ use Rattle.frames.specs.declared.limits.TheConstants.{LONGEST_STRING}
 use Rattle.layout.specs.Layout.{Layout}
 use Rattle.letter.specs.declared.letter.Letter.{Letter}
 use Rattle.local_object.specs.ChangedBanks.{bank_after, changes_bank, kept_after, kept_bank}
-use Rattle.local_object.specs.Events.{handled_here}
-use Rattle.local_object.specs.Events.{reply_letters, served_here}
+use Rattle.local_object.specs.Events.{handled_here, reply_letters, served_here}
 use Rattle.local_object.specs.KeptBanks.{kept_reply}
-use Rattle.local_object.specs.Local.{LocalObject, bank_here, bank_in, bank_or_opened, heard_place}
-use Rattle.local_object.specs.Local.{layout_here}
+use Rattle.local_object.specs.Local.{LocalObject, bank_here, bank_in, bank_or_opened, heard_place, layout_here}
 use Rattle.local_object.specs.Outcomes.{learnt_from, letter_of, next_in_answer}
 use Rattle.local_object.specs.declared.kept_bank.KeptBank.{KeptBank}
 use Rattle.local_object.specs.declared.kept_bank.KeptBank.TheVariants as kept

@@ -1,29 +1,28 @@
 -- The stage to which a phase leads is fit, and so is the kind of the phase that is due then.
-use Rattle.std.proofs.Common.{◌≡◌, ℕ, suc, ◌+◌, ◌<◌, ◌^◌, ◌==◌, Bool, true, false, cond, List, [], ◌∷◌, Option, Some, None}
-use Rattle.std.proofs.Common.{subst, ltb-true}
-use Rattle.std.specs.Prelude.{IfSome}
+use Rattle.std.proofs.Common.{◌≡◌, ℕ, suc, ◌+◌, ◌<◌, ◌^◌, ◌==◌, Bool, true, false, cond, List, [], ◌∷◌, Option, Some, None, subst, ltb-true}
 use Rattle.std.specs.List.{AllByRecursion}
+use Rattle.std.specs.Prelude.{IfSome}
 use Rattle.std.proofs.lemmas.Bool.{and_parts}
 use Rattle.bank.specs.declared.kind.Kind.{Kind}
 use Rattle.bank.specs.declared.reply.Answer.{Answer}
 use Rattle.bank.specs.declared.reply.Answer.TheVariants as answer
 use Rattle.bank.specs.declared.status.Status.{Status}
 use Rattle.bank.specs.declared.status.Status.TheVariants as status
-use Rattle.call.specs.Limits.{can_reach, has_next_tag, is_below_limit, is_within_limits}
 use Rattle.call.specs.Call.{reached}
+use Rattle.call.specs.Limits.{can_reach, has_next_tag, is_below_limit, is_within_limits}
 use Rattle.local_object.specs.Taking.{machine_of}
 use Rattle.mail.specs.Phase.{lacks_pieces}
 use Rattle.mail.specs.declared.phase.Taken.{Taken}
 use Rattle.node_messages.specs.Message.{IsAnswer, IsKind, IsTag}
 use Rattle.open_calls.specs.OpenCalls.{NodeCall, due_phase, stage_reached}
-use Rattle.record.specs.PhaseOrder.{after, after_again, after_fetch, after_next, after_query, after_spread, begun_at, due}
-use Rattle.record.specs.PhaseOrder.{greatest_status, greatest_tag, passed, shown_tag, tagged}
+use Rattle.record.specs.PhaseOrder.{after, after_again, after_fetch, after_next, after_query, after_spread, begun_at, due, greatest_status}
+use Rattle.record.specs.PhaseOrder.{greatest_tag, passed, shown_tag, tagged}
 use Rattle.record.specs.declared.call.CallKind.{CallKind}
 use Rattle.record.specs.declared.call.CallKind.TheVariants as calls
 use Rattle.record.specs.declared.stage.Stage.{Stage}
 use Rattle.record.specs.declared.stage.Stage.TheVariants as stage
-use Rattle.tag.specs.declared.tag.Tag.{Tag}
 use Rattle.tag.specs.Tag.{later_tag, tag_lt}
+use Rattle.tag.specs.declared.tag.Tag.{Tag}
 use Rattle.fitting.specs.Calls.{IsFitStage, IsFitTaken}
 use Rattle.fitting.proofs.BankLemmas.{later_fit, opening_fit}
 

@@ -1,8 +1,8 @@
 -- A fit object that takes a reply stays fit, and so it is for what it sends and what clients are told.
-use Rattle.std.proofs.Common.{◌≡◌, ℕ, suc, ◌+◌, ◌<◌, ◌^◌, ◌&&◌, Bool, true, false, cond, List, [], ◌∷◌, ◌++◌}
-use Rattle.std.proofs.Common.{nat_lt, Option, Some, None, is_some, ltb-true, refl, sym, subst, arith}
-use Rattle.std.specs.Prelude.{IfSome}
+use Rattle.std.proofs.Common.{◌≡◌, ℕ, suc, ◌+◌, ◌<◌, ◌^◌, ◌&&◌, Bool, true, false, cond, List, [], ◌∷◌, ◌++◌, nat_lt, Option, Some, None}
+use Rattle.std.proofs.Common.{is_some, ltb-true, refl, sym, subst, arith}
 use Rattle.std.specs.List.{AllByRecursion}
+use Rattle.std.specs.Prelude.{IfSome}
 use Rattle.std.proofs.lemmas.Bool.{and_parts}
 use Rattle.encoder.specs.Fragment.{fragment}
 use Rattle.letter.specs.declared.letter.Letter.{Letter}
@@ -10,9 +10,7 @@ use Rattle.local_object.specs.Doing.{is_taken}
 use Rattle.local_object.specs.Ended.{all_told, told, told_if}
 use Rattle.local_object.specs.Events.{LocalEvent, all_done, done_here}
 use Rattle.local_object.specs.Local.{LocalObject}
-use Rattle.local_object.specs.Taking.{GoesOn, IsOutcomeWithAnswers, IsReplyOutcome}
-use Rattle.local_object.specs.Taking.{going_events, grow_events}
-use Rattle.local_object.specs.Taking.{lead_events, repeats}
+use Rattle.local_object.specs.Taking.{GoesOn, IsOutcomeWithAnswers, IsReplyOutcome, going_events, grow_events, lead_events, repeats}
 use Rattle.local_object.specs.declared.progress.Ended.{Ended}
 use Rattle.mail.specs.Message.{is_request}
 use Rattle.open_calls.specs.OpenCalls.{NodeCall, open_call}
@@ -25,8 +23,7 @@ use Rattle.fitting.specs.Calls.{IsFitCall, IsShortValue, WritesShort}
 use Rattle.fitting.specs.Events.{HaveRoom}
 use Rattle.fitting.specs.Letters.{IsFitLetter}
 use Rattle.fitting.specs.Objects.{IsFitObject}
-use Rattle.fitting.specs.Outcomes.{IsShortEnded}
-use Rattle.fitting.specs.Outcomes.{TakingStaysFit}
+use Rattle.fitting.specs.Outcomes.{IsShortEnded, TakingStaysFit}
 use Rattle.fitting.proofs.EventLemmas.{event_fit}
 use Rattle.fitting.proofs.GoingLemmas.{grow_room, lead_room, leave_fit, settle_room, then_room}
 

@@ -1,6 +1,6 @@
 -- The contracts that docs/trusted.md lists do not depend on this file; other contracts and proofs do.
 -- Objects of a node all of whose letters can be written.
-use Rattle.std.specs.Prelude.{◌≡◌, ◌<◌, ◌^◌, suc, List, true, Bool, false, IfSome, is_some, IsSome, Option, None, Some}
+use Rattle.std.specs.Prelude.{◌≡◌, ◌<◌, ◌^◌, suc, List, true, Bool, false, IfSome, IsSome, Option, None, Some}
 use Rattle.std.specs.FinMap as map
 use Rattle.std.specs.List.{AllByRecursion}
 use Rattle.bank.specs.Bank.{Bank, piece_of_row}

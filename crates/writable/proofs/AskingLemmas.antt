@@ -1,7 +1,7 @@
 -- What a call of a fit keeper sends as it asks again can be sent, and the keeper stays fit.
 use Rattle.std.proofs.Common.{◌++◌, ℕ, Bool, true, false, cond, List, [], ◌∷◌, Option, Some, None}
-use Rattle.std.specs.Prelude.{IfSome}
 use Rattle.std.specs.List.{AllByRecursion}
+use Rattle.std.specs.Prelude.{IfSome}
 use Rattle.cluster_file.specs.File.{FileContents}
 use Rattle.encoder.specs.Fragment.{fragment}
 use Rattle.fitting.specs.Letters.{IsFitLetter}

@@ -1,8 +1,7 @@
 -- A fit keeper can write what a fit letter needs, and stays fit.
-use Rattle.std.proofs.Common.{◌<◌, ◌^◌, ℕ, Bool, true, false, cond, List, [], ◌∷◌, Option, Some, None}
-use Rattle.std.proofs.Common.{refl, sym, subst}
-use Rattle.std.specs.Prelude.{option_to_list}
+use Rattle.std.proofs.Common.{◌<◌, ◌^◌, ℕ, Bool, true, false, cond, List, [], ◌∷◌, Option, Some, None, refl, sym, subst}
 use Rattle.std.specs.List.{AllByRecursion}
+use Rattle.std.specs.Prelude.{option_to_list}
 use Rattle.encoder.specs.Fragment.{fragment}
 use Rattle.fitting.specs.Letters.{IsFitLetter}
 use Rattle.fitting.specs.Objects.{IsFitObject}
@@ -23,8 +22,8 @@ use Rattle.node_effects.specs.Work.{both_grown, no_growth}
 use Rattle.node_effects.specs.declared.work.Work.{Work}
 use Rattle.node_keeper.specs.Acts.{logged_growth}
 use Rattle.node_keeper.specs.Declining.{declines}
-use Rattle.node_keeper.specs.Delivering.{CanCloseAfter, CanDeliverAs, CanHandle, CanServe, CanTake, DeliversAs, HandlesAs}
-use Rattle.node_keeper.specs.Delivering.{delivered_of, served_as, served_records, taken_records, tell_growth}
+use Rattle.node_keeper.specs.Delivering.{CanCloseAfter, CanDeliverAs, CanHandle, CanServe, CanTake, DeliversAs, HandlesAs, delivered_of}
+use Rattle.node_keeper.specs.Delivering.{served_as, served_records, taken_records, tell_growth}
 use Rattle.node_keeper.specs.Doing.{IsReplyOutcomeAt}
 use Rattle.node_keeper.specs.Fitting.{IsLoggable}
 use Rattle.node_keeper.specs.Keeping.{heeds, kept_of}

@@ -1,6 +1,6 @@
 -- The id that a call gets has 64 bits, and the source of ids stays within its ranges.
-use Rattle.std.proofs.Common.{◌≡◌, inl, inr, ◌+◌, ◌*◌, ◌<◌, ◌^◌, ℕ, suc, Bool, true, false, cond}
-use Rattle.std.proofs.Common.{Some, None, nat_lt, ltb-true, refl, sym, subst, arith}
+use Rattle.std.proofs.Common.{◌≡◌, inl, inr, ◌+◌, ◌*◌, ◌<◌, ◌^◌, ℕ, suc, Bool, true, false, cond, Some, None, nat_lt, ltb-true, refl, sym}
+use Rattle.std.proofs.Common.{subst, arith}
 use Rattle.std.proofs.lemmas.Option.{same_Some}
 use Rattle.deeds.specs.CallId.{CallIds, HasRanges, after_given, call_id, next_given_id, with_next_epoch}
 use Rattle.node_effects.specs.declared.work.Work.{Work}

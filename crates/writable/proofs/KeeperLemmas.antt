@@ -1,7 +1,8 @@
 -- What a fit keeper can write as a call begins, and that it stays fit.
-use Rattle.std.proofs.Common.{◌≡◌, inl, inr, ◌+◌, ◌++◌, ◌<◌, ◌^◌, ℕ, Bool, true, false, cond, List, [], ◌∷◌, length}
-use Rattle.std.proofs.Common.{None, refl, sym, subst, ap, ◌∙◌}
+use Rattle.std.proofs.Common.{◌≡◌, inl, inr, ◌+◌, ◌++◌, ◌<◌, ◌^◌, ℕ, Bool, true, false, cond, List, [], ◌∷◌, length, None, refl, sym, subst}
+use Rattle.std.proofs.Common.{ap, ◌∙◌}
 use Rattle.std.specs.List.{AllByRecursion}
+use Rattle.cluster_file.specs.File.{FileContents}
 use Rattle.deeds.specs.CallId.{CallIds, HasRanges}
 use Rattle.deeds.specs.Named.{is_same_name}
 use Rattle.fitting.specs.Letters.{IsFitLetter}
@@ -9,24 +10,23 @@ use Rattle.fitting.specs.Objects.{IsFitObject}
 use Rattle.fitting.specs.Outcomes.{LeaveFit}
 use Rattle.fitting.proofs.OutcomeLemmas.{beginning_fit, ending_fit, first_fit}
 use Rattle.letter.specs.declared.letter.Letter.{Letter}
+use Rattle.letter.specs.declared.letter.NamedLetter.{NamedLetter}
 use Rattle.local_object.specs.Events.{LocalEvent}
 use Rattle.local_object.specs.Local.{LocalObject}
-use Rattle.letter.specs.declared.letter.NamedLetter.{NamedLetter}
 use Rattle.node_effects.specs.Work.{Growth, IsGrown, no_growth, one_entry}
 use Rattle.node_effects.specs.declared.work.Work.{Work}
-use Rattle.cluster_file.specs.File.{FileContents}
-use Rattle.open_calls.proofs.ListLemmas.{all_append}
 use Rattle.node_keeper.specs.Acts.{GivesId}
-use Rattle.node_keeper.specs.Delivering.{KeepsRest}
-use Rattle.node_keeper.specs.Logging.{start_entry}
-use Rattle.node_keeper.specs.Sendings.{asked}
 use Rattle.node_keeper.specs.Beginning.{BeginsCall, Beginning, begun_growth, moving_call, reading_call, writing_call}
+use Rattle.node_keeper.specs.Delivering.{KeepsRest}
 use Rattle.node_keeper.specs.Doing.{IsOutcomeAt}
+use Rattle.node_keeper.specs.Logging.{start_entry}
 use Rattle.node_keeper.specs.Objects.{IsChangedAt, objects_of}
+use Rattle.node_keeper.specs.Sendings.{asked}
 use Rattle.node_keeper.specs.declared.delivered.Begun.{Begun}
 use Rattle.node_keeper.specs.declared.delivered.Begun.TheVariants as begun
 use Rattle.node_keeper.specs.declared.keeper.Keeper.{Keeper}
 use Rattle.node_keeper.specs.declared.objects.Objects.{Objects}
+use Rattle.open_calls.proofs.ListLemmas.{all_append}
 use Rattle.writable.specs.Keepers.{AreBytes, HasFitOwn, IsFitKeeper, IsFitNamed, IsLeftFit, IsShortName}
 use Rattle.writable.specs.Laws.{FitKeepersCanBegin}
 use Rattle.writable.specs.Staying.{BegunKeepersAreFit, GivenUpKeepersAreFit}
@@ -117,7 +117,8 @@ begins_fit : (call : Beginning) (old new : Keeper) (before after : Work) (result
     BeginsCall call old before new after result → IsLeftFit before new after
 begins_fit call old new before after (begun.Open id) fit short leave is =
     let small = (given_fit old.ids id new.ids before is.given fit.ids fit.node is.gives).small in
-    let left = outcome_fit old.objects new.objects call.name (call.event id ∷ []) is.letters fit.objects (leave id small is.cause) is.done in
+    let left = outcome_fit old.objects new.objects call.name (call.event id ∷ []) is.letters fit.objects
+    (leave id small is.cause) is.done in
     let sends = asked old.ids.node call.name is.letters in
     record {
       keeper = numbered_fit old new id before is.given fit is.gives is.file is.digest left.0;

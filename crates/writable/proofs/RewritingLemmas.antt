@@ -1,7 +1,7 @@
 -- Each record of a rewritten log of a fit keeper can go to the log.
 use Rattle.std.proofs.Common.{◌≡◌, ◌++◌, ℕ, zero, suc, Bool, true, false, cond, List, [], ◌∷◌, map, length}
-use Rattle.std.specs.Prelude.{◌==◌}
 use Rattle.std.specs.List.{AllByRecursion}
+use Rattle.std.specs.Prelude.{◌==◌}
 use Rattle.cluster_file.specs.declared.file.TheConstants.{DIGEST_LENGTH}
 use Rattle.deeds.specs.Kept.{KeptNode}
 use Rattle.fitting.specs.Letters.{IsFitLetter}

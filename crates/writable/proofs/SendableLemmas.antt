@@ -1,9 +1,9 @@
 -- Fit letters can be sent, and records of fit things can go to a log.
-use Rattle.std.proofs.Common.{◌≡◌, ◌<◌, ◌≤◌, ◌^◌, ℕ, Bool, true, false, cond, List, [], ◌∷◌, length, length-append, Option, Some, None, slice_get}
-use Rattle.std.proofs.Common.{refl, arith}
-use Rattle.std.specs.Prelude.{codes, ◌==◌}
+use Rattle.std.proofs.Common.{◌≡◌, ◌<◌, ◌≤◌, ◌^◌, ℕ, Bool, true, false, cond, List, [], ◌∷◌, length, length-append, Option, Some, None}
+use Rattle.std.proofs.Common.{slice_get, refl, arith}
 use Rattle.std.specs.Fmt.{decimal}
 use Rattle.std.specs.List.{AllByRecursion}
+use Rattle.std.specs.Prelude.{codes, ◌==◌}
 use Rattle.std.proofs.lemmas.Fmt.{length-decimal-le}
 use Rattle.cluster_file.specs.declared.file.TheConstants.{DIGEST_LENGTH}
 use Rattle.fitting.specs.Letters.{IsFitLayout, IsFitLetter}
@@ -14,8 +14,7 @@ use Rattle.layout.specs.Layout.{Layout}
 use Rattle.letter.specs.declared.letter.Letter.{Letter}
 use Rattle.letter.specs.declared.letter.NamedLetter.{NamedLetter}
 use Rattle.node_keeper.specs.Fitting.{HasFrame, IsLoggable, IsSendable}
-use Rattle.node_keeper.specs.Sendings.{Sending, asked, going, member_or, message_of, one_or, reply_sendings, sending, to_itself}
-use Rattle.node_keeper.specs.Sendings.{to_others}
+use Rattle.node_keeper.specs.Sendings.{Sending, asked, going, member_or, message_of, one_or, reply_sendings, sending, to_itself, to_others}
 use Rattle.node_messages.specs.Strings.{body_piece, piece_strings, strings_of}
 use Rattle.node_messages.specs.declared.message.NodeMessage.{NodeMessage}
 use Rattle.node_strings.specs.Arrival.{node_address}
@@ -157,7 +156,8 @@ module _ (digest : List ℕ) (whole : length digest ≡ DIGEST_LENGTH) where
       length more ≤ 1 → AllByRecursion IsShort more → IsFrame (word ∷ decimal position ∷ name ∷ more)
   position_entry word name position more first short within few rest =
       let limit : MOST_STRINGS ≡ 1024 = refl in
-      let digits : length (decimal position) ≤ 20 = length-decimal-le 20 position (omega arith) (omega arith) (omega (arith, within)) in record {
+      let below : position < 10 ^ 20 = omega (arith, within) in
+      let digits : length (decimal position) ≤ 20 = length-decimal-le 20 position (omega arith) (omega arith) below in record {
         few = omega (arith, few);
         short = (first, (small (decimal position) (omega (arith, digits)), (name_short name short, rest)));
       }

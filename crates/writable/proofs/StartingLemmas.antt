@@ -1,6 +1,5 @@
 -- What a new node keeps is fit, and stays so as it carries out records again.
-use Rattle.std.proofs.Common.{◌≡◌, ◌<◌, ◌^◌, ℕ, zero, suc, Bool, true, false, cond, List, [], ◌∷◌, take}
-use Rattle.std.proofs.Common.{sym, subst, ap, arith}
+use Rattle.std.proofs.Common.{◌≡◌, ◌<◌, ◌^◌, ℕ, zero, suc, Bool, true, false, cond, List, [], ◌∷◌, take, sym, subst, ap, arith}
 use Rattle.cluster_file.specs.File.{placement_of}
 use Rattle.cluster_file.specs.Placement.{ClusterNodes, AreLawfulNodes, comes_before, in_order, placed, with_node}
 use Rattle.cluster_file.proofs.FirstNodesLemmas.{placed-IsLawful}
@@ -10,10 +9,10 @@ use Rattle.deeds.specs.Named.{is_same_name}
 use Rattle.fitting.specs.Letters.{IsFitLayout}
 use Rattle.fitting.specs.Objects.{IsFitObject}
 use Rattle.fitting.specs.Outcomes.{LeaveFit}
-use Rattle.fitting.proofs.OutcomeLemmas.{beginning_fit, closing_fit, hearing_fit}
 use Rattle.fitting.proofs.ArrivalLemmas.{serving_fit}
-use Rattle.fitting.proofs.TakingLemmas.{taking_fit}
+use Rattle.fitting.proofs.OutcomeLemmas.{beginning_fit, closing_fit, hearing_fit}
 use Rattle.fitting.proofs.PlaceLemmas.{new_fit}
+use Rattle.fitting.proofs.TakingLemmas.{taking_fit}
 use Rattle.local_object.specs.Events.{LocalEvent}
 use Rattle.local_object.specs.Local.{LocalObject, with_heard}
 use Rattle.node_keeper.specs.Keeping.{names_of}
