@@ -73,12 +73,13 @@ can_resend_fit keeper name id asks_all fit short =
     (sendings_fit keeper name id asks_all fit short)
 
 pub asked_again_fit : AskedKeepersAreFit
-asked_again_fit old new name id asks_all before after fit short done grown =
-    let sends = sendings_again name id asks_all old in
-    let local = objects_of old.objects name in record {
-      keeper = rest_fit old new fit done.rest
-          (outcome_fit old.objects new.objects name (read_on_events local id) done.objects.letters fit.objects
-          (reading_on_fit local id (fit.objects name)) done.objects.done).0;
-      own = more_own before after (sent_growth old.ids.node old.digest sends) grown
-          (own_fit old.ids.node sends (sendings_fit old name id asks_all fit short));
-    }
+asked_again_fit old new name id fit = (
+  λ done. rest_fit old new fit done.rest
+      (outcome_fit old.objects new.objects name (read_on_events local id) done.objects.letters fit.objects
+      (reading_on_fit local id (fit.objects name)) done.objects.done).0,
+  λ asks_all before after short grown. more_own before after (sent_growth old.ids.node old.digest (sendings_again name id asks_all old))
+      grown (own_fit old.ids.node (sendings_again name id asks_all old) (sendings_fit old name id asks_all fit short)),
+)
+  where
+    local : LocalObject
+    local = objects_of old.objects name

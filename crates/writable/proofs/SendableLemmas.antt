@@ -156,7 +156,7 @@ module _ (digest : List ℕ) (whole : length digest ≡ DIGEST_LENGTH) where
       length more ≤ 1 → AllByRecursion IsShort more → IsFrame (word ∷ decimal position ∷ name ∷ more)
   position_entry word name position more first short within few rest =
       let limit : MOST_STRINGS ≡ 1024 = refl in
-      let below : position < 10 ^ 20 = omega (arith, within) in
+      let below : position < 2 ^ 64 = omega (arith, within) in
       let digits : length (decimal position) ≤ 20 = length-decimal-le 20 position (omega arith) (omega arith) below in record {
         few = omega (arith, few);
         short = (first, (small (decimal position) (omega (arith, digits)), (name_short name short, rest)));

@@ -19,7 +19,7 @@ use Rattle.node_keeper.specs.declared.delivered.Begun.{Begun}
 use Rattle.node_keeper.specs.declared.delivered.Delivered.{Delivered}
 use Rattle.node_keeper.specs.declared.delivered.Delivered.TheVariants as delivered
 use Rattle.node_keeper.specs.declared.keeper.Keeper.{Keeper}
-use Rattle.writable.specs.Keepers.{IsFitKeeper, IsFitNamed, IsLeftFit, IsShortName}
+use Rattle.writable.specs.Keepers.{HasFitOwn, IsFitKeeper, IsFitNamed, IsLeftFit, IsShortName}
 
 -- a call of an object with a short name begins, or its object refuses it
 abbrev pub BegunKeepersAreFit : Type 0
@@ -43,10 +43,11 @@ DeliveredKeepersAreFit = (old new : Keeper) (asker : ℕ) (it : NamedLetter) (be
 
 -- a call of an object with a short name asks again
 abbrev pub AskedKeepersAreFit : Type 0
-AskedKeepersAreFit = (old new : Keeper) (name : List ℕ) (id : ℕ) (asks_all : Bool) (before after : Work) →
-    IsFitKeeper old → IsShortName name → IsAskedAgain old name id new →
+AskedKeepersAreFit = (old new : Keeper) (name : List ℕ) (id : ℕ) → IsFitKeeper old →
+    (IsAskedAgain old name id new → IsFitKeeper new)
+    × ((asks_all : Bool) (before after : Work) → IsShortName name →
     IsGrown before after (sent_growth old.ids.node old.digest (sendings_again name id asks_all old)) →
-    IsLeftFit before new after
+    HasFitOwn before → HasFitOwn after)
 
 -- a call is given up
 abbrev pub GivenUpKeepersAreFit : Type 0
