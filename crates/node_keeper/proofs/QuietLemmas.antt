@@ -1,4 +1,5 @@
--- Letters that are served, calls that go on or are given up, and banks that are closed, as what a node does.
+-- Letters that are served, calls that go on or are given up, and banks whose pointers are raised or that are closed, as what
+-- a node does.
 use Rattle.std.proofs.Common.{◌≡◌, ℕ, Bool, true, false, cond, List, [], ◌∷◌, ◌++◌, map}
 use Rattle.std.proofs.Common.{is_some, refl, sym, subst, ap}
 use Rattle.std.specs.List.{AllByRecursion}
@@ -11,6 +12,7 @@ use Rattle.local_object.specs.Doing.{is_served, serve_events, stray_events}
 use Rattle.local_object.specs.Ended.{all_told}
 use Rattle.local_object.specs.Events.{LocalEvent}
 use Rattle.local_object.specs.Local.{LocalObject}
+use Rattle.local_object.specs.Passed.{can_raise, raise_events}
 use Rattle.local_object.specs.ReadingOn.{read_on_events, reads_on}
 use Rattle.deeds.specs.Deeds.{Notice as Seen}
 use Rattle.deeds.specs.Ids.{IsLater}
@@ -172,3 +174,15 @@ module _ (got : List Named) (name : List ℕ) (position : ℕ) (local : LocalObj
 
   pub close_told : all_told fragment local (close_events local position) ≡ []
   close_told = untold_if local (LocalEvent.Close position) refl (can_close local position)
+
+-- Raising
+
+module _ (got : List Named) (name : List ℕ) (position : ℕ) (local : LocalObject) where
+  pub raise_fed : AllByRecursion (IsEventLetterKnown got name) (raise_events local position)
+  raise_fed = if_all (IsEventLetterKnown got name) (LocalEvent.Raise position) (can_raise local position) tt
+
+  pub raise_none : AllByRecursion BeginsNone (raise_events local position)
+  raise_none = if_all BeginsNone (LocalEvent.Raise position) (can_raise local position) refl
+
+  pub raise_told : all_told fragment local (raise_events local position) ≡ []
+  raise_told = untold_if local (LocalEvent.Raise position) refl (can_raise local position)

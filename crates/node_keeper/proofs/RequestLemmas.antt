@@ -125,6 +125,7 @@ event_asks local (LocalEvent.ReadOn id) none =
     reading_asks local (λ call. number_at call local.start) (open_call local.calls id)
 event_asks local (LocalEvent.BeginAnew id) none =
     reading_asks local (λ call. anew_number call local.start) (open_call local.calls id)
+event_asks local (LocalEvent.Raise position) none = tt
 
 all_ask : (local : LocalObject) (events : List LocalEvent) → AllByRecursion ServesNone events →
     AllByRecursion Asks (all_done fragment local events).sent
@@ -156,6 +157,7 @@ begins_serve_none (LocalEvent.Hear letter) other is = tt
 begins_serve_none (LocalEvent.Redirect letter) other is = absurd (cc)
 begins_serve_none (LocalEvent.ReadOn id) other is = tt
 begins_serve_none (LocalEvent.BeginAnew id) other is = tt
+begins_serve_none (LocalEvent.Raise position) other is = tt
 
 -- Letters that are sent again
 

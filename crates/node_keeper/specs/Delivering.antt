@@ -5,7 +5,7 @@ use Rattle.std.specs.List.{AllByRecursion}
 use Rattle.encoder.specs.Fragment.{fragment}
 use Rattle.letter.specs.declared.letter.Letter.{Letter}
 use Rattle.local_object.specs.declared.progress.Ended.{Ended}
-use Rattle.local_object.specs.Changing.{is_changed_by}
+use Rattle.local_object.specs.Changing.{after_serving, is_changed_by}
 use Rattle.mail.specs.Message.{is_request}
 use Rattle.local_object.specs.Doing.{has_move_open, serve_events}
 use Rattle.local_object.specs.Events.{all_done}
@@ -22,7 +22,8 @@ use Rattle.node_effects.specs.declared.work.Work.{Work}
 use Rattle.node_keeper.specs.declared.delivered.Delivered.{Delivered}
 use Rattle.node_keeper.specs.declared.delivered.Delivered.TheVariants as delivered
 use Rattle.node_keeper.specs.Acts.{logged_growth}
-use Rattle.node_keeper.specs.Closing.{ClosesLeft, left_between, left_records}
+use Rattle.node_keeper.specs.Closing.{CanClosePassed, ClosesPassed}
+use Rattle.node_keeper.specs.Declining.{declines}
 use Rattle.node_keeper.specs.Fitting.{CanBeWritten, IsLoggable, IsSendable}
 use Rattle.node_keeper.specs.Keeping.{heeds, kept_of}
 use Rattle.node_keeper.specs.Sendings.{asked, reply_sendings, sent_growth}
@@ -82,31 +83,40 @@ pub record TakesReply (it : NamedLetter) (old : Keeper) (before : Work) (new : K
   pub fits : CanBeWritten old.ids.node old.digest (taken_records old it) (asked old.ids.node it.name letters)
   pub rest : KeepsRest old new
 
--- a reply was taken, and then the node closed its bank of the position that the reply's call has left behind, if it has
--- left one
-pub record TakesAndCloses (it : NamedLetter) (old : Keeper) (before : Work) (new : Keeper) (after : Work)
-    (ended : Option Ended) : Type 0 where
-  pub middle : Keeper
-  pub between : Work
-  pub takes : TakesReply it old before middle between ended
-  pub closes : ClosesLeft it.name (left_between old.objects middle.objects it.name it.letter.message.call)
-      middle between new after
-  pub rest : KeepsRest old new
-
 -- what became of a letter that was taken
 abbrev pub delivered_of : Option Ended → Delivered
 delivered_of None = delivered.Handled
 delivered_of (Some ended) = delivered.Ended ended
+
+-- what became of a request; whether the node served it, and its bank declined it, is the argument
+abbrev pub served_as : (declined : Bool) → Delivered
+served_as false = delivered.Handled
+served_as true = delivered.Declined
+
+-- a request was served or sent back, or a reply was taken; whether the letter is a request is an argument
+abbrev pub HandlesAs : (asks : Bool) → (asker : ℕ) → NamedLetter → (old : Keeper) → (before : Work) → (new : Keeper) →
+    (after : Work) → Delivered → Type 0
+HandlesAs true asker it old before new after result =
+    (result ≡ served_as (declines (objects_of old.objects it.name) it.letter))
+    × ServesRequest asker it old before new after
+HandlesAs false asker it old before new after result =
+    (ended : Option Ended) × (result ≡ delivered_of ended) × TakesReply it old before new after ended
+
+-- a letter was handled so, and then the node closed its banks of positions before the object's start
+pub record HandlesAndCloses (asks : Bool) (asker : ℕ) (it : NamedLetter) (old : Keeper) (before : Work) (new : Keeper)
+    (after : Work) (result : Delivered) : Type 0 where
+  pub middle : Keeper
+  pub between : Work
+  pub handles : HandlesAs asks asker it old before middle between result
+  pub closes : ClosesPassed it.name middle between new after
+  pub rest : KeepsRest old new
 
 -- what became of a letter; whether the node heeds it, and whether it is a request, are arguments
 abbrev pub DeliversAs : (heeded asks : Bool) → (asker : ℕ) → NamedLetter → (old : Keeper) → (before : Work) →
     (new : Keeper) → (after : Work) → Delivered → Type 0
 DeliversAs false asks asker it old before new after result =
     (result ≡ delivered.Dropped) × (new ≡ old) × IsGrown before after no_growth
-DeliversAs true true asker it old before new after result =
-    (result ≡ delivered.Handled) × ServesRequest asker it old before new after
-DeliversAs true false asker it old before new after result =
-    (ended : Option Ended) × (result ≡ delivered_of ended) × TakesAndCloses it old before new after ended
+DeliversAs true asks asker it old before new after result = HandlesAndCloses asks asker it old before new after result
 
 -- what became of a letter that has come from the node of number `asker`
 abbrev pub DeliversLetter : (asker : ℕ) → NamedLetter → (old : Keeper) → (before : Work) → (new : Keeper) →
@@ -119,12 +129,14 @@ DeliversLetter asker it old before new after result =
 abbrev pub told_by : (name : List ℕ) → Delivered → List Notice
 told_by name delivered.Dropped = []
 told_by name delivered.Handled = []
+told_by name delivered.Declined = []
 told_by name (delivered.Ended ended) = notice.Tells name ended ∷ []
 
 -- whether a letter was dropped
 abbrev pub was_dropped : Delivered → Bool
 was_dropped delivered.Dropped = true
 was_dropped delivered.Handled = false
+was_dropped delivered.Declined = false
 was_dropped (delivered.Ended ended) = false
 
 -- everything that has to be written when a request is served can be written
@@ -142,21 +154,23 @@ CanTake it keeper =
     IsReplyOutcomeAt keeper.objects it.name it.letter new letters ended →
     AllByRecursion (IsSendable keeper.ids.node keeper.digest) (asked keeper.ids.node it.name letters))
 
--- everything that has to be written when a reply is taken can be written, and so can the record of the bank that the
--- node then closes
-abbrev pub CanTakeAndClose : NamedLetter → Keeper → Type 0
-CanTakeAndClose it keeper =
-    CanTake it keeper
-    × ((new : Objects) (letters : List Letter) (ended : List Ended) →
+-- everything that has to be written when a letter is handled can be written; whether it is a request is an argument
+abbrev pub CanHandle : (asks : Bool) → (asker : ℕ) → NamedLetter → Keeper → Type 0
+CanHandle true asker it keeper = CanServe asker it keeper
+CanHandle false asker it keeper = CanTake it keeper
+
+-- what the log gets as the node then closes banks can be written, whatever comes of the letter
+abbrev pub CanCloseAfter : (asks : Bool) → NamedLetter → Keeper → Type 0
+CanCloseAfter true it keeper =
+    CanClosePassed keeper.digest it.name (after_serving (objects_of keeper.objects it.name) it.letter)
+CanCloseAfter false it keeper = (new : Objects) (letters : List Letter) (ended : List Ended) →
     IsReplyOutcomeAt keeper.objects it.name it.letter new letters ended →
-    AllByRecursion (IsLoggable keeper.digest) (left_records new it.name
-    (left_between keeper.objects new it.name it.letter.message.call)))
+    CanClosePassed keeper.digest it.name (objects_of new it.name)
 
 -- all that has to be written for a letter can be written; `heeded` and `asks` say if it is heeded and is a request
 abbrev pub CanDeliverAs : (heeded asks : Bool) → (asker : ℕ) → NamedLetter → Keeper → Type 0
 CanDeliverAs false asks asker it keeper = Unit {0}
-CanDeliverAs true true asker it keeper = CanServe asker it keeper
-CanDeliverAs true false asker it keeper = CanTakeAndClose it keeper
+CanDeliverAs true asks asker it keeper = CanHandle asks asker it keeper × CanCloseAfter asks it keeper
 
 -- all that has to be written for a letter that has come from the node of number `asker` can be written
 abbrev pub CanDeliver : (asker : ℕ) → NamedLetter → Keeper → Type 0

@@ -2,11 +2,11 @@ pub mod Acts
 pub mod Anew
 pub mod Beginning
 pub mod Closing
+pub mod Declining
 pub mod Delivering
 pub mod Doing
 pub mod Fitting
 pub mod Keeping
-pub mod Leaving
 pub mod Logging
 pub mod NewObjects
 pub mod NextIds

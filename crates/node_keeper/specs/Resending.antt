@@ -1,5 +1,5 @@
--- What a call does as it asks again: it goes on at the object's start, or sends its requests again, and it may ask all
--- nodes for the start.
+-- Requests that also ask all nodes for the object's start; and what a call does as it asks again: it goes on at the
+-- object's start, or sends its requests again, and it may ask all nodes.
 use Rattle.std.specs.Prelude.{ℕ, Bool, true, false, if◌then◌else◌, List, [], ◌∷◌, ◌++◌, Option, None, Some}
 use Rattle.std.specs.List.{AllByRecursion}
 use Rattle.cluster_file.specs.File.{FileContents}
@@ -10,11 +10,13 @@ use Rattle.local_object.specs.Local.{LocalObject}
 use Rattle.local_object.specs.Outcomes.{Outcome}
 use Rattle.local_object.specs.ReadingOn.{read_on_events}
 use Rattle.local_object.specs.Resent.{letters_again}
+use Rattle.node_effects.specs.Work.{IsGrown}
+use Rattle.node_effects.specs.declared.work.Work.{Work}
 use Rattle.node_keeper.specs.Delivering.{KeepsRest}
 use Rattle.node_keeper.specs.Doing.{IsOutcomeAt}
 use Rattle.node_keeper.specs.Objects.{objects_of}
 use Rattle.node_keeper.specs.Fitting.{IsSendable}
-use Rattle.node_keeper.specs.Sendings.{Sending, asked, asks_next, to_others}
+use Rattle.node_keeper.specs.Sendings.{Sending, asked, asks_next, sent_growth, to_others}
 use Rattle.node_keeper.specs.declared.keeper.Keeper.{Keeper}
 use Rattle.node_keeper.specs.declared.objects.Objects.{Objects}
 
@@ -59,13 +61,26 @@ to_all number file name None = []
 to_all number file name (Some letter) =
     to_others number (record { name = name; letter = letter }) (file.fixed.nodes ++ file.later)
 
--- the requests that the call with this id sends as it asks again, each to the node that it asks; and then, if all nodes
--- are to be asked and these requests ask for the next position, the first of them to each other node
+-- requests about the object of a name, each to the node that it asks; and then, if all nodes are to be asked and these
+-- requests ask for the next position, the first of them to each other node of the cluster file
+abbrev pub sendings_of : (asks_all : Bool) → (number : ℕ) → FileContents → (name : List ℕ) → List Letter → List Sending
+sendings_of asks_all number file name letters =
+    asked number name letters ++ to_all number file name (first_for_all asks_all letters)
+
+-- such requests went out: first each to the node that it asks, and then the first of them to all nodes, if it had to
+pub record AreSent (asks_all : Bool) (keeper : Keeper) (name : List ℕ) (letters : List Letter) (before after : Work)
+    : Type 0 where
+  pub between : Work
+  pub asked : IsGrown before between
+      (sent_growth keeper.ids.node keeper.digest (asked keeper.ids.node name letters))
+  pub all : IsGrown between after (sent_growth keeper.ids.node keeper.digest
+      (to_all keeper.ids.node keeper.file name (first_for_all asks_all letters)))
+
+-- the requests that the call with this id sends as it asks again, with the first of them to all nodes, if they are to
+-- be asked
 unfoldable pub sendings_again : (name : List ℕ) → (id : ℕ) → (asks_all : Bool) → Keeper → List Sending
 sendings_again name id asks_all keeper =
-    let letters = asked_again (objects_of keeper.objects name) id in
-    let number = keeper.ids.node in
-    asked number name letters ++ to_all number keeper.file name (first_for_all asks_all letters)
+    sendings_of asks_all keeper.ids.node keeper.file name (asked_again (objects_of keeper.objects name) id)
 
 -- each request that the call with this id sends as it asks again can be sent
 abbrev pub CanResend : (name : List ℕ) → (id : ℕ) → (asks_all : Bool) → Keeper → Type 0

@@ -8,6 +8,8 @@ pub enum Delivered {
     Dropped,
     /// The letter was served, sent back or taken, and no call of this node ended.
     Handled,
+    /// The letter was served, and fetches a piece, and the node's bank sends no reply, since it is closed.
+    Declined,
     /// The letter was taken, and this call of this node was answered.
     Ended(Ended),
 }

@@ -15,9 +15,11 @@ mod asking;
 mod begin;
 mod closing;
 mod letters;
+mod passing;
 mod recovery;
 mod rewriting;
 mod send;
+mod taking;
 mod weighing;
 
 /// What a node keeps: its cluster file with its digest, its objects, and the source of its calls' ids.

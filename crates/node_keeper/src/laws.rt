@@ -1,8 +1,8 @@
-//! What is true of the positions that calls leave behind.
-ghost use Rattle.node_keeper.specs.Leaving.{LeftPositionsAreFinal};
+//! What is true of the requests with which reads begin.
+ghost use Rattle.node_keeper.specs.Beginning.{ReadsAskNext};
 
-/// A law: a call leaves a position behind only once a quorum of the position's members has replied that its pointer is
-/// final.
-pub fn left_positions_are_final()
-    ensures { LeftPositionsAreFinal }
+/// A law: all requests with which a read begins ask for the next position. So `Keeper::begin_read` sends the first of
+/// them to all nodes, if these are to be asked.
+pub fn reads_ask_for_the_next_position()
+    ensures { ReadsAskNext }
 {}

@@ -6,7 +6,7 @@ pub use delivered::{Begun, Delivered};
 pub use entries::push_entry;
 pub use ids::OwnIds;
 pub use keeper::Keeper;
-pub use laws::left_positions_are_final;
+pub use laws::reads_ask_for_the_next_position;
 pub use objects::Objects;
 pub use objects::scan::Page;
 

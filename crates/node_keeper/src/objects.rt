@@ -20,6 +20,7 @@ use tag::Refusal;
 
 mod begin;
 mod closing;
+mod declining;
 mod heard;
 mod last;
 mod questions;

@@ -7,3 +7,4 @@ mod lone_calls;
 mod lone_node;
 mod nodes;
 mod object_calls;
+mod raising;

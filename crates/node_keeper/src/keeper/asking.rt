@@ -1,4 +1,4 @@
-//! Calls that ask again.
+//! Requests that also ask all nodes for an object's start, and calls that ask again.
 ghost use Rattle.std.specs.Prelude.{◌≡◌, ◌∷◌, [], ℕ, true, IfErr, IfOk, IfSome, OnOk};
 ghost use Rattle.std.specs.List.{AllByRecursion};
 ghost use Rattle.node_effects.specs.Errors.{WritesOrFails};
@@ -6,7 +6,8 @@ ghost use Rattle.node_effects.specs.Work.{IsGrown};
 ghost use Rattle.node_effects.specs.declared.error.NodeError.TheVariants.{NoMemory};
 ghost use Rattle.node_keeper.specs.Acts.{Acts};
 ghost use Rattle.node_keeper.specs.Fitting.{IsSendable};
-ghost use Rattle.node_keeper.specs.Resending.{CanResend, IsAskedAgain, first_for_all, if_next, sendings_again, to_all};
+ghost use Rattle.node_keeper.specs.Resending.{AreSent, CanResend, IsAskedAgain, first_for_all, if_next};
+ghost use Rattle.node_keeper.specs.Resending.{sendings_again, sendings_of, to_all};
 ghost use Rattle.node_keeper.specs.Sendings.{asks_next, sent_growth, to_others};
 
 use super::Keeper;
@@ -39,6 +40,22 @@ impl Keeper {
         ensures writes { WritesOrFails (CanResend name.now id asks_all self.old) result }
     {
         let letters = self.objects.ask_again(name, id)?;
+        self.post_requests(name, letters, asks_all, work)
+    }
+
+    /// Requests of the object of this name go to their members. If all nodes are to be asked, and these requests ask
+    /// for the next position, the first of them also goes to each other node of the cluster file.
+    pub(super) fn post_requests(
+        &self,
+        name: &Bytes,
+        letters: Vec<Letter>,
+        asks_all: bool,
+        work: &mut Work,
+    ) -> Result<(), NodeError>
+        ensures sent { OnOk result (AreSent asks_all self.now name.now letters.items work.old work.new) }
+        ensures writes { WritesOrFails (AllByRecursion (IsSendable self.now.ids.node self.now.digest)
+            (sendings_of asks_all self.now.ids.node self.now.file name.now letters.items)) result }
+    {
         let first = first_for_all(asks_all, &letters)?;
         self.post(name, letters, work)?;
         self.post_to_all(name, &first, work)

@@ -46,14 +46,23 @@ impl Keeper {
         begin_epoch(&mut self.ids, work)
     }
 
-    /// Begins a read of the object of this name, and sends its first requests.
+    /// Begins a read of the object of this name, and sends its first requests, which ask for the next position. If all
+    /// nodes are to be asked, the first of them also goes to each other node of the cluster file. So each of these
+    /// nodes hears of the object's start.
     ///
     /// Fails with `NoMoreIds` if there is no id for the call, with `Unwritable` if a request is no message, or with
     /// `NoMemory`.
-    pub fn begin_read(&mut self, name: &Bytes, work: &mut Work) -> Result<Begun, NodeError>
+    pub fn begin_read(
+        &mut self,
+        name: &Bytes,
+        asks_all: bool,
+        work: &mut Work,
+    ) -> Result<Begun, NodeError>
         ensures acts { OnOk result ((asker : ℕ) → Acts asker [] self.old work.old self.new work.new) }
-        ensures begins { IfOk result (BeginsCall (reading_call name.now) self.old work.old self.new work.new) }
-        ensures refused { IfErr result (IsNotBegun (reading_call name.now) self.old) }
+        ensures begins { IfOk result
+            (BeginsCall (reading_call name.now asks_all) self.old work.old self.new work.new) }
+
+        ensures refused { IfErr result (IsNotBegun (reading_call name.now asks_all) self.old) }
     {
         let id = next_id(&mut self.ids, work)?;
         match self.objects.begin_read(name, id) {
@@ -62,7 +71,7 @@ impl Keeper {
                     name: name.clone()?,
                     id,
                 })?;
-                self.post(name, letters, work)?;
+                self.post_requests(name, letters, asks_all, work)?;
                 Ok(Begun::Open(id))
             }
             Err(refusal) => refused(refusal),

@@ -1,17 +1,17 @@
 //! Letters that have come.
-ghost use Rattle.std.specs.Prelude.{◌≡◌, ◌∷◌, [], ℕ, true, false, IfErr, IfOk, IfSome, OnOk, Option};
+ghost use Rattle.std.specs.Prelude.{◌≡◌, ◌∷◌, [], true, IfErr, IfOk, IfSome, OnOk};
 ghost use Rattle.layout.specs.Layout.{IsLawful};
 ghost use Rattle.recoveries.specs.Copies.{IsHeeded};
 ghost use Rattle.mail.specs.Message.{is_request};
-ghost use Rattle.local_object.specs.declared.progress.Ended.{Ended as ToldCall};
 ghost use Rattle.node_effects.specs.Errors.{IsUnwritten};
 ghost use Rattle.node_effects.specs.declared.error.NodeError.TheVariants.{NoMemory};
-ghost use Rattle.node_keeper.specs.Delivering.{CanDeliver, CanServe, CanTake, DeliversLetter, ServesRequest};
-ghost use Rattle.node_keeper.specs.Delivering.{TakesReply, delivered_of, tell_growth};
+ghost use Rattle.node_keeper.specs.Declining.{declines};
+ghost use Rattle.node_keeper.specs.Delivering.{CanDeliver, CanDeliverAs, CanHandle, CanServe, DeliversLetter};
+ghost use Rattle.node_keeper.specs.Delivering.{HandlesAndCloses, HandlesAs, ServesRequest, served_as};
 ghost use Rattle.node_effects.specs.Seen.{named_of};
-ghost use Rattle.node_effects.specs.Work.{IsGrown};
 ghost use Rattle.node_keeper.specs.Acts.{Acts};
 ghost use Rattle.node_keeper.specs.Keeping.{heeds, if_heeded, kept_of};
+ghost use Rattle.node_keeper.specs.Objects.{objects_of};
 ghost use Rattle.node_keeper.specs.Sendings.{IsFrameOf};
 
 use super::Keeper;
@@ -20,8 +20,7 @@ use crate::post::is_request;
 use bytes::Bytes;
 use frames::Frame;
 use letter::NamedLetter;
-use local_object::Ended;
-use node_effects::{NodeError, Notice, Work};
+use node_effects::{NodeError, Work};
 
 impl Keeper {
     /// Serves the request or takes the reply in a letter from the node with this number, which may be this node itself.
@@ -32,9 +31,14 @@ impl Keeper {
     /// node, at a position before the object's start, goes back to the node that sent it, with this start in place of
     /// the letter's, unless the letter tells of one that is as late.
     ///
-    /// A reply may complete the phase in which its call raises the pointer of a position to final. Then that pointer is
-    /// final at a quorum, and no call that begins later needs the pieces of the position. So the node closes its own
-    /// bank of the position, if it keeps an open one whose pointer is final, and logs this first.
+    /// If the node serves a request that fetches a piece, and its bank is closed, it sends no reply. It then returns
+    /// `Declined`.
+    ///
+    /// After each letter that it does not drop, the node closes its open banks of positions before the object's start,
+    /// and logs this first. At each of these positions the pointer is final at a quorum, so no call that begins later
+    /// needs its pieces. A bank whose pointer is not final cannot be closed. The node first raises this pointer, if it
+    /// is a member of the position and has heard of the next one, and before that logs the letter with which it asks
+    /// itself for this.
     ///
     /// Fails with `NoMemory`, or with `Unwritable` if the letter is no message.
     pub fn deliver(
@@ -79,10 +83,57 @@ impl Keeper {
         if !self.heeds(&it)? {
             return Ok(Delivered::Dropped);
         }
+        self.handle_and_close(sender, it, came, work)
+    }
+
+    // Serves a request, or takes a reply. Then the node closes its banks of positions before the object's start.
+    fn handle_and_close(
+        &mut self,
+        sender: u8,
+        it: NamedLetter,
+        came: Option<Frame>,
+        work: &mut Work,
+    ) -> Result<Delivered, NodeError>
+        requires came { IfSome came (IsFrameOf self.old.digest it) }
+        requires heeded { IsHeeded (kept_of self.old) it.name it.letter }
+        ensures acts { OnOk result
+            (Acts sender (named_of it ∷ []) self.old work.old self.new work.new) }
+
+        ensures handles { IfOk result (HandlesAndCloses (is_request it.letter.message.body) sender it
+            self.old work.old self.new work.new) }
+
+        ensures refused { IfErr result
+            (IsUnwritten (CanDeliverAs true (is_request it.letter.message.body) sender it self.old)) }
+    {
+        let name = it.name.clone()?;
+        let handled = self.handle(sender, it, came, work)?;
+        self.close_passed(&name, work)?;
+        Ok(handled)
+    }
+
+    // Serves a request, or takes a reply.
+    fn handle(
+        &mut self,
+        sender: u8,
+        it: NamedLetter,
+        came: Option<Frame>,
+        work: &mut Work,
+    ) -> Result<Delivered, NodeError>
+        requires came { IfSome came (IsFrameOf self.old.digest it) }
+        requires heeded { IsHeeded (kept_of self.old) it.name it.letter }
+        ensures acts { OnOk result
+            (Acts sender (named_of it ∷ []) self.old work.old self.new work.new) }
+
+        ensures handles { IfOk result (HandlesAs (is_request it.letter.message.body) sender it
+            self.old work.old self.new work.new) }
+
+        ensures refused { IfErr result
+            (IsUnwritten (CanHandle (is_request it.letter.message.body) sender it self.old)) }
+    {
         if is_request(&it.letter) {
             self.serve(sender, it, came, work)
         } else {
-            self.take_and_close(it, came, work)
+            self.take(it, came, work)
         }
     }
 
@@ -121,73 +172,32 @@ impl Keeper {
             (Acts sender (named_of it ∷ []) self.old work.old self.new work.new) }
 
         ensures serves { OnOk result (ServesRequest sender it self.old work.old self.new work.new) }
-        ensures handled { IfOk result (λ served. served ≡ Delivered.Handled) }
+        ensures served { IfOk result (λ served.
+            served ≡ served_as (declines (objects_of self.old.objects it.name) it.letter)) }
+
         ensures refused { IfErr result (IsUnwritten (CanServe sender it self.old)) }
     {
+        let declined = self.objects.declines(&it.name, &it.letter);
         let it = self.log_serve(it, came, work)?;
         let NamedLetter { name, letter } = it;
         match self.objects.serve(&name, letter)? {
             Some(reply) => {
                 let letter = reply;
                 self.send(sender, NamedLetter { name, letter }, work)?;
-                Ok(Delivered::Handled)
+                Ok(served_as(declined))
             }
-            None => Ok(Delivered::Handled),
+            None => Ok(served_as(declined)),
         }
     }
+}
 
-    // Takes a reply, and goes on with its call. A reply to an open move goes to the log first.
-    pub(crate) fn take(
-        &mut self,
-        it: NamedLetter,
-        came: Option<Frame>,
-        work: &mut Work,
-    ) -> Result<Delivered, NodeError>
-        requires came { IfSome came (IsFrameOf self.old.digest it) }
-        requires heeded { IsHeeded (kept_of self.old) it.name it.letter }
-        requires answers { is_request it.letter.message.body ≡ false }
-        ensures acts { OnOk result
-            ((asker : ℕ) → Acts asker (named_of it ∷ []) self.old work.old self.new work.new) }
-
-        ensures takes { IfOk result (λ taken. (ended : Option ToldCall)
-            × (taken ≡ delivered_of ended) × TakesReply it self.old work.old self.new work.new ended) }
-
-        ensures refused { IfErr result (IsUnwritten (CanTake it self.old)) }
-    {
-        let it = self.log_take(it, came, work)?;
-        let NamedLetter { name, letter } = it;
-        let progress = self.objects.take(&name, letter)?;
-        self.post(&name, progress.letters, work)?;
-        tell(name, progress.ended, work)
+// What became of a request, by whether the node served it, and its bank declined it.
+fn served_as(declined: bool) -> Delivered
+    ensures { result ≡ served_as declined }
+{
+    if declined {
+        Delivered::Declined
+    } else {
+        Delivered::Handled
     }
-}
-
-// A reply about the object of this name was taken. Where it answered a call, clients see that.
-fn tell(name: Bytes, ended: Option<Ended>, work: &mut Work) -> Result<Delivered, NodeError>
-    ensures grown { OnOk result (IsGrown work.old work.new (tell_growth name ended)) }
-    ensures told { IfOk result (λ told. told ≡ delivered_of ended) }
-    ensures refused { IfErr result (λ e. e ≡ NoMemory) }
-{
-    let Some(ended) = ended else {
-        return Ok(Delivered::Handled);
-    };
-    let told = copy_of(&ended)?;
-    work.note(Notice::Tells { name, ended: told })?;
-    Ok(Delivered::Ended(ended))
-}
-
-// A copy of what a client is told. Its value shares its bytes.
-fn copy_of(ended: &Ended) -> Result<Ended, NodeError>
-    ensures copied { IfOk result (λ copy. copy ≡ ended.now) }
-    ensures refused { IfErr result (λ e. e ≡ NoMemory) }
-{
-    let value = match &ended.value {
-        Some(value) => Some(value.clone()?),
-        None => None,
-    };
-    Ok(Ended {
-        id: ended.id,
-        kind: ended.kind,
-        value,
-    })
 }

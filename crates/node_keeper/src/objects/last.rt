@@ -76,8 +76,8 @@ fn last_place(object: &LocalObject) -> Option<&Place>
     place_of(object.places(), last_of(object.places()))
 }
 
-// The first place with this position, if there is one.
-fn place_of(places: &[Place], number: u32) -> Option<&Place>
+/// Returns the first place with this position, if there is one.
+pub(super) fn place_of(places: &[Place], number: u32) -> Option<&Place>
     ensures { option_copied result ≡ heard_place places.now number }
 {
     match index_of(places, number) {

@@ -74,7 +74,8 @@ fn spread(rt: &impl Abort, alloc: Global, object: &mut LocalObject) {
     );
 }
 
-fn write_and_spread(rt: &impl Abort, alloc: Global, object: &mut LocalObject) {
+/// Node 4 serves two writes, and a request that makes the pointer of position 0 pending.
+pub(crate) fn write_and_spread(rt: &impl Abort, alloc: Global, object: &mut LocalObject) {
     for tag in [FIRST, SECOND] {
         serve(rt, alloc, object, None, pre_write(tag));
         serve(rt, alloc, object, None, Request::Finalize(tag));

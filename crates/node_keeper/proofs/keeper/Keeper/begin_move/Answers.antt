@@ -8,7 +8,7 @@ use Rattle.node_keeper.specs.Beginning.{moving_call}
 use Rattle.node_keeper.proofs.BegunLemmas.{begun_acts}
 use Rattle.node_keeper.proofs.EpochLemmas.{refused_if}
 use Rattle.node_keeper.proofs.EventLogLemmas.{lawful_of, move_logged}
-use Rattle.node_keeper.proofs.CallLemmas.{call_begun, gives_node, post_not_begun, refused_begins}
+use Rattle.node_keeper.proofs.CallLemmas.{alone_begun, gives_node, post_not_begun, refused_begins}
 use Rattle.node_keeper.proofs.ResultLemmas.{err_same}
 use Rattle.node_keeper.proofs.keeper.Keeper.begin_move.Goals as goal
 
@@ -31,7 +31,7 @@ returns-in_ok-post-in-Ok-clause-acts c =
 pub returns-in_ok-post-in-Ok-clause-begins : goal.returns-in_ok-post-in-Ok-clause-begins
 returns-in_ok-post-in-Ok-clause-begins c =
     let id = c.in_ok-id.id in
-    call_begun (moving_call c.args.name.now c.args.layout) id c.args.self.now _ c.args.work.now c.next_id.new.work c.log_move.new.work
+    alone_begun (moving_call c.args.name.now c.args.layout) refl id c.args.self.now _ c.args.work.now c.next_id.new.work c.log_move.new.work
     c.post.new.work c.in-Ok.letters.items c.in_ok-id.ensures.gives c.in-Ok.ensures.cause
     (subst (λ l. IsOutcomeAt c.args.self.now.objects c.args.name.now (LocalEvent.BeginMove id l ∷ []) c.begin_move.new.self
     c.in-Ok.letters.items) c.in_ok-to.ensures.cases c.in-Ok.ensures.done) c.in_ok-log_move-in-Ok.ensures.logged

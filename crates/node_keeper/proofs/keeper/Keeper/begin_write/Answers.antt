@@ -11,7 +11,7 @@ use Rattle.node_keeper.specs.Beginning.{opened_growth, writing_call}
 use Rattle.node_keeper.proofs.BegunLemmas.{begun_acts}
 use Rattle.node_keeper.proofs.EpochLemmas.{refused_if}
 use Rattle.node_keeper.proofs.EventLogLemmas.{write_logged}
-use Rattle.node_keeper.proofs.CallLemmas.{call_begun, gives_node, post_not_begun, IsRefusedBy, refused_begins}
+use Rattle.node_keeper.proofs.CallLemmas.{alone_begun, gives_node, post_not_begun, IsRefusedBy, refused_begins}
 use Rattle.node_keeper.proofs.ResultLemmas.{err_same}
 use Rattle.node_keeper.proofs.keeper.Keeper.begin_write.Goals as goal
 
@@ -36,7 +36,7 @@ returns-in_ok-post-in-Ok-clause-begins c =
     subst (λ n. IsGrown c.next_id.new.work c.note.new.self
     (opened_growth c.args.self.now.digest [] (notice.Writes n id c.args.value))) c.in_ok-name_seen-in-Ok.ensures.cases
     c.in_ok-note-in-Ok.ensures.grown in
-    call_begun (writing_call c.args.name.now c.args.value) id c.args.self.now _ c.args.work.now c.next_id.new.work c.note.new.self
+    alone_begun (writing_call c.args.name.now c.args.value) refl id c.args.self.now _ c.args.work.now c.next_id.new.work c.note.new.self
     c.post.new.work c.in-Ok.letters.items c.in_ok-id.ensures.gives
     (subst (λ v. write_refusal (objects_of c.args.self.now.objects c.args.name.now) id v ≡ None) c.in_ok-written.ensures.cases
     c.in-Ok.ensures.cause)

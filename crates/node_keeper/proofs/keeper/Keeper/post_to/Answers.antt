@@ -5,7 +5,7 @@ use Rattle.letter.specs.declared.letter.NamedLetter.{NamedLetter}
 use Rattle.node_effects.specs.Work.{IsGrown}
 use Rattle.node_keeper.specs.Fitting.{IsSendable}
 use Rattle.node_keeper.specs.Sendings.{sent_growth, to_others}
-use Rattle.node_keeper.proofs.AskedAllLemmas.{others_all, others_at, others_grown}
+use Rattle.node_keeper.proofs.RequestCopyLemmas.{others_all, others_at, others_grown}
 use Rattle.node_keeper.proofs.FittingLemmas.{unwritten_more}
 use Rattle.node_keeper.proofs.ResultLemmas.{fails_same}
 use Rattle.node_keeper.proofs.keeper.Keeper.post_to.Goals as goal

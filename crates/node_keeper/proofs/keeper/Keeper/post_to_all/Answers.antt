@@ -8,7 +8,7 @@ use Rattle.node_effects.specs.Work.{IsGrown}
 use Rattle.node_keeper.specs.Fitting.{IsSendable}
 use Rattle.node_keeper.specs.Resending.{to_all}
 use Rattle.node_keeper.specs.Sendings.{sent_growth, to_others}
-use Rattle.node_keeper.proofs.AskedAllLemmas.{others_all, others_grown, others_parts, writes_last}
+use Rattle.node_keeper.proofs.RequestCopyLemmas.{others_all, others_grown, others_parts, writes_last}
 use Rattle.node_keeper.proofs.FittingLemmas.{unwritten_more}
 use Rattle.node_keeper.proofs.ResultLemmas.{fails_same}
 use Rattle.node_keeper.proofs.keeper.Keeper.post_to_all.Goals as goal
