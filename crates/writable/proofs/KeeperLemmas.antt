@@ -16,12 +16,12 @@ use Rattle.local_object.specs.Local.{LocalObject}
 use Rattle.node_effects.specs.Work.{Growth, IsGrown, no_growth, one_entry}
 use Rattle.node_effects.specs.declared.work.Work.{Work}
 use Rattle.node_keeper.specs.Acts.{GivesId}
-use Rattle.node_keeper.specs.Beginning.{BeginsCall, Beginning, begun_growth, moving_call, reading_call, writing_call}
+use Rattle.node_keeper.specs.Beginning.{BeginsCall, Beginning, begun_growth, begun_sendings, moving_call, reading_call, writing_call}
 use Rattle.node_keeper.specs.Delivering.{KeepsRest}
 use Rattle.node_keeper.specs.Doing.{IsOutcomeAt}
 use Rattle.node_keeper.specs.Logging.{start_entry}
 use Rattle.node_keeper.specs.Objects.{IsChangedAt, objects_of}
-use Rattle.node_keeper.specs.Sendings.{asked}
+use Rattle.node_keeper.specs.Resending.{sendings_of}
 use Rattle.node_keeper.specs.declared.delivered.Begun.{Begun}
 use Rattle.node_keeper.specs.declared.delivered.Begun.TheVariants as begun
 use Rattle.node_keeper.specs.declared.keeper.Keeper.{Keeper}
@@ -31,7 +31,8 @@ use Rattle.writable.specs.Keepers.{AreBytes, HasFitOwn, IsFitKeeper, IsFitNamed,
 use Rattle.writable.specs.Laws.{FitKeepersCanBegin}
 use Rattle.writable.specs.Staying.{BegunKeepersAreFit, GivenUpKeepersAreFit}
 use Rattle.writable.proofs.GivenIdLemmas.{given_fit, next_small}
-use Rattle.writable.proofs.SendableLemmas.{all_sendable, asked_fit, moves_loggable, own_fit}
+use Rattle.writable.proofs.SendingLemmas.{sendings_fit}
+use Rattle.writable.proofs.SendableLemmas.{all_sendable, moves_loggable, own_fit}
 
 -- Objects
 
@@ -81,14 +82,14 @@ pub can_begin_fit : FitKeepersCanBegin
 can_begin_fit keeper name id fit short next =
     let small = next_small keeper.ids id fit.ids fit.node next in
     let first = first_fit (objects_of keeper.objects name) id (fit.objects name) small in
-    let can = λ (letters : List Letter) (all : AllByRecursion IsFitLetter letters).
-    all_sendable keeper.digest fit.digest keeper.ids.node (asked keeper.ids.node name letters)
-    (asked_fit keeper.ids.node name fit.node short letters all) in (
-      record { logged = tt; sent = can _ first.0 },
-      λ value. record { logged = tt; sent = can _ (first.1 value) },
+    let can = λ (asks_all : Bool) (letters : List Letter) (all : AllByRecursion IsFitLetter letters).
+    all_sendable keeper.digest fit.digest keeper.ids.node (sendings_of asks_all keeper.ids.node keeper.file name letters)
+    (sendings_fit keeper asks_all name fit short letters all) in (
+      λ asks_all. record { logged = tt; sent = can asks_all _ first.0 },
+      λ value. record { logged = tt; sent = can false _ (first.1 value) },
       λ layout lawful. record {
         logged = (moves_loggable keeper.digest fit.digest name id layout short small lawful, tt);
-        sent = can _ (first.2 layout lawful);
+        sent = can false _ (first.2 layout lawful);
       },
     )
 
@@ -119,11 +120,11 @@ begins_fit call old new before after (begun.Open id) fit short leave is =
     let small = (given_fit old.ids id new.ids before is.given fit.ids fit.node is.gives).small in
     let left = outcome_fit old.objects new.objects call.name (call.event id ∷ []) is.letters fit.objects
     (leave id small is.cause) is.done in
-    let sends = asked old.ids.node call.name is.letters in
+    let sends = begun_sendings call old is.letters in
     record {
       keeper = numbered_fit old new id before is.given fit is.gives is.file is.digest left.0;
       own = λ own. more_own is.given after (begun_growth call id old is.letters) is.grown
-          (own_fit old.ids.node sends (asked_fit old.ids.node call.name fit.node short is.letters left.1))
+          (own_fit old.ids.node sends (sendings_fit old call.asks_all call.name fit short is.letters left.1))
           (given_own old.ids id new.ids before is.given is.gives own);
     }
 begins_fit call old new before after (begun.Refused refusal) fit short leave is = record {
@@ -134,7 +135,7 @@ begins_fit call old new before after (begun.Refused refusal) fit short leave is 
 
 pub begun_fit : BegunKeepersAreFit
 begun_fit old new before after result name fit short = (
-  λ is. begins_fit (reading_call name) old new before after result fit short
+  λ asks_all is. begins_fit (reading_call name asks_all) old new before after result fit short
       (λ id small none. (beginning_fit (objects_of old.objects name) id (fit.objects name) small).0) is,
   λ value is. begins_fit (writing_call name value) old new before after result fit short
       (λ id small none. (beginning_fit (objects_of old.objects name) id (fit.objects name) small).1 value none) is,

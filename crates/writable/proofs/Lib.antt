@@ -1,4 +1,5 @@
 pub mod SendableLemmas
+pub mod SendingLemmas
 pub mod GivenIdLemmas
 pub mod KeeperLemmas
 pub mod AskingLemmas

@@ -18,7 +18,7 @@ use Rattle.writable.specs.Keepers.{IsFitKeeper, IsFitNamed, IsShortName}
 -- everything that has to be written when a call of an object with a short name begins can be written
 abbrev pub FitKeepersCanBegin : Type 0
 FitKeepersCanBegin = (keeper : Keeper) (name : List ℕ) (id : ℕ) → IsFitKeeper keeper → IsShortName name →
-    next_id_of keeper.ids ≡ Some id → CanBegin (reading_call name) id keeper
+    next_id_of keeper.ids ≡ Some id → ((asks_all : Bool) → CanBegin (reading_call name asks_all) id keeper)
     × ((value : List ℕ) → CanBegin (writing_call name value) id keeper)
     × ((layout : Layout) → IsFitLayout layout → CanBegin (moving_call name layout) id keeper)
 
@@ -27,7 +27,7 @@ abbrev pub FitKeepersCanDeliver : Type 0
 FitKeepersCanDeliver = (keeper : Keeper) (asker : ℕ) (it : NamedLetter) → IsFitKeeper keeper → asker < 2 ^ 8 →
     IsFitNamed it → CanDeliver asker it keeper
 
--- so can each request of a call that asks again
+-- so can each request of a call that asks again, also those to all nodes
 abbrev pub FitKeepersCanResend : Type 0
 FitKeepersCanResend = (keeper : Keeper) (name : List ℕ) (id : ℕ) (asks_all : Bool) → IsFitKeeper keeper →
     IsShortName name → CanResend name id asks_all keeper

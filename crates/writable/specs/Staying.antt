@@ -24,7 +24,8 @@ use Rattle.writable.specs.Keepers.{HasFitOwn, IsFitKeeper, IsFitNamed, IsLeftFit
 -- a call of an object with a short name begins, or its object refuses it
 abbrev pub BegunKeepersAreFit : Type 0
 BegunKeepersAreFit = (old new : Keeper) (before after : Work) (begun : Begun) (name : List ℕ) → IsFitKeeper old →
-    IsShortName name → (BeginsCall (reading_call name) old before new after begun → IsLeftFit before new after)
+    IsShortName name → ((asks_all : Bool) → BeginsCall (reading_call name asks_all) old before new after begun →
+    IsLeftFit before new after)
     × ((value : List ℕ) → BeginsCall (writing_call name value) old before new after begun →
     IsLeftFit before new after)
     × ((layout : Layout) → IsFitLayout layout → BeginsCall (moving_call name layout) old before new after begun →
