@@ -13,6 +13,8 @@ old      another node that asks for the greatest tag is told the one before, unt
 early    another node that asks for a pointer which is pending is told that calls may begin at the next position
 shut     a fetch of another node gets no reply where the pointer of the bank is pending, as if the bank were closed
 closes   at a start, the log says that each bank was closed whose pointer is pending
+soon     at a start, the log says that each bank was closed whose pointer is final, whatever the start of the object is
+keeps    a message of another node comes without the start that it tells, so the node keeps its banks before that
 """
 import ctypes
 import fcntl
@@ -42,16 +44,19 @@ def forget(log):
     log.write_bytes(log_of(kept))
 
 
-def close_pending(log):
-    """Adds an entry to the log for each bank whose pointer is pending, which says that the node closed it."""
+def close(log, is_final):
+    """Adds an entry to the log for each open bank whose pointer is final, or pending, which says that the node closed
+    it."""
     data, kept, place, told = log.read_bytes() if log.exists() else b"", [], 0, {}
     while place < len(data) and (entry := frame_at(data, place + HEAD)) is not None:
         if entry[0][0] == b"serve" and (asked := messages.read(entry[0][1:])).kind == b"spread":
             told.setdefault((asked.position, asked.name), set()).add(asked.status)
+        if entry[0][0] == b"close":
+            told.pop((int(entry[0][1]), entry[0][2]), None)
         kept.append(data[place + HEAD:entry[1]])
         place = entry[1]
     kept += [encode([b"close", b"%d" % position, name]) for (position, name), all_told in told.items()
-             if b"final" not in all_told]
+             if (b"final" in all_told) == is_final]
     log.write_bytes(log_of(kept))
 
 
@@ -85,6 +90,8 @@ class Between:
         client, words = frame[0], [word.upper() for word in frame[1:2]]
         if self.kind == "shut" and client.startswith(b"node "):
             return self.is_answered(messages.read(frame[1:]))
+        if self.kind == "keeps" and client.startswith(b"node "):
+            frame[1:] = replace(messages.read(frame[1:]), start=None).strings()
         if words == [b"SET"] and len(frame) == 4:
             self.values[frame[2]], self.writes = frame[3], self.writes + 1
             if self.kind == "skips" and self.writes % 3 == 0:
@@ -159,8 +166,9 @@ def end_with_parent():
 
 def main(kind, program, *words):
     wait_for(words[2])
-    if kind in ("forgets", "closes"):
-        (forget if kind == "forgets" else close_pending)(Path(words[2]) / "log")
+    at_start = {"forgets": forget, "closes": lambda log: close(log, False), "soon": lambda log: close(log, True)}
+    if kind in at_start:
+        at_start[kind](Path(words[2]) / "log")
         os.execv(program, [program, *words])
     child = subprocess.Popen([program, *words], stdin=subprocess.PIPE, stdout=subprocess.PIPE, bufsize=0,
                              preexec_fn=end_with_parent)

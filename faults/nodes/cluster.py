@@ -108,15 +108,18 @@ class Cluster:
         """The node handled a frame, and wrote these. What belongs to the frame is in its log, unless its computer stopped
         meanwhile."""
         if self.whole is not None:
-            if is_whole:
-                self.read_log(number)
-            self.whole.compare(number, came, written, is_whole)
+            self.whole.compare(number, came, written, is_whole, self.log(number) if is_whole else None)
         self.route(number, written)
+
+    def log(self, number):
+        """The path of the node's log, or None where there is none yet."""
+        log = self.nodes[number].folder / "log"
+        return log if log.exists() else None
 
     def read_log(self, number):
         """The whole banks of the node serve what has come to its log."""
-        log = self.nodes[number].folder / "log"
-        if self.whole is not None and log.exists():
+        log = self.log(number)
+        if self.whole is not None and log is not None:
             self.whole.read_log(number, log)
 
     def route(self, sender, frames):

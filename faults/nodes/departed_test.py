@@ -2,11 +2,10 @@
 """Tests that an object which has moved needs the nodes that it has left no more, as docs/nodes.md says:
 departed_test.py PROGRAM.
 
-The nodes are on pipes, and each frame arrives at once if both nodes run. A name has the nodes 1 to 5 at first, and a
-quorum of five nodes with k = 3 has four. What a node knows of starts only from replies, or from its own calls, it
-forgets when it stops. So all nodes are killed and started again before each node that is asked first."""
+A node that runs hears of the start when the move ends, as the mover then asks all nodes. What a node knows of starts
+only from requests that it does not serve, from replies, or from its own calls, it forgets when it stops. So all nodes
+are killed and started again before each node that is asked first."""
 import sys
-import tempfile
 import unittest
 from pathlib import Path
 
@@ -14,49 +13,13 @@ HERE = Path(__file__).resolve().parent
 sys.path[:0] = [str(HERE), str(HERE.parents[1] / "deploy" / "test")]
 sys.dont_write_bytecode = True
 
-from at_once import Cluster  # noqa: E402
+from moved_case import FIRST, MIB, NO_QUORUM, OK, MovedCase, bulk  # noqa: E402
 
-PROGRAM = sys.argv.pop(1)
-FIRST = (1, 2, 3, 4, 5)
-ALL = range(1, 13)
-FILE = "nodes {first}\nn {count}\nk {k}\ndelta {delta}\nmover {mover}\nlater {later}\nticks {ticks}\n"
-OK, NO_QUORUM = b"+OK\r\n", b"-ERR no quorum answered in time\r\n"
 # A call that finds no quorum asks all nodes for the start when it is this old, and when it next asks it goes on there.
 ASKS_ALL, GOES_ON = 8, 16
-MIB = 1 << 20
 
 
-def bulk(value):
-    """The answer to a read of this value."""
-    return b"$%d\r\n%s\r\n" % (len(value), value)
-
-
-class Departed(unittest.TestCase):
-    def start(self, mover, *numbers, ticks=50, first=FIRST, k=3, delta=2):
-        """A cluster of which these nodes run. Each name is moved by the given mover."""
-        self.cluster = cluster = Cluster(PROGRAM, self.enterContext(tempfile.TemporaryDirectory()))
-        self.addCleanup(lambda: cluster.stop(*cluster.nodes))
-        self.mover, self.written = mover, 0
-        self.cluster.file.write_text(FILE.format(
-            first=" ".join(map(str, first)), count=len(first), k=k, delta=delta, mover=mover,
-            later=" ".join(str(number) for number in ALL if number not in first), ticks=ticks))
-        self.cluster.start(*numbers)
-
-    def gives(self, number, wanted, *words, ticks=None):
-        """The answer of a node to a command, within so many ticks if they are given."""
-        self.assertEqual(self.cluster.ask(number, *words), wanted, (number, words[:2]))
-        if ticks is not None:
-            self.assertLessEqual(self.cluster.ticks, ticks, (number, words[:2]))
-
-    def move(self, *nodes, name=b"a", k=3):
-        self.gives(self.mover, OK, b"MOVE", name, b"%d" % k, *(b"%d" % node for node in nodes))
-
-    def start_again(self):
-        """All nodes that run are killed at once, and start again."""
-        numbers = list(self.cluster.nodes)
-        self.cluster.stop(*numbers)
-        self.cluster.start(*numbers)
-
+class Departed(MovedCase):
     def write(self, number, **more):
         """Writes a new value at a node, and returns it."""
         self.written += 1
@@ -83,15 +46,15 @@ class Departed(unittest.TestCase):
 
     def test_two_first_nodes_stop(self):
         """Two of the first nodes stop, so that there is no quorum of them. Each node that is up is asked as the first
-        one after the move: the others tell it the start at once, and it goes on there when it asks again."""
+        one after the move: it has heard of the start, and its calls begin there."""
         for number in (1, 2, 3, 6, 7):
             self.start(1, *FIRST, 6, 7)
             value = self.write(2)
             self.move(1, 2, 3, 6, 7)
             self.cluster.stop(4, 5)
-            self.gives(number, bulk(value), b"GET", b"a", ticks=2)
+            self.gives(number, bulk(value), b"GET", b"a", ticks=0)
             self.write(number, ticks=0)
-        self.each_is_first(self.each_reads_and_writes(b"value-2", 2))
+        self.each_is_first(self.each_reads_and_writes(b"value-2", 0))
 
     def test_all_first_nodes_stop(self):
         """No node of the first layout is up, and the mover keeps no objects. Node 12 hears of the name when it first
@@ -132,12 +95,13 @@ class Departed(unittest.TestCase):
 
     def test_calls_that_are_given_up_early(self):
         """A call that is given up once it has asked all nodes has heard the start, so the next call is answered at
-        once. One that is given up before asks nobody else."""
+        once. One that is given up before asks nobody else. Node 12 was down during the move."""
         for ticks, later in ((ASKS_ALL, bulk(b"value-1")), (ASKS_ALL - 1, NO_QUORUM)):
-            self.start(11, *FIRST, 6, 7, 8, 9, 10, 11, 12, ticks=ticks)
+            self.start(11, *FIRST, 6, 7, 8, 9, 10, 11, ticks=ticks)
             self.write(2)
             self.move(6, 7, 8, 9, 10)
             self.cluster.stop(*FIRST)
+            self.cluster.start(12)
             self.gives(12, NO_QUORUM, b"GET", b"a")
             self.gives(12, later, b"GET", b"a")
 
@@ -172,20 +136,6 @@ class Departed(unittest.TestCase):
             self.move(*FIRST)
         self.assertEqual(costs(), before)
 
-    def test_fragments_that_stay(self):
-        """A node drops its fragments of a layout when a call of its own goes on from there. One that has heard of the
-        start before begins its calls behind that layout, and keeps them. Nodes 1, 2 and 3 hear of the start from the
-        mover; node 4 is the first one to read at the old layout, and goes on from there; with that, node 5 hears of it
-        from node 4."""
-        self.start(11, *FIRST, 6, 7, 11)
-        value = b"x" * 3000
-        self.gives(2, OK, b"SET", b"a", value)
-        self.move(1, 2, 3, 6, 7)
-        for number in (1, 2, 3, 4, 5, 6, 7, 11):
-            self.gives(number, bulk(value), b"GET", b"a")
-        stored = {number: int(self.cluster.info(number, "bytes_stored")) for number in self.cluster.nodes}
-        self.assertEqual(stored, {1: 2000, 2: 2000, 3: 2000, 4: 0, 5: 1000, 6: 1000, 7: 1000, 11: 0})
-
     def test_logs_that_are_written_anew(self):
         """The name is at node 2 alone, whose log becomes short when it starts again: it still has the start. The mover,
         node 9, keeps nothing, and the first node is gone."""
@@ -209,4 +159,5 @@ class Departed(unittest.TestCase):
 
 
 if __name__ == "__main__":
+    Departed.program = sys.argv.pop(1)
     unittest.main()

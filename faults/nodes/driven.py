@@ -42,7 +42,7 @@ class Run:
         self.cut = set()  # pairs of nodes; frames from the first one to the second one are held back
         self.begun = 0  # calls so far
         self.left = 0   # calls that this round still begins
-        self.counts = {"kills": 0, "lost": 0, "repeated": 0, "delivered": 0}
+        self.counts = {"kills": 0, "lost": 0, "repeated": 0, "delivered": 0, "reads tried again": 0}
         if self.syncs:
             self.counts["stopped at a sync"] = 0
 
@@ -190,22 +190,30 @@ class Run:
                 self.cluster.tick(node)
 
     def read_all(self):
-        """Has each node read each object, one read at a time, while nothing is lost or held back. Returns the reads that
-        fail."""
+        """Has each node read each object, one read at a time, while nothing is lost or held back. A read may be given up
+        if a move ends meanwhile, since nodes then drop the fragments of the layout that the object leaves. So it is
+        tried again once. Returns the reads that fail."""
         unread = []
         if self.cluster.held is not None:
             self.cluster.held.rests = True
         reads = [(node, name) for node in self.cluster.up() for name in self.plan.objects]
         self.source.shuffle(reads)
         for node, name in reads:
-            before = self.history.answered_reads
-            self.cluster.call(node, "last", name, None)
-            self.settle()
-            if self.history.answered_reads == before:
+            if self.is_read(node, name):
+                continue
+            self.counts["reads tried again"] += 1
+            if not self.is_read(node, name):
                 unread.append(f"node {node} does not answer a read of {name}, though all nodes are up")
         if self.cluster.held is not None:
             self.cluster.held.rests = False
         return unread
+
+    def is_read(self, node, name):
+        """Whether a node answers a read of an object."""
+        before = self.history.answered_reads
+        self.cluster.call(node, "last", name, None)
+        self.settle()
+        return self.history.answered_reads > before
 
     def deliver_held(self):
         """Delivers what was held back past all writes, or waited, and reads once more. Returns the reads that fail."""

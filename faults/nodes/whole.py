@@ -1,93 +1,30 @@
 """Whole banks, which forget nothing, beside the nodes of a test cluster: each reply of a node has to be that of its
-whole bank, and what a node tells and does of starts, and which banks it closes, has to be what these banks allow.
+whole bank, and what a node tells and does of starts, which pointers it raises by itself, and which banks it closes or
+keeps, has to be what these banks and the messages allow.
 
-A node has a whole bank for each position of each name. The bank serves what the node serves: the requests in frames that
-the node replies to, and those in the node's log, where it also writes what it asks of itself. Serving a request twice
-changes nothing more, and the order changes no state, so it does not matter that the log has requests which also came as
-frames. A request of a node to itself that its log does not have names a tag that the node forgets; no answer depends on
-it. A frame that is lost, or that meets a node which is killed before it logs it, reaches neither bank.
+A node has a whole bank for each position of each name (whole_bank.py). The bank serves what the node serves: the
+requests in frames that the node replies to, and those in the node's log, where it also writes what it asks of itself.
+Serving a request twice changes nothing more, and the order changes no state, so it does not matter that the log has
+requests which also came as frames. But a node raises a pointer by itself after it has replied, so what the whole bank
+replies is found before the log is read. A request of a node to itself that its log does not have names a tag that the
+node forgets; no answer depends on it. A frame that is lost, or that meets a node which is killed before it logs it,
+reaches neither bank.
 
-What a bank does is in crates/bank/specs: `served_bank` and `answer_to` of Serve.antt, `fetched_piece` of Collect.antt,
-and `is_forgotten` of Floor.antt. A start is a position such that, at each position before it, the pointer is final at a
-quorum (crates/starts). A call begins at a start, and later asks at the next position or at another start. A node closes
-a bank only if its pointer is final; its log says so, and only a closed bank declines a fetch."""
-import bisect
+A start is a position such that, at each position before it, the pointer is final at a quorum (crates/starts). A call
+begins at a start, and later asks at the next position or at another start. A node closes a bank only before a start,
+and only if the bank's pointer is final. It may raise the pointer for that. Its log says both, and only a closed bank
+declines a fetch. After a node has handled a message, it has no open bank before the start that it then tells, or that a
+request told it, unless it could not raise the pointer, since it had not heard of the next position."""
 import os
 from dataclasses import replace
 
 import messages
 from frames import frame_at
 from log_form import HEAD
+from whole_bank import (FINAL, WITH_TAG, WholeBank, is_for, is_message, is_of_the_node_itself, is_sent_back, message_in,
+                        messages_in, said, start_in)
 
-OPENING = (0, 0)
-FINAL = messages.STATUSES.index(b"final")
-WITH_TAG = (b"pre-write", b"finalize", b"fetch")
 MOST_FAULTS = 3
-
-
-class WholeBank:
-    """The bank of the member with this number, counted from 0 in its layout, for one object at one position. `delta` is a
-    number, or None where all pieces are kept."""
-
-    def __init__(self, member, delta):
-        self.delta, self.status = delta, 0
-        self.finals = [OPENING]                     # the finalized tags, in rising order
-        self.pieces = {OPENING: (member, 0, b"")}   # of each tag the first piece that came
-
-    def is_below(self, tag):
-        """Whether `delta` + 1 greater tags are finalized."""
-        return self.delta is not None and len(self.finals) - bisect.bisect_right(self.finals, tag) > self.delta
-
-    def forgets(self, asked):
-        """Whether a node may have forgotten the tag that this request names."""
-        return asked.kind in WITH_TAG and asked.tag != OPENING and self.is_below(asked.tag)
-
-    def serve(self, asked):
-        if asked.kind == b"spread":
-            self.status = max(self.status, messages.STATUSES.index(asked.status))
-        elif asked.kind == b"pre-write":
-            self.pieces.setdefault(asked.tag, asked.piece)
-        elif asked.kind in (b"finalize", b"fetch"):
-            place = bisect.bisect_left(self.finals, asked.tag)
-            if self.finals[place:place + 1] != [asked.tag]:
-                self.finals.insert(place, asked.tag)
-
-    def reply_to(self, asked, next_layout):
-        """The reply to a request. `next_layout` is that of the next position, if the bank has heard of one."""
-        made = replace(asked, is_reply=True, piece=None, next=b"", step=0, start=None)
-        if asked.kind == b"next":
-            return replace(made, status=messages.STATUSES[self.status], next=next_layout if self.status else b"")
-        if asked.kind == b"query":
-            return replace(made, tag=self.finals[-1])
-        if asked.kind == b"fetch" and not self.is_below(asked.tag):
-            return replace(made, piece=self.pieces.get(asked.tag))
-        return made
-
-
-def is_message(strings):
-    return len(strings) > 1 and strings[0][:1] == bytes([messages.FORM])
-
-
-def is_for(node, asked):
-    """Whether the node is the member that a request names. A node replies to no other request; it sends it back."""
-    return asked.layout[1 + asked.member] == node
-
-
-def is_sent_back(made, asked):
-    """Whether a message is a request that a node sends back: it differs from the one that came in its start alone."""
-    return asked is not None and not asked.is_reply and replace(made, start=asked.start) == asked
-
-
-def start_in(it):
-    """The position of the start that a message tells."""
-    return it.start[0] if it.start else 0
-
-
-def said(it):
-    """What a reply says, in words."""
-    piece = "none" if it.piece is None else f"the piece of point {it.piece[0]} and {len(it.piece[2])} bytes"
-    return {b"next": f"{it.status.decode()} {list(it.next)}", b"query": f"the greatest tag is {it.tag}",
-            b"fetch": piece}.get(it.kind, f"done, for the tag {it.tag}")
 
 
 class WholeBanks:
@@ -102,7 +39,7 @@ class WholeBanks:
         self.faults = []
         self.counts = {"replies compared": 0, "requests without a reply": 0, "late pre-writes": 0, "late finalizes": 0,
                        "late fetches": 0, "starts told": 0, "calls begun at a start": 0, "requests sent back": 0,
-                       "banks closed": 0}
+                       "pointers raised": 0, "banks closed": 0}
 
     def fault(self, text):
         if len(self.faults) < MOST_FAULTS:
@@ -173,15 +110,37 @@ class WholeBanks:
             self.fault(f"node {node} sends a request about {made.name.decode()} at position {made.position} back, and "
                        "tells no later start")
 
+    def raises(self, node, asked):
+        """A node asks itself to raise the pointer of its bank to final."""
+        if self.bank(node, asked).status == FINAL:
+            return
+        self.counts["pointers raised"] += 1
+        if asked.position >= self.start_of(asked.name):
+            self.fault(f"node {node} raises the pointer of {asked.name.decode()} at position {asked.position} by "
+                       f"itself; by the whole banks the start is {self.start_of(asked.name)}")
+
     def close(self, node, name, position):
         """A node closes its bank."""
         bank = self.banks.get((node, name, position))
         status = 0 if bank is None else bank.status
+        what = f"node {node} closes its bank of {name.decode()} at position {position}"
         if status != FINAL:
-            self.fault(f"node {node} closes its bank of {name.decode()} at position {position}, whose pointer is "
-                       f"{messages.STATUSES[status].decode()}")
+            self.fault(f"{what}, whose pointer is {messages.STATUSES[status].decode()}")
+        elif position >= self.start_of(name):
+            self.fault(f"{what}; by the whole banks the start is {self.start_of(name)}")
         self.closed.add((node, name, position))
         self.counts["banks closed"] += 1
+
+    def must_have_closed(self, node, name, start):
+        """A node that has handled a message knows this start. It keeps a bank before it only if the bank's pointer is
+        unset, and the node may not have heard of the next position."""
+        for position in range(start):
+            bank = self.banks.get((node, name, position))
+            if bank is None or not bank.is_changed or (node, name, position) in self.closed:
+                continue
+            if bank.status > 0 or position + 1 == start:
+                self.fault(f"node {node} keeps its bank of {name.decode()} at position {position}; it knows the start "
+                           f"{start}")
 
     def decline(self, node, asked, is_whole):
         """A node does not reply to a request: to a fetch, since its bank is closed, or because its computer stopped."""
@@ -207,43 +166,53 @@ class WholeBanks:
         while at + HEAD <= len(data) and (found := frame_at(data, at + HEAD)) is not None:
             strings, at = found
             if strings[0] == b"serve" and is_message(strings[1:]):
-                self.serve(node, messages.read(strings[1:]))
+                asked = messages.read(strings[1:])
+                if is_of_the_node_itself(asked):
+                    self.raises(node, asked)
+                self.serve(node, asked)
             elif strings[0] == b"close":
                 self.close(node, strings[2], int(strings[1]))
         self.read[node] = place + at
 
-    def compare(self, node, came, written, is_whole=True):
-        """The node handled a frame, and wrote these, or its computer stopped meanwhile. Each reply among them has to be that
-        to the request that came."""
-        asked = messages.read(came[1:]) if came[0].startswith(b"node ") and is_message(came[1:]) else None
-        expected = None
-        if asked is not None and not asked.is_reply and is_for(node, asked):
+    def compare(self, node, came, written, is_whole=True, log=None):
+        """The node handled a frame, and wrote these, or its computer stopped meanwhile. Each reply among them has to be
+        that to the request that came. What the node did is in its log, if this is given."""
+        it, sent = message_in(came), messages_in(written)
+        asked, expected = None if it is None or it.is_reply else it, None
+        if asked is not None and is_for(node, asked):
             bank = self.bank(node, asked)
             is_late = bank.forgets(asked)
             expected = bank.reply_to(asked, self.layouts.get((asked.name, asked.position + 1), b""))
+        if log is not None:
+            self.read_log(node, log)
+        if self.compare_messages(node, came[0], asked, sent, expected):
+            self.serve(node, asked)
+            self.counts["replies compared"] += 1
+            if is_late:
+                self.counts[f"late {asked.kind.decode()}{'es' if asked.kind == b'fetch' else 's'}"] += 1
+        elif expected is not None:
+            self.decline(node, asked, is_whole)
+        if it is not None and is_whole:
+            told = [start_in(made) for _, made in sent if made.name == it.name]
+            self.must_have_closed(node, it.name, max([start_in(asked) if asked else 0, *told]))
+
+    def compare_messages(self, node, sender, asked, sent, expected):
+        """Compares what a node sent when this request came, if it was one, with the reply of its whole bank, if it has
+        to reply, and with the starts that there are. Returns whether it replied as it has to."""
         replies = 0
-        for address, *strings in written:
-            if not address.startswith(b"node ") or not is_message(strings):
-                continue
-            made = messages.read(strings)
+        for address, made in sent:
             self.tell(node, made)
-            if is_sent_back(made, asked) and address == came[0]:
+            if is_sent_back(made, asked) and address == sender:
                 self.send_back(node, asked, made)
                 continue
             if not made.is_reply:
                 self.ask(node, made)
                 continue
             replies += 1
-            if expected is None or replies > 1 or address != came[0]:
+            if expected is None or replies > 1 or address != sender:
                 self.fault(f"node {node} replies to no request: {said(made)}")
             elif replace(made, start=None) != expected:
                 what = f"{asked.kind.decode()}{f' {asked.tag}' if asked.kind in WITH_TAG else ''}"
                 self.fault(f"node {node} replies to {what} of {asked.name.decode()} at position {asked.position}: "
                            f"{said(made)}; its whole bank replies: {said(expected)}")
-        if expected is not None and replies == 0:
-            self.decline(node, asked, is_whole)
-        elif expected is not None:
-            self.serve(node, asked)
-            self.counts["replies compared"] += 1
-            if is_late:
-                self.counts[f"late {asked.kind.decode()}{'es' if asked.kind == b'fetch' else 's'}"] += 1
+        return expected is not None and replies > 0

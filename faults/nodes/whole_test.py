@@ -72,6 +72,13 @@ def finals(banks, members=(1, 2, 3), position=0, layout=LAYOUT, after=NEXT, stat
     return banks
 
 
+def closed(banks, members=(1, 2, 3), position=0):
+    """The banks, once these members of x have closed theirs at a position."""
+    for node in members:
+        banks.close(node, b"x", position)
+    return banks
+
+
 class Answers(unittest.TestCase):
     def play(self, banks, words):
         """Node 2 replies to node 3 as the words say."""
@@ -176,7 +183,7 @@ class Frames(unittest.TestCase):
     def test_requests_for_another_node(self):
         """A node replies to none. It sends one back, to the node from which it came, with a later start, or does
         nothing. Its whole bank does not serve it."""
-        banks = finals(WholeBanks(0))
+        banks = closed(finals(WholeBanks(0)))
         other = replace(asked("Fa"), member=2)
         banks.compare(2, frame(3, other), [frame(3, replace(other, start=(1, NEXT)))])
         banks.compare(2, frame(3, other), [])
@@ -189,7 +196,7 @@ class Frames(unittest.TestCase):
         """One that tells the same start already, and one that is at the start."""
         known, late = replace(asked("Fa"), member=2, start=(1, NEXT)), replace(asked("Fa"), layout=NEXT, position=1)
         for it in (known, late):
-            banks = finals(WholeBanks(0))
+            banks = closed(finals(WholeBanks(0)))
             banks.compare(1, frame(3, it), [frame(3, replace(it, start=(1, NEXT)))])
             said = f"node 1 sends a request about x at position {it.position} back, and tells no later start"
             self.assertEqual(banks.faults, [said])
@@ -201,68 +208,6 @@ class Frames(unittest.TestCase):
         banks.compare(2, frame(3, other), [frame(3, answer(other, "0"))])
         self.assertEqual(banks.faults, ["x has two layouts at position 0"])
 
-
-class Starts(unittest.TestCase):
-    """Two of three nodes are a quorum of LAYOUT, with k = 2 all three; two are one of NEXT."""
-
-    def told(self, banks, start):
-        """The faults that there are once node 3 tells a start."""
-        it = replace(asked("Q"), position=start[0], layout=start[1], call=77)
-        banks.compare(3, [b"tick"], [frame(2, replace(it, start=start))])
-        return banks.faults
-
-    def test_told_starts(self):
-        """A start may be told once the pointer of each position before it is final at a quorum."""
-        wrong = "node 3 tells the start %d of x; by the whole banks it is 0"
-        self.assertEqual(self.told(finals(WholeBanks(0)), (1, NEXT)), [])
-        for banks in (WholeBanks(0), finals(WholeBanks(0), members=(1, 2)), finals(WholeBanks(0), status=b"pending")):
-            self.assertEqual(self.told(banks, (1, NEXT))[:1], [wrong % 1])
-        both = finals(finals(WholeBanks(0)), (2, 3), 1, NEXT, LAYOUT)
-        self.assertEqual(self.told(both, (2, LAYOUT)), [])
-        second = finals(WholeBanks(0), (2, 3), 1, NEXT, LAYOUT)
-        self.assertEqual(self.told(second, (2, LAYOUT))[:1], [wrong % 2])
-
-    def test_starts_in_replies(self):
-        """A reply may tell another start than the request; but all nodes have one layout for its position."""
-        banks = finals(WholeBanks(0))
-        it = asked("Q")
-        for start in (None, (1, NEXT)):
-            banks.compare(2, frame(3, it), [frame(3, replace(answer(it, "0"), start=start))])
-        self.assertEqual(banks.faults, [])
-        banks.compare(2, frame(3, it), [frame(3, replace(answer(it, "0"), start=(1, LAYOUT)))])
-        self.assertEqual(banks.faults, ["x has two layouts at position 1"])
-
-    def asks(self, banks, *positions, call=77, node=3):
-        """The faults that there are once a call of a node has asked at these positions, telling no start."""
-        for position in positions:
-            layout = (LAYOUT, NEXT)[position % 2]
-            banks.compare(node, [b"tick"], [frame(2, replace(asked("N"), position=position, layout=layout, call=call))])
-        return banks.faults
-
-    def test_calls(self):
-        """A call begins at a start, goes on at the next position or at a start, and may go back."""
-        self.assertEqual(self.asks(WholeBanks(0), 0, 0, 1, 2, 1, 3), [])
-        self.assertEqual(self.asks(finals(WholeBanks(0)), 1, 2), [])
-        said = "a call of node 3 %s position %d of x; by the whole banks the start is %d"
-        self.assertEqual(self.asks(WholeBanks(0), 1), [said % ("begins at", 1, 0)])
-        both = finals(finals(WholeBanks(0)), (2, 3), 1, NEXT, LAYOUT)
-        self.assertEqual(self.asks(both, 0, 2), [])
-        self.assertEqual(self.asks(finals(WholeBanks(0)), 0, 2), [said % ("goes from position 0 to", 2, 1)])
-
-    def test_other_calls(self):
-        """Where a call has asked says nothing of another call, nor of one with this id at another node."""
-        banks = WholeBanks(0)
-        self.assertEqual(self.asks(banks, 0), [])
-        self.assertEqual(len(self.asks(banks, 1, call=78)), 1)
-        self.assertEqual(len(self.asks(banks, 1, node=1)), 2)
-
-    def test_positions_that_a_node_has_alone(self):
-        """What a node asks of itself alone is in no frame."""
-        alone = bytes([1, 3])
-        for node, count in ((3, 0), (1, 1)):
-            banks = WholeBanks(0)
-            banks.learn(b"x", 0, alone)
-            self.assertEqual(len(self.asks(banks, 1, node=node)), count)
 
 class Log(unittest.TestCase):
     def test_what_a_node_served_by_itself(self):
@@ -289,20 +234,8 @@ class Log(unittest.TestCase):
             banks.read_log(2, path)
             path.write_bytes(log[:-1])
             banks.read_log(2, path)
-        self.assertEqual(banks.faults, [f"the log of node 2 lacks entries: it had {len(log)} bytes, and has {len(log) - 1}"])
-
-
-    def test_closed_banks(self):
-        """A node closes a bank only once its pointer is final. What the log has before the entry counts."""
-        for statuses, why in (["pending", "final"], None), (["final"], None), (["pending"], "pending"), ([], "unset"):
-            entries = [[b"serve", *asked("S", next=NEXT, status=status.encode()).strings()] for status in statuses]
-            log = log_of([encode(entry) for entry in [*entries, [b"close", b"0", b"x"]]])
-            with tempfile.TemporaryDirectory() as folder:
-                path, banks = Path(folder) / "log", WholeBanks(0)
-                path.write_bytes(log)
-                banks.read_log(2, path)
-            wanted = [f"node 2 closes its bank of x at position 0, whose pointer is {why}"] if why else []
-            self.assertEqual(banks.faults, wanted)
+        said = f"the log of node 2 lacks entries: it had {len(log)} bytes, and has {len(log) - 1}"
+        self.assertEqual(banks.faults, [said])
 
 
 if __name__ == "__main__":

@@ -9,8 +9,7 @@ use Rattle.node_effects.specs.declared.error.NodeError.TheVariants as errors
 use Rattle.node_store.specs.Disk.{IsFrontOf}
 use Rattle.node_store.specs.Recovery.{HasRecovered}
 use Rattle.node_store.specs.declared.end.LogEnd.{LogEnd}
-use Rattle.processes.specs.Events.{IsNewNode}
-use Rattle.processes.specs.Programs.{IsHalfRewritten, IsPerhapsRewritten, IsStoppedAt, StartStage}
+use Rattle.processes.specs.Programs.{IsHalfRewritten, IsNewAndIdle, IsPerhapsRewritten, IsStoppedAt, StartStage}
 use Rattle.casd.specs.Fault.{IsReadFault, IsRefusal, IsStartFault}
 use Rattle.casd.specs.Opening.{HasBegun, HasCut, HasReadForm, HasReadLog, HasStarted, HasWrittenAnew, IsFailedStart, LeavesLog}
 use Rattle.casd.specs.declared.fault.Fault.{Fault}
@@ -55,7 +54,7 @@ unread T names number (Some disk) kept _ form = absurd form
 
 -- the log was not carried out again, and not changed
 pub unrecovered : (names : FileOfNames) (number : ℕ) (found kept : Known) (new after : Node) (fault : Fault) →
-    IsNewNode names number new → HasNoOldForm found → HasReadLog new after found (Err fault) →
+    IsNewAndIdle names number new → HasNoOldForm found → HasReadLog new after found (Err fault) →
     IsFailedStart names number found kept kept fault
 unrecovered names number None kept new after (faults.BadLog error) is_new form read = tt
 unrecovered names number None kept new after (faults.Unopened error) is_new form read = tt
@@ -69,7 +68,7 @@ unrecovered names number (Some disk) kept new after _ is_new form read = absurd 
 
 -- the log was not cut, or not for sure
 pub uncut : (T : Type 0) (names : FileOfNames) (number : ℕ) (found kept keeps : Known) (new copy : Node) (end : LogEnd)
-    (fault : Fault) → IsNewNode names number new → HasRecovered CarriesOutEntry new copy found (Ok end) →
+    (fault : Fault) → IsNewAndIdle names number new → HasRecovered CarriesOutEntry new copy found (Ok end) →
     HasCut {T = T} end.length found kept keeps (Err fault) → Leaves names number found kept keeps fault
 uncut T names number None kept keeps new copy end (faults.Unopened error) is_new recovered cut = tt
 uncut T names number None kept keeps new copy end (faults.LogLost error) is_new recovered cut = tt
@@ -90,7 +89,7 @@ uncut T names number (Some disk) kept keeps new copy end _ is_new recovered cut 
 
 -- the node has no more epoch, so the log is as it was cut
 pub unasked : (names : FileOfNames) (number : ℕ) (found kept keeps : Known) (new copy : Node) (end : LogEnd) →
-    IsNewNode names number new → HasRecovered CarriesOutEntry new copy found (Ok end) →
+    IsNewAndIdle names number new → HasRecovered CarriesOutEntry new copy found (Ok end) →
     IsFrontOf end.length found keeps → (HasMoreEpochs copy.keeper.ids → ⊥) →
     Leaves names number found kept keeps (faults.Stopped errors.NoMoreIds)
 unasked names number None kept keeps new copy end is_new recovered front none = tt
@@ -99,7 +98,7 @@ unasked names number (Some disk) kept keeps new copy end is_new recovered front 
 
 -- it is not known whether the log was exchanged
 pub unexchanged : (names : FileOfNames) (number : ℕ) (found kept cut keeps : Known) (new copy : Node) (end : LogEnd)
-    (fault : Fault) → IsNewNode names number new → HasRecovered CarriesOutEntry new copy found (Ok end) →
+    (fault : Fault) → IsNewAndIdle names number new → HasRecovered CarriesOutEntry new copy found (Ok end) →
     IsFrontOf end.length found cut → HasMoreEpochs copy.keeper.ids → HasWrittenAnew copy cut end keeps (Err fault) →
     Leaves names number found kept keeps fault
 unexchanged names number None kept cut keeps new copy end (faults.NotExchanged error) is_new recovered front more half = tt
@@ -115,7 +114,7 @@ unexchanged names number (Some disk) kept cut keeps new copy end _ is_new recove
 
 -- the node was not started
 unstarted : (names : FileOfNames) (number : ℕ) (disk : List ℕ) (kept cut between keeps : Known) (new copy : Node)
-    (end then : LogEnd) → IsNewNode names number new → HasRecovered CarriesOutEntry new copy (Some disk) (Ok end) →
+    (end then : LogEnd) → IsNewAndIdle names number new → HasRecovered CarriesOutEntry new copy (Some disk) (Ok end) →
     IsFrontOf end.length (Some disk) cut → HasMoreEpochs copy.keeper.ids → IsPerhapsRewritten copy cut end between then →
     keeps ≡ between → IsStoppedAt StartStage.Starting names number disk kept keeps
 unstarted names number disk kept cut between keeps new copy end then is_new recovered front more renewed same = (
@@ -130,7 +129,7 @@ unstarted names number disk kept cut between keeps new copy end then is_new reco
 
 -- the node was not started, or the log did not get the entries of the start
 pub unbegun : (names : FileOfNames) (number : ℕ) (found kept cut between keeps : Known) (new copy node : Node)
-    (end then : LogEnd) (fault : Fault) → IsNewNode names number new →
+    (end then : LogEnd) (fault : Fault) → IsNewAndIdle names number new →
     HasRecovered CarriesOutEntry new copy found (Ok end) → IsFrontOf end.length found cut → HasMoreEpochs copy.keeper.ids →
     IsPerhapsRewritten copy cut end between then → HasBegun copy node then between keeps (Err fault) →
     Leaves names number found kept keeps fault
@@ -164,7 +163,7 @@ unbegun names number (Some disk) kept cut between keeps new copy node end then _
 
 -- the last function of a start, which succeeds or fails
 pub begun_starts : (names : FileOfNames) (number : ℕ) (r : Result LogEnd Fault) (found cut kept keeps : Known)
-    (new copy node : Node) (end later : LogEnd) → HasNoOldForm found → IsNewNode names number new →
+    (new copy node : Node) (end later : LogEnd) → HasNoOldForm found → IsNewAndIdle names number new →
     HasRecovered CarriesOutEntry new copy found (Ok end) → IsFrontOf end.length found cut →
     IsPerhapsRewritten copy cut end kept later → HasBegun copy node later kept keeps r →
     IfOk r (λ last. HasStarted names number found node last keeps)
@@ -174,7 +173,7 @@ begun_starts names number (Err fault) found cut kept keeps new copy node end lat
 
 pub begun_fails : (names : FileOfNames) (number : ℕ) (r : Result LogEnd Fault) (found before cut kept keeps : Known)
     (new copy node : Node) (end later : LogEnd) → HasNoOldForm found → IfErr r (λ fault. IsRefusal fault → ⊥) →
-    IsNewNode names number new → HasRecovered CarriesOutEntry new copy found (Ok end) → IsFrontOf end.length found cut →
+    IsNewAndIdle names number new → HasRecovered CarriesOutEntry new copy found (Ok end) → IsFrontOf end.length found cut →
     HasMoreEpochs copy.keeper.ids → IsPerhapsRewritten copy cut end kept later → HasBegun copy node later kept keeps r →
     IfErr r (IsFailedStart names number found before keeps)
 begun_fails names number (Ok last) found before cut kept keeps new copy node end later form kind is_new recovered front more

@@ -11,10 +11,9 @@ use Rattle.node_store.specs.Laws.{IsLeft}
 use Rattle.node_store.specs.Recovery.{log_bytes}
 use Rattle.node_store.specs.declared.end.LogEnd.{LogEnd}
 use Rattle.node_strings.specs.Strings.{Strings}
-use Rattle.processes.specs.Events.{IsNewNode}
 use Rattle.processes.specs.Loops.{HaveEvents, IsBetweenRounds}
 use Rattle.processes.specs.Processes.{Process, Processes}
-use Rattle.processes.specs.Programs.{IsStoppedStart, RewritesAreEvents, StartStage, StartsAreEvents}
+use Rattle.processes.specs.Programs.{IsNewAndIdle, IsStoppedStart, RewritesAreEvents, StartStage, StartsAreEvents}
 use Rattle.processes.specs.Runs.{AreReached}
 use Rattle.processes.specs.StoppedStarts.{IsStoppedWith, StoppedStartsAreEvents}
 use Rattle.casd.specs.Kills.{IsAfterRewriting, IsAfterStart, IsLeftOf, LeavesRewriting, LeavesStart, MayBeStarted}
@@ -28,7 +27,7 @@ pub told_otherwise : (names : FileOfNames) (number : ℕ) (processes : Processes
     ((written : List ℕ) (process : Process) → P written process → Q written process) →
     HaveEvents names number processes P → HaveEvents names number processes Q
 told_otherwise names number processes P Q weaker have =
-    record { events = have.events; own = have.own; may = have.may; holds = weaker _ _ have.holds }
+    record { events = have.events; own = have.own; may = have.may; programs = have.programs; holds = weaker _ _ have.holds }
 
 -- a stop may leave the whole log of a process that rests
 pub rests_left : (process : Process) (node : Node) (chain : ℕ) (keeps : Known) →
@@ -108,9 +107,9 @@ bad_start law processes reached number found kept keeps fault may failed = go fo
 -- whatever a start returned
 pub start_leaves : StartsAreEvents → StoppedStartsAreEvents → (old : Node) (found kept : Known) (new : Node) (keeps : Known)
     (result : Result LogEnd Fault) →
-    ((names : FileOfNames) (number : ℕ) → IsNewNode names number old →
+    ((names : FileOfNames) (number : ℕ) → IsNewAndIdle names number old →
     IfOk result (λ end. HasStarted names number found new end keeps)) →
-    ((names : FileOfNames) (number : ℕ) → IsNewNode names number old →
+    ((names : FileOfNames) (number : ℕ) → IsNewAndIdle names number old →
     IfErr result (IsFailedStart names number found kept keeps)) → LeavesStart old found kept new keeps result
 start_leaves law other old found kept new keeps (Ok end) starts fails processes reached number is_new may =
     told_otherwise reached.names number processes
@@ -130,7 +129,7 @@ start_leaves law other old found kept new keeps (Err fault) starts fails process
 -- nothing happens
 stays : (names : FileOfNames) (number : ℕ) (processes : Processes) (Holds : (written : List ℕ) → Process → Type 0) →
     Holds [] (processes.at number) → HaveEvents names number processes Holds
-stays names number processes Holds holds = record { events = []; own = tt; may = tt; holds = holds }
+stays names number processes Holds holds = record { events = []; own = tt; may = tt; programs = tt; holds = holds }
 
 -- bytes that stay known are the same
 kept_same : (old new : Known) (bytes : List ℕ) → old ≡ Some bytes → Keeps old new → new ≡ old

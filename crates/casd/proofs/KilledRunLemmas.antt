@@ -7,13 +7,13 @@ use Rattle.node_store.specs.Outputs.{AppendsFront}
 use Rattle.node_store.specs.Rounds.{BetweenRounds}
 use Rattle.node_store.specs.Serving.{LoopEvent}
 use Rattle.node_store.specs.declared.end.LogEnd.{LogEnd}
-use Rattle.processes.specs.Events.{IsNewNode, ProcessEvent}
+use Rattle.processes.specs.Events.{ProcessEvent}
 use Rattle.processes.specs.Interleaved.{GoesOnAmongOthers, HaveEventsAmongOthers, IsLeftBehind, ServesAmongOthers, SessionStep}
 use Rattle.processes.specs.Interleaved.{SessionsAreEvents, StoppedSessionsAreEvents, UnexchangedSessionsAreEvents}
 use Rattle.processes.specs.Interleaved.{after_step, written_by}
 use Rattle.processes.specs.Loops.{HaveEvents, IsBetweenRounds}
 use Rattle.processes.specs.Processes.{Process, Processes}
-use Rattle.processes.specs.Programs.{StartsAreEvents}
+use Rattle.processes.specs.Programs.{IsNewAndIdle, StartsAreEvents}
 use Rattle.processes.specs.Runs.{AreReached, processes_run}
 use Rattle.processes.specs.StoppedStarts.{IsStoppedWith, StoppedStartsAreEvents}
 use Rattle.casd.specs.Kills.{EndsSession, HaveSilentEvents, LeavesAfterStart, LeavesRun, LeavesSession, MayBeStarted}
@@ -36,7 +36,7 @@ module _ (names : FileOfNames) (number : ℕ) (from : Processes) (held : Known) 
     at,
     λ others are may brings.
         let went = goes others are may brings in
-        (went.0, went.1, went.2, serves_otherwise steps (after_step step) ((done ++ others) ++ went.0) went.3),
+        (went.0, went.1, went.2, went.3, serves_otherwise steps (after_step step) ((done ++ others) ++ went.0) went.4),
   )
 
 -- what holds of the bytes that were written and of the process holds as it is told otherwise
@@ -56,7 +56,7 @@ ended_otherwise names number from first Ends AreRead P Q weaker have = record {
       (λ done. GoesOnAmongOthers names number from done (AreRead have.last)
       (λ all. Q (written_by number all from) ((processes_run all from).at number)))
       (λ done goes others are may brings.
-      let went = goes others are may brings in (went.0, went.1, went.2, weaker _ _ went.3))
+      let went = goes others are may brings in (went.0, went.1, went.2, went.3, weaker _ _ went.4))
       have.steps first [] have.among;
 }
 
@@ -81,6 +81,7 @@ silent names number processes P Holds then have = record {
   events = have.events;
   own = have.own;
   may = have.may;
+  programs = have.programs;
   silent = have.holds.0;
   holds = then (processes_run have.events processes) have.holds.1;
 }
@@ -179,7 +180,7 @@ module _ (starts : StartsAreEvents) (stops : StoppedStartsAreEvents) (ends : Ses
   -- whatever a run returned
   pub run_leaves : (T : Type 0) (old : Node) (found before input held : Known) (new : Node) (keeps holds : Known)
       (result : Result T Fault) →
-      ((names : FileOfNames) (number : ℕ) → IsNewNode names number old →
+      ((names : FileOfNames) (number : ℕ) → IsNewAndIdle names number old →
       HasRun names number found before input held new keeps holds result) →
       LeavesRun old found before input held new keeps holds result
   run_leaves T old found before input held new keeps holds result runs processes reached number bytes known is_new may =

@@ -14,8 +14,7 @@ use Rattle.node_store.specs.Recovery.{BeginsWith, HasRecovered, StopsFor, log_by
 use Rattle.node_store.specs.declared.end.LogEnd.{LogEnd}
 use Rattle.node_store.specs.declared.error.StoreError.{StoreError}
 use Rattle.node_strings.specs.Strings.{Strings}
-use Rattle.processes.specs.Events.{IsNewNode}
-use Rattle.processes.specs.Programs.{IsPerhapsRewritten, IsRewrittenIf}
+use Rattle.processes.specs.Programs.{IsNewAndIdle, IsPerhapsRewritten, IsRewrittenIf}
 use Rattle.casd.specs.Opening.{HasBegun, HasStarted, IsCountOf}
 use Rattle.casd.proofs.CutLemmas.{Known}
 use Rattle.casd.proofs.FormLemmas.{HasNoOldForm}
@@ -78,7 +77,7 @@ begun_count (Some xs) (Some ys) more count last (bytes, is, long) appends sum =
 
 -- what the functions of a start did is a start
 pub started : (names : FileOfNames) (number : ℕ) (found : Known) (new copy node : Node) (end later last : LogEnd)
-    (cut kept keeps : Known) → HasNoOldForm found → IsNewNode names number new →
+    (cut kept keeps : Known) → HasNoOldForm found → IsNewAndIdle names number new →
     HasRecovered CarriesOutEntry new copy found (Ok end) → IsFrontOf end.length found cut →
     IsPerhapsRewritten copy cut end kept later → HasBegun copy node later kept keeps (Ok last) →
     HasStarted names number found node last keeps

@@ -8,13 +8,13 @@ use Rattle.node_store.specs.Logs.{Grows}
 use Rattle.node_store.specs.Rounds.{BetweenRounds}
 use Rattle.node_store.specs.Serving.{LoopEvent}
 use Rattle.node_store.specs.declared.end.LogEnd.{LogEnd}
-use Rattle.processes.specs.Events.{IsNewNode, ProcessEvent}
+use Rattle.processes.specs.Events.{ProcessEvent}
 use Rattle.processes.specs.Interleaved.{HaveEventsAmongOthers, IsLeftBehind}
 use Rattle.processes.specs.Kills.{EndsInRound, ReadsInRound}
 use Rattle.processes.specs.Loops.{AreOf, HaveEvents, IsBetweenRounds, written_in}
 use Rattle.processes.specs.Processes.{Process, Processes}
-use Rattle.processes.specs.Programs.{IsHalfRewritten}
-use Rattle.processes.specs.Runs.{AreReached, MayAllHappenTo, processes_run}
+use Rattle.processes.specs.Programs.{IsHalfRewritten, IsNewAndIdle}
+use Rattle.processes.specs.Runs.{AreOfPrograms, AreReached, MayAllHappenTo, processes_run}
 use Rattle.processes.specs.StoppedStarts.{IsStoppedWith}
 use Rattle.casd.specs.Ending.{RunResult}
 use Rattle.casd.specs.Program.{HasRun}
@@ -43,7 +43,7 @@ IsAfterStart node keeps (Err fault) process = process.running ≡ None
 abbrev pub LeavesStart : (old : Node) → (found kept : Option (List ℕ)) → (new : Node) → (keeps : Option (List ℕ))
     → Result LogEnd Fault → Type 0
 LeavesStart old found kept new keeps result = (processes : Processes) (reached : AreReached processes) (number : ℕ) →
-    IsNewNode reached.names number old → MayBeStarted (processes.at number) found kept →
+    IsNewAndIdle reached.names number old → MayBeStarted (processes.at number) found kept →
     HaveEvents reached.names number processes
     (λ written process. (written ≡ []) × IsLeftOf process keeps × IsAfterStart new keeps result process)
 
@@ -110,13 +110,14 @@ LeavesAfterStart {T = T} names number from input held new keeps holds (Err (faul
 LeavesAfterStart names number from input held new keeps holds (Err fault) =
     LeavesNothingMore (from.at number) held keeps holds
 
--- these events may happen to the process of this number, one after another, and write nothing; and then this holds of
--- all processes
+-- these events may happen to the process of this number, one after another, are such as programs make, and write
+-- nothing; and then this holds of all processes
 pub record HaveSilentEvents (names : FileOfNames) (number : ℕ) (processes : Processes) (Holds : Processes → Type 0)
     : Type 0 where
   pub events : List ProcessEvent
   pub own : AreOf number events
   pub may : MayAllHappenTo names events processes
+  pub programs : AreOfPrograms number events processes
   pub silent : written_in events processes ≡ []
   pub holds : Holds (processes_run events processes)
 
@@ -125,7 +126,7 @@ pub record HaveSilentEvents (names : FileOfNames) (number : ℕ) (processes : Pr
 abbrev pub LeavesRun : {T : Type 0} → (old : Node) → (found kept input held : Option (List ℕ)) → (new : Node)
     → (keeps holds : Option (List ℕ)) → Result T Fault → Type 0
 LeavesRun old found kept input held new keeps holds result = (processes : Processes) (reached : AreReached processes)
-    (number : ℕ) (bytes : List ℕ) → input ≡ Some bytes → IsNewNode reached.names number old →
+    (number : ℕ) (bytes : List ℕ) → input ≡ Some bytes → IsNewAndIdle reached.names number old →
     MayBeStarted (processes.at number) found kept →
     HaveSilentEvents reached.names number processes
     (λ started. LeavesAfterStart reached.names number started input held new keeps holds result)

@@ -17,9 +17,8 @@ use Rattle.node_store.specs.Disk.{IsFrontOf}
 use Rattle.node_store.specs.Recovery.{HasRecovered, IsWholeEntry, log_bytes}
 use Rattle.node_store.specs.declared.end.LogEnd.{LogEnd}
 use Rattle.node_store.specs.declared.error.StoreError.{StoreError}
-use Rattle.processes.specs.Events.{IsNewNode}
-use Rattle.processes.specs.Programs.{IsBegun, IsHalfRewritten, IsPartlyBegun, IsPartlyCut, IsPerhapsRewritten, IsStart}
-use Rattle.processes.specs.Programs.{IsStoppedAt, StartStage}
+use Rattle.processes.specs.Programs.{IsBegun, IsHalfRewritten, IsNewAndIdle, IsPartlyBegun, IsPartlyCut}
+use Rattle.processes.specs.Programs.{IsPerhapsRewritten, IsStart, IsStoppedAt, StartStage}
 use Rattle.casd.specs.Fault.{IsStartFault}
 use Rattle.casd.specs.declared.fault.Fault.{Fault}
 use Rattle.casd.specs.declared.fault.Fault.TheVariants as faults
@@ -84,7 +83,7 @@ pub record IsUnknownStart (names : FileOfNames) (number : ℕ) (node : Node) : T
   pub new : Node
   pub copy : Node
   pub entries : List Strings
-  pub is_new : IsNewNode names number new
+  pub is_new : IsNewAndIdle names number new
   pub whole : AllByRecursion IsWholeEntry entries
   pub carried : FoldsTo CarriesOutEntry new entries copy
   pub named : CanBeNamed copy
@@ -131,7 +130,7 @@ LeavesLog names number disk kept keeps _ = ⊥
 -- error names, where reading stopped for the reason that it names
 abbrev pub IsBadLog : FileOfNames → (number : ℕ) → (disk : List ℕ) → StoreError → Type 0
 IsBadLog names number disk error =
-    (new after : Node) × IsNewNode names number new × HasRecovered CarriesOutEntry new after (Some disk) (Err error)
+    (new after : Node) × IsNewAndIdle names number new × HasRecovered CarriesOutEntry new after (Some disk) (Err error)
 
 -- What a fault of a start says of the bytes that were found in the log. An older form is named as such, unless the log
 -- cannot be read or there is no memory, and it is not changed. Any other fault says that the log has no older form.

@@ -3,7 +3,7 @@ ghost use Rattle.std.specs.Prelude.{◌≡◌, ℕ, IsTrue, IfOk, IfErr, OnOk};
 ghost use Rattle.deeds.specs.Kept.{FileOfNames};
 ghost use Rattle.node.specs.Anew.{AreAnew};
 ghost use Rattle.node.specs.declared.node.Node.{Node};
-ghost use Rattle.processes.specs.Events.{IsNewNode};
+ghost use Rattle.processes.specs.Programs.{IsNewAndIdle};
 ghost use Rattle.casd.specs.Fault.{IsReadFault, IsRefusal, IsStartFault, TellsFailedLog, status_of};
 ghost use Rattle.casd.specs.Opening.{HasBegun, HasCut, HasReadForm, HasReadLog, HasStarted, HasWrittenAnew};
 ghost use Rattle.casd.specs.Opening.{IsFailedStart};
@@ -41,9 +41,9 @@ pub fn start_with<L: StoredLog, E: Write>(
     err: &mut E,
 ) -> Result<LogEnd, Fault>
     requires { IsTrue (L.sound log.old) }
-    ensures starts { (names : FileOfNames) (number : ℕ) → IsNewNode names number node.old
+    ensures starts { (names : FileOfNames) (number : ℕ) → IsNewAndIdle names number node.old
         → IfOk result (λ end. HasStarted names number (L.written log.old) node.new end (L.kept log.new)) }
-    ensures fails { (names : FileOfNames) (number : ℕ) → IsNewNode names number node.old
+    ensures fails { (names : FileOfNames) (number : ℕ) → IsNewAndIdle names number node.old
         → IfErr result (IsFailedStart names number (L.written log.old) (L.kept log.old) (L.kept log.new)) }
     ensures refused { IfErr result (λ fault. IsRefusal fault
         → (L.written log.new ≡ L.written log.old) × (L.kept log.new ≡ L.kept log.old)) }

@@ -2,7 +2,7 @@
 ghost use Rattle.std.specs.Prelude.{◌≡◌, ℕ, List, IsTrue, map, string_bytes};
 ghost use Rattle.cluster_file.specs.File.{IsLawfulFile};
 ghost use Rattle.deeds.specs.Kept.{FileOfNames};
-ghost use Rattle.processes.specs.Events.{IsNewNode};
+ghost use Rattle.processes.specs.Programs.{IsNewAndIdle};
 ghost use Rattle.words.specs.Word.{Word};
 ghost use Rattle.casd.specs.Ending.{EndsBy, EndsForLog, HasRunNode, Prints, RunsNode};
 ghost use Rattle.casd.specs.Fault.{TellsFailedLog, status_of};
@@ -162,7 +162,7 @@ pub fn start_and_serve<L: StoredLog, I: Read + Drop, O: Write, E: Write>(
     err: &mut E,
 ) -> Result<(), Fault>
     requires { IsTrue (L.sound log.old) }
-    ensures runs { (names : FileOfNames) (number : ℕ) → IsNewNode names number node.old
+    ensures runs { (names : FileOfNames) (number : ℕ) → IsNewAndIdle names number node.old
         → HasRun names number (L.written log.old) (L.kept log.old) (I.remaining input) (O.contents output.old)
         node.new (L.kept log.new) (O.contents output.new) result }
     ensures failure { TellsFailedLog (L.failed log.old) (L.failed log.new) (status_of result) }

@@ -5,8 +5,8 @@ use Rattle.deeds.specs.Deeds.{Notice}
 use Rattle.deeds.specs.Kept.{FileOfNames}
 use Rattle.processes.specs.Events.{MayHappenTo, ProcessEvent, number_of, process_after, processes_after, seen_in, sent_by}
 use Rattle.processes.specs.Processes.{Process, Processes, SentFrame}
-use Rattle.processes.specs.Runs.{MayAllHappenTo, processes_run}
-use Rattle.processes.proofs.LeadLemmas.{may_then, run_then}
+use Rattle.processes.specs.Runs.{AreOfPrograms, IsOfPrograms, MayAllHappenTo, processes_run}
+use Rattle.processes.proofs.LeadLemmas.{may_then, programs_then, run_then}
 
 module _ (names : FileOfNames) (number : ℕ) where
   -- Events lead from these processes to others: this process then is so, and no other has changed. They wrote these
@@ -14,6 +14,7 @@ module _ (names : FileOfNames) (number : ℕ) where
   pub record Goes (from : Processes) (process : Process) (sent : List SentFrame) (seen : List Notice) : Type 0 where
     pub events : List ProcessEvent
     pub may : MayAllHappenTo names events from
+    pub programs : (any : ℕ) → AreOfPrograms any events from
     pub to : Processes
     pub ends : processes_run events from ≡ to
     pub own : to.at number ≡ process
@@ -25,6 +26,7 @@ module _ (names : FileOfNames) (number : ℕ) where
   goes_nowhere from = record {
     events = [];
     may = tt;
+    programs = λ any. tt;
     to = from;
     ends = refl;
     own = refl;
@@ -34,11 +36,13 @@ module _ (names : FileOfNames) (number : ℕ) where
   }
 
   pub goes_once : (from : Processes) (event : ProcessEvent) → number_of event ≡ number → MayHappenTo names from event →
+      IsOfPrograms from event →
       Goes from (process_after (from.at (number_of event)) event) (sent_by event) (seen_in (from.at (number_of event)) event)
-  goes_once from event own may =
+  goes_once from event own may program =
       let after = process_after (from.at (number_of event)) event in record {
         events = event ∷ [];
         may = (may, tt);
+        programs = λ any. (λ is. program, tt);
         to = processes_after from event;
         ends = refl;
         own = ap (λ b. cond b after (from.at number)) (eq-eqb number (number_of event) (sym own));
@@ -55,6 +59,8 @@ module _ (names : FileOfNames) (number : ℕ) where
     events = first.events ++ more.events;
     may = may_then names first.events more.events from first.may
         (subst (λ at. MayAllHappenTo names more.events at) (sym first.ends) more.may);
+    programs = λ any. programs_then any first.events more.events from (first.programs any)
+        (subst (λ at. AreOfPrograms any more.events at) (sym first.ends) (more.programs any));
     to = more.to;
     ends = run_then first.events more.events from ∙ ap (processes_run more.events) first.ends ∙ more.ends;
     own = more.own;

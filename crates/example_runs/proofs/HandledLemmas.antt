@@ -49,7 +49,7 @@ module _ (names : FileOfNames) (number : ℕ) where
       let behind : waits.1.behind ≤ process.synced = let most = waits.4 in omega arith in
       let may : MaySend (from.at number) frame =
       subst (λ (p : Process). MaySend p frame) (sym is) (waits.0, waits.1, waits.2, waits.3, behind) in
-      let first = goes_once names number from event refl may in
+      let first = goes_once names number from event refl may tt in
       let rest = sends_goes outputs n first.to process (first.own ∙ is) have.1 fits in
       goes_on names number from (from.at number) process (record { sender = number; frame = frame } ∷ [])
       (frames_from number outputs) [] [] first rest
@@ -68,7 +68,7 @@ module _ (names : FileOfNames) (number : ℕ) where
       (record process { answers = rest }) [] (first_told (from.at number).answers)
       (ap (λ (them : List WaitingAnswers). record (from.at number) { answers = drop 1 them }) answers
       ∙ ap (λ (p : Process). record p { answers = rest }) is)
-      (goes_once names number from (ProcessEvent.Tells number) refl (first, rest, answers, synced)))
+      (goes_once names number from (ProcessEvent.Tells number) refl (first, rest, answers, synced) tt))
 
   pub handled_goes : (processes : Processes) (frame : Strings) (effects : Effects) (old mid new : Member) →
       IsAt (processes.at number) old → WasWritten processes number (arrival_at frame) → HasHandled frame effects old mid →
@@ -102,14 +102,14 @@ module _ (names : FileOfNames) (number : ℕ) where
         answers = them ++ answers ∷ [];
       }) at.told)
       (goes_once names number processes (ProcessEvent.Handles number frame effects after) refl
-      ((node, at.runs ∙ ran, handles), came)) in
+      ((node, at.runs ∙ ran, handles), came) tt) in
       let within : ((first.to.at number).synced ≤ count) × (count ≤ length (first.to.at number).log) =
       subst (λ (p : Process). (p.synced ≤ count) × (count ≤ length p.log)) (sym first.own) (omega arith, omega arith) in
       let synced : Process = record begun { synced = count } in
       let second : Goes names number first.to synced [] [] =
       goes_as names number first.to (record (first.to.at number) { synced = count }) synced [] []
       (ap (λ (p : Process). record p { synced = count }) first.own)
-      (goes_once names number first.to (ProcessEvent.Syncs number count) refl within) in
+      (goes_once names number first.to (ProcessEvent.Syncs number count) refl within tt) in
       let have = frames_among (frames_behind n outputs) (process.frames ++ frames_behind n outputs)
       (waits_second process.frames (frames_behind n outputs)) n outputs (own_frames n outputs) in
       let third = sends_goes outputs n second.to synced second.own have (omega (arith, long)) in

@@ -2,19 +2,19 @@
 use Rattle.std.proofs.Common.{◌≡◌, ◌≤◌, ℕ, List, [], ◌++◌, length, take, None, Some, Ok}
 use Rattle.std.proofs.Common.{refl, sym, subst, ap, ◌∙◌, append-nil, arith}
 use Rattle.std.proofs.lemmas.List.{take_all}
-use Rattle.cluster_file.specs.File.{FileContents, IsLawfulFile}
-use Rattle.deeds.specs.Kept.{FileOfNames, new_node}
+use Rattle.cluster_file.specs.File.{FileContents}
+use Rattle.deeds.specs.Kept.{FileOfNames}
 use Rattle.node.specs.Recovering.{CarriesOutEntry}
 use Rattle.node.specs.Starts.{start_entries}
 use Rattle.node.specs.declared.node.Node.{Node}
-use Rattle.node_keeper.specs.Keeping.{kept_of, names_of}
+use Rattle.node_keeper.specs.Keeping.{names_of}
 use Rattle.node_log.specs.Entry.{first_chain}
 use Rattle.node_store.specs.Laws.{IsLeft, LeftLogIsRead}
 use Rattle.node_store.specs.Recovery.{HasRecovered, log_bytes}
 use Rattle.node_store.specs.declared.end.LogEnd.{LogEnd}
 use Rattle.processes.specs.Events.{ProcessEvent, started_process}
 use Rattle.processes.specs.Processes.{Process, Processes}
-use Rattle.processes.specs.Programs.{IsStart}
+use Rattle.processes.specs.Programs.{IsNewAndIdle, IsStart}
 use Rattle.processes.specs.Runs.{AreReached}
 use Rattle.processes.proofs.LogLemmas.{some_is}
 use Rattle.processes.proofs.ProgramLemmas.{started_so}
@@ -25,10 +25,10 @@ use Rattle.example_runs.proofs.GoingLemmas.{Goes, goes_as, goes_on, goes_once}
 
 -- a new node carried out the log, and was started
 pub has_started : (file : FileContents) (number : ℕ) (new copy : Node) (end : LogEnd) (old between after : Member) →
-    IsLawfulFile file → old.node ≡ None → between ≡ old → kept_of new.keeper ≡ new_node (names_of file) number →
-    new.desk.calls.entries ≡ [] → HasRecovered CarriesOutEntry new copy (Some old.log.items) (Ok end) →
-    HasBegun copy end between after → HasStarted file number old after
-has_started file number new copy end old between after lawful stopped same kept calls recovered begun = record {
+    old.node ≡ None → between ≡ old → IsNewAndIdle (names_of file) number new →
+    HasRecovered CarriesOutEntry new copy (Some old.log.items) (Ok end) → HasBegun copy end between after →
+    HasStarted file number old after
+has_started file number new copy end old between after stopped same is_new recovered begun = record {
   stopped = stopped;
   node = begun.node;
   runs = begun.runs;
@@ -39,7 +39,7 @@ has_started file number new copy end old between after lawful stopped same kept 
     then = end;
     anew = None;
     kept = Some (take end.length old.log.items);
-    is_new = record { file = file; lawful = lawful; same = refl; kept = kept; calls = calls };
+    is_new = is_new;
     recovered = recovered;
     renewed = tt;
     rewritten = (refl, refl);
@@ -81,7 +81,7 @@ started_goes law processes reached file same number old new at started =
     started.start) in
     let event = ProcessEvent.Starts number so.read so.anew so.new so.copy node in
     let after = started_process process so.read so.anew so.copy node in
-    let first : Goes names number processes after [] [] = goes_once names number processes event refl so.may in
+    let first : Goes names number processes after [] [] = goes_once names number processes event refl so.may so.idle in
     let count = length after.log in
     let within : ((first.to.at number).synced ≤ count) × (count ≤ length (first.to.at number).log) =
     subst (λ (p : Process). (p.synced ≤ count) × (count ≤ length p.log)) (sym first.own) (so.sound.fits, omega arith) in
@@ -89,7 +89,7 @@ started_goes law processes reached file same number old new at started =
     let second : Goes names number first.to last [] [] =
     goes_as names number first.to (record (first.to.at number) { synced = count }) last [] []
     (ap (λ (p : Process). record p { synced = count }) first.own)
-    (goes_once names number first.to (ProcessEvent.Syncs number count) refl within) in (
+    (goes_once names number first.to (ProcessEvent.Syncs number count) refl within tt) in (
       last,
       goes_on names number processes after last [] [] [] [] first second,
       record {

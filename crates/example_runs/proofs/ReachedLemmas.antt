@@ -9,7 +9,7 @@ use Rattle.deeds.specs.Kept.{FileOfNames}
 use Rattle.node_effects.specs.Seen.{all_seen}
 use Rattle.processes.specs.Events.{ProcessEvent}
 use Rattle.processes.specs.Processes.{Process, Processes, SentFrame}
-use Rattle.processes.specs.Runs.{MayAllHappenTo, processes_run}
+use Rattle.processes.specs.Runs.{AreOfPrograms, MayAllHappenTo, processes_run}
 use Rattle.example_runs.specs.Reached.{AreIn, IsAt}
 use Rattle.example_runs.specs.declared.members.Member.{Member}
 use Rattle.example_runs.specs.declared.process_run.ProcessRun.{ProcessRun}
@@ -35,10 +35,12 @@ pub led_on : (names : FileOfNames) (number : ℕ) (old new : ProcessRun) (proces
     Goes names number processes process sent seen → IsAt process member →
     new.members.items ≡ set old.members.items number member → new.sent.items ≡ old.sent.items ++ sent →
     all_seen new.seen.items ≡ all_seen old.seen.items ++ seen →
-    (events : List ProcessEvent) × MayAllHappenTo names events processes × AreIn (processes_run events processes) new
+    (events : List ProcessEvent) × MayAllHappenTo names events processes
+    × ((any : ℕ) → AreOfPrograms any events processes) × AreIn (processes_run events processes) new
 led_on names number old new processes process member sent seen are goes at members frames notices = (
   goes.events,
   goes.may,
+  goes.programs,
   subst (λ (to : Processes). AreIn to new) (sym goes.ends) (record {
     at = λ other it there. each other it (eqb other number) refl
         (sym (ap (λ (ms : List Member). slice_get ms other) members) ∙ there);

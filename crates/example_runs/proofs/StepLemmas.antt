@@ -12,8 +12,8 @@ use Rattle.node_keeper.specs.Keeping.{names_of}
 use Rattle.node_store.specs.Laws.{LeftLogIsRead}
 use Rattle.processes.specs.Events.{ProcessEvent}
 use Rattle.processes.specs.Processes.{Processes, new_process, new_processes}
-use Rattle.processes.specs.Runs.{MayAllHappenTo, processes_run}
-use Rattle.processes.proofs.LeadLemmas.{may_then, run_then}
+use Rattle.processes.specs.Runs.{AreOfPrograms, MayAllHappenTo, processes_run}
+use Rattle.processes.proofs.LeadLemmas.{may_then, programs_then, run_then}
 use Rattle.example_runs.specs.Members.{HasStarted, IsNewMember}
 use Rattle.example_runs.specs.Reached.{IsAt, IsReached, LeadsOn}
 use Rattle.example_runs.specs.Steps.{IsStartedIn, IsStoppedIn}
@@ -45,7 +45,7 @@ stopped_leads number old new is = (
       let process = processes.at number in
       led_on by.reached.names number old new processes (record process { running = None; frames = []; answers = [] })
       (record is.member { node = None }) [] [] are
-      (goes_once by.reached.names number processes (ProcessEvent.Stops number) refl tt)
+      (goes_once by.reached.names number processes (ProcessEvent.Stops number) refl tt tt)
       (record { runs = refl; synced = at.synced; told = refl; bytes = at.bytes; chained = at.chained })
       is.changed.members (is.sent ∙ sym (append-nil old.sent.items))
       (ap all_seen is.seen ∙ sym (append-nil (all_seen old.seen.items))),
@@ -73,7 +73,9 @@ reached_on old new (text, leads) is =
         read = ap file_of text ∙ by.read;
         names = by.names;
       };
-      are = more.2;
+      programs = λ any. programs_then any reached.events more.0 new_processes (is.programs any)
+          (subst (λ (ps : Processes). AreOfPrograms any more.0 ps) (sym reached.result) (more.2 any));
+      are = more.3;
     }
 
 -- For contracts
@@ -136,6 +138,7 @@ new_reached run file read lawful new sent seen = record {
     read = read;
     names = refl;
   };
+  programs = λ any. tt;
   are = record {
     at = λ number member there. at_first member (all_at IsNewMember run.members.items number member new there);
     sent = sent;

@@ -8,8 +8,8 @@ use Rattle.node_keeper.specs.Keeping.{names_of}
 use Rattle.node_log.specs.Entry.{chain_behind, first_chain}
 use Rattle.node_store.specs.Recovery.{log_bytes}
 use Rattle.processes.specs.Events.{ProcessEvent}
-use Rattle.processes.specs.Processes.{Process, Processes}
-use Rattle.processes.specs.Runs.{AreReached, MayAllHappenTo, processes_run}
+use Rattle.processes.specs.Processes.{Process, Processes, new_processes}
+use Rattle.processes.specs.Runs.{AreOfPrograms, AreReached, MayAllHappenTo, processes_run}
 use Rattle.example_runs.specs.declared.members.Member.{Member}
 use Rattle.example_runs.specs.declared.process_run.ProcessRun.{ProcessRun}
 
@@ -35,15 +35,18 @@ pub record AreReachedBy (text : List ℕ) (processes : Processes) : Type 0 where
   pub read : file_of text ≡ Ok file
   pub names : reached.names ≡ names_of file
 
--- the run is one of processes: those that it has are reached by events that may happen
+-- the run is one of processes: those that it has are reached by events that may happen, and that are such as programs
+-- make
 pub record IsReached (run : ProcessRun) : Type 0 where
   pub processes : Processes
   pub reached : AreReachedBy run.text processes
+  pub programs : (number : ℕ) → AreOfPrograms number reached.reached.events new_processes
   pub are : AreIn processes run
 
--- Whatever processes the one run has, events may happen to them, one after another, that make them those of the other.
+-- Whatever processes the one run has, events may happen to them, one after another, that are such as programs make, and
+-- that make them those of the other.
 abbrev pub LeadsOn : (old new : ProcessRun) → Type 0
 LeadsOn old new = (new.text ≡ old.text)
     × ((processes : Processes) (by : AreReachedBy old.text processes) → AreIn processes old →
     (events : List ProcessEvent) × MayAllHappenTo by.reached.names events processes
-    × AreIn (processes_run events processes) new)
+    × ((number : ℕ) → AreOfPrograms number events processes) × AreIn (processes_run events processes) new)

@@ -1,4 +1,3 @@
--- The contracts that docs/trusted.md lists do not depend on this file; other contracts and proofs do.
 -- Banks of positions before the object's start. No call that begins from now on needs their pieces, so a node closes
 -- them. It first raises the pointers that are not final: each of these positions has a final pointer at a quorum.
 use Rattle.std.specs.Prelude.{ℕ, suc, ◌==◌, ◌&&◌, Bool, true, false, if◌then◌else◌, is_some, nat_lt, List, [], ◌∷◌}

@@ -190,7 +190,7 @@ module _ (asker : ℕ) (got : List Named) (first b : Keeper) where
 -- what was done with a frame
 pub handles_of : (old new : Node) (frame : Strings) (work : Work) (effects : Effects) →
     HasActed (sender_or old.keeper.ids.node (arrival_at frame)) (letters_in old.keeper frame) old.keeper new.keeper work →
-    ServedSince (arrival_at frame) old new work.to_clients.items work.notices.items →
+    ServedSince (arrival_at frame) old new work.to_clients.items work.notices.items work.outputs.items →
     effects.outputs.items ≡ work.outputs.items → effects.answers.items ≡ work.to_clients.items →
     effects.notices.items ≡ work.notices.items → (NoneWaits old.desk.clients [] → NoneWaits new.desk.clients []) →
     IsDoneFirst (arrival_at frame) old effects.outputs.items →
@@ -204,8 +204,9 @@ handles_of old new frame work effects done served outputs answers notices waits 
   ids = done.ids;
   sent = done.sent;
   addressed = done.addressed;
-  served = subst (λ fs. ServedSince (arrival_at frame) old new fs effects.notices.items) (sym answers)
-      (subst (λ ns. ServedSince (arrival_at frame) old new work.to_clients.items ns) (sym notices) served);
+  served = subst (λ fs. ServedSince (arrival_at frame) old new fs effects.notices.items effects.outputs.items) (sym answers)
+      (subst (λ ns. ServedSince (arrival_at frame) old new work.to_clients.items ns effects.outputs.items) (sym notices)
+      (subst (λ os. ServedSince (arrival_at frame) old new work.to_clients.items work.notices.items os) (sym outputs) served));
   waits = waits;
   first = again;
   peers = peers;

@@ -1,6 +1,6 @@
 -- What has come to a node, and all that it does with it for its clients.
 use Rattle.std.proofs.Common.{◌≡◌, ℕ, List, [], ◌∷◌, ◌++◌, Option, None, Some}
-use Rattle.std.proofs.Common.{sym, subst, ap, ◌∙◌}
+use Rattle.std.proofs.Common.{refl, sym, subst, ap, ◌∙◌}
 use Rattle.std.proofs.lemmas.List.{append-nil, append_assoc}
 use Rattle.std.specs.List.{AllByRecursion}
 use Rattle.cluster_file.specs.File.{FileContents}
@@ -9,6 +9,7 @@ use Rattle.node_strings.specs.declared.arrival.Arrival.{Arrival}
 use Rattle.node_strings.specs.declared.arrival.Arrival.TheVariants as arrived
 use Rattle.node_strings.specs.Strings.{Strings}
 use Rattle.node_effects.specs.declared.notice.Notice.{Notice}
+use Rattle.node_effects.specs.declared.output.Output.{Output}
 use Rattle.node_effects.specs.declared.work.Work.{Work}
 use Rattle.node_clients.specs.Served.{AreServicesDone, HasServed}
 use Rattle.node_clients.specs.Services.{Service, all_frames, all_notices}
@@ -21,6 +22,7 @@ use Rattle.node_clients.specs.declared.next.Next.{Next}
 use Rattle.node_clients.specs.declared.next.Next.TheVariants.{Came}
 use Rattle.node_keeper.specs.declared.keeper.Keeper.{Keeper}
 use Rattle.node.specs.AtOnce.{IsAtOnce, IsFirstDone}
+use Rattle.node.specs.BegunCalls.{HasPutOut}
 use Rattle.node.specs.GivenIds.{UseIds}
 use Rattle.node.specs.Replies.{IsRight}
 use Rattle.node.specs.Serving.{FollowsUp, IsComing, ServedSince, ServesClients, ServesArrival}
@@ -28,6 +30,7 @@ use Rattle.node.specs.Serving.{ServesMore}
 use Rattle.node.specs.declared.node.Node.{Node}
 use Rattle.node.specs.declared.peers.Peers.{Peers}
 use Rattle.node.proofs.GivenIdLemmas.{used_then}
+use Rattle.node.proofs.PutOutLemmas.{put_out_later}
 use Rattle.node.proofs.ServingLemmas.{all_right, serves_then}
 
 -- the first thing stays the first one where more follow
@@ -46,16 +49,17 @@ at_once_stays (Some (arrived.Message sender frame)) keeper peers desk more rest 
 at_once_stays (Some (arrived.Tick heard)) keeper peers desk more rest is = tt
 
 -- something comes, and some things follow up
-pub arrival_then : (came : Option Arrival) (a b c : Node) (u v w : Work) (service : Service) →
+pub arrival_then : (came : Option Arrival) (a b c : Node) (u v w : Work) (service : Service) → b.keeper ≡ a.keeper →
     IsComing a.desk came (service ∷ []) → ServesClients a u (service ∷ []) b v → (more : ServesMore b v c w) →
     IsAtOnce came a.keeper a.peers a.desk more.services → ServesArrival came a u c w
-arrival_then came a b c u v w service comes first more at_once = record {
+arrival_then came a b c u v w service same comes first more at_once = record {
   coming = service ∷ [];
   more = more.services;
   comes = comes;
   follows = more.follows;
   at_once = at_once;
   serves = serves_then a b c u v w (service ∷ []) more.services first more.serves;
+  put_out = subst (λ (k : Keeper). AllByRecursion (HasPutOut k w.outputs.items) more.services) same more.put_out;
 }
 
 -- something comes, and nothing follows up
@@ -69,6 +73,7 @@ arrival_alone came a b u v services comes at_once serves = record {
   follows = tt;
   at_once = at_once;
   serves = subst (λ ss. ServesClients a u ss b v) (sym (append-nil services)) serves;
+  put_out = tt;
 }
 
 -- nothing comes for clients, and some things follow up
@@ -81,13 +86,15 @@ arrival_more came a b u v comes more at_once = record {
   follows = more.follows;
   at_once = at_once;
   serves = more.serves;
+  put_out = more.put_out;
 }
 
 -- All that was done with a frame
 
 pub since_first : (came : Option Arrival) (a b : Node) (u v : Work) → u.to_clients.items ≡ [] → u.notices.items ≡ [] →
-    ServesArrival came a u b v → ServedSince came a b v.to_clients.items v.notices.items
-since_first came a b u v told seen s = record {
+    b.keeper.digest ≡ a.keeper.digest → ServesArrival came a u b v →
+    ServedSince came a b v.to_clients.items v.notices.items v.outputs.items
+since_first came a b u v told seen digest s = record {
   coming = s.coming;
   more = s.more;
   comes = s.comes;
@@ -98,15 +105,18 @@ since_first came a b u v told seen s = record {
   ids = s.serves.ids;
   answers = s.serves.has.told ∙ ap (λ xs. xs ++ all_frames (s.coming ++ s.more)) told;
   notices = s.serves.has.notices ∙ ap (λ xs. xs ++ all_notices (s.coming ++ s.more)) seen;
+  put_out = s.put_out;
   file = s.serves.file;
+  digest = digest;
   number = s.serves.number;
 }
 
 -- some things follow up, where what there is to do may have been taken in between
-pub since_then : (came : Option Arrival) (a b c : Node) (answers : List Strings) (notices : List Notice) (v w : Work) →
-    v.to_clients.items ≡ answers → v.notices.items ≡ notices → ServedSince came a b answers notices →
-    ServesMore b v c w → ServedSince came a c w.to_clients.items w.notices.items
-since_then came a b c answers notices v w told seen s m =
+pub since_then : (came : Option Arrival) (a b c : Node) (answers : List Strings) (notices : List Notice)
+    (outputs more : List Output) (v w : Work) → v.to_clients.items ≡ answers → v.notices.items ≡ notices →
+    w.outputs.items ≡ outputs ++ more → c.keeper.digest ≡ b.keeper.digest → ServedSince came a b answers notices outputs →
+    ServesMore b v c w → ServedSince came a c w.to_clients.items w.notices.items w.outputs.items
+since_then came a b c answers notices outputs more v w told seen are digest s m =
     let before = s.coming ++ s.more in
     let all : (s.coming ++ s.more) ++ m.services ≡ s.coming ++ (s.more ++ m.services) =
     append_assoc s.coming s.more m.services in
@@ -128,6 +138,11 @@ since_then came a b c answers notices v w told seen s m =
           ∙ sym (frames_append before m.services) ∙ ap all_frames all;
       notices = m.serves.has.notices ∙ ap (λ xs. xs ++ all_notices m.services) (seen ∙ s.notices)
           ∙ sym (notices_append before m.services) ∙ ap all_notices all;
+      put_out = all_append (HasPutOut a.keeper w.outputs.items) s.more m.services
+          (put_out_later a.keeper a.keeper refl refl refl outputs more w.outputs.items are s.more s.put_out)
+          (put_out_later a.keeper b.keeper s.number s.file s.digest w.outputs.items [] w.outputs.items
+          (sym (append-nil w.outputs.items)) m.services m.put_out);
       file = m.serves.file ∙ s.file;
+      digest = digest ∙ s.digest;
       number = m.serves.number ∙ s.number;
     }

@@ -23,6 +23,7 @@ use Rattle.node_keeper.specs.declared.keeper.Keeper.{Keeper}
 use Rattle.indexmap.specs.IndexMap.{index_map_len}
 use Rattle.node_clients.specs.declared.counts.Counts.{Counts}
 use Rattle.node.specs.AtOnce.{IsCarriedOut, IsReplyHere}
+use Rattle.node.specs.BegunCalls.{HasPutOut}
 use Rattle.node.specs.GivenIds.{UsesIdIf, UsesIds, is_refusal}
 use Rattle.node.specs.Replies.{IsReplyTo, IsRight}
 use Rattle.node.specs.Serving.{FollowsUp, IsCommandDone, ServesClients, ServesCommand, ServesNext}
@@ -102,7 +103,7 @@ no_first (Some connection) next waiting none idle waits =
 pub nothing_next : (client : ℕ) (old new : Node) (u v : Work) → has_next (connection_of old.desk client) ≡ false →
     ServesClients old u [] new v → ServesNext client old u new v
 nothing_next client old new u v none serves = record {
-  more = record { services = []; serves = serves; follows = tt };
+  more = record { services = []; serves = serves; follows = tt; put_out = tt };
   first = λ next waiting idle waits. no_first (connection_of old.desk client) next waiting none idle waits;
 }
 
@@ -129,6 +130,7 @@ taken_served a b c u v client next same peers taken s =
             (s.file ∙ ap (λ (k : Keeper). k.file) same)
             (subst (λ (k : Keeper). UsesIds k.ids s.service c.keeper.ids) same s.ids);
         follows = ((command_is b.desk c.desk client next s.service s.done).1, tt);
+        put_out = (subst (λ (k : Keeper). HasPutOut k v.outputs.items s.service) same s.put_out, tt);
       };
       first = λ command waiting idle waits.
           let both : command ∷ waiting ≡ next ∷ waiting_on (connection_of b.desk client) = sym waits ∙ taken.taken.1 in
@@ -166,6 +168,7 @@ replied client next answer old new u v answered grown reply here file ids = reco
   told = grown.to_clients;
   due = grown.due;
   notices = grown.notices;
+  put_out = tt;
   file = file;
   ids = ids;
 }
@@ -202,6 +205,7 @@ quits client command old new u v (Ok done) is busy grown state waiting stays oth
   told = grown.to_clients;
   due = grown.due;
   notices = grown.notices;
+  put_out = tt;
   file = ap (λ (k : Keeper). k.file) same;
   ids = ap (λ (k : Keeper). k.ids) same;
 }

@@ -13,7 +13,7 @@ use Rattle.node_messages.specs.declared.message.NodeMessage.{NodeMessage}
 use Rattle.node_strings.specs.declared.arrival.Arrival.TheVariants as arrived
 use Rattle.node.specs.Frames.{is_admitted}
 use Rattle.node.specs.Peers.{DroppedFramesCountOnce, HasNoted, HasNotedIf, IsChangedIfRead, after_message, frames_dropped}
-use Rattle.node.specs.Peers.{is_dropped_if_read, is_foreign, report_of}
+use Rattle.node.specs.Peers.{is_dropped_if_read, is_foreign, reception_of, report_of}
 use Rattle.node.specs.declared.drops.Drops.{Drops}
 use Rattle.node.specs.declared.peers.Peers.{Peers}
 use Rattle.node.proofs.PeerLemmas.{admitted_is_own}
@@ -50,12 +50,13 @@ noted_counts other old new noted =
     ap (λ (d : Drops). all d new.foreign) noted.drops ∙ ap (λ (f : ℕ). all drops f) noted.foreign
     ∙ fifth_more drops.malformed drops.unreadable drops.not_admitted drops.not_heeded old.foreign
 
-message_counts : (admitted heeded : Bool) (old : Peers) →
-    frames_dropped (after_message admitted heeded old) ≡ sum_after (not (admitted && heeded)) old
-message_counts true true old = refl
-message_counts true false old =
+message_counts : (admitted heeded declined : Bool) (old : Peers) →
+    frames_dropped (after_message admitted (record { is_heeded = heeded; is_declined = declined }) old) ≡
+    sum_after (not (admitted && heeded)) old
+message_counts true true declined old = refl
+message_counts true false declined old =
     let drops = old.drops in fourth_more drops.malformed drops.unreadable drops.not_admitted drops.not_heeded old.foreign
-message_counts false heeded old =
+message_counts false heeded declined old =
     let drops = old.drops in third_more drops.malformed drops.unreadable drops.not_admitted drops.not_heeded old.foreign
 
 foreign_is_not_admitted : (keeper : Keeper) (sender : ℕ) (message : NodeMessage) → is_foreign keeper message ≡ true →
@@ -69,7 +70,7 @@ foreign_is_not_admitted keeper sender message foreign = go (is_admitted keeper s
 module _ (keeper : Keeper) (sender : ℕ) (old new : Peers) where
   changes_count : (message : NodeMessage) (foreign : Bool) → is_foreign keeper message ≡ foreign →
       HasNotedIf foreign (report_of keeper sender message)
-      (after_message (is_admitted keeper sender message) (heeds (kept_of keeper) (named_of message.named)) old) old new →
+      (after_message (is_admitted keeper sender message) (reception_of keeper message.named) old) old new →
       frames_dropped new ≡ sum_after (is_dropped_if_read keeper sender (Ok message)) old
   changes_count message true is noted =
       noted_counts (report_of keeper sender message) old new noted
@@ -77,7 +78,8 @@ module _ (keeper : Keeper) (sender : ℕ) (old new : Peers) where
       (sym (foreign_is_not_admitted keeper sender message is))
   changes_count message false is same =
       ap (λ (p : Peers). frames_dropped p) same
-      ∙ message_counts (is_admitted keeper sender message) (heeds (kept_of keeper) (named_of message.named)) old
+      ∙ message_counts (is_admitted keeper sender message) (heeds (kept_of keeper) (named_of message.named))
+      (reception_of keeper message.named).is_declined old
 
   read_counts : (r : Result NodeMessage Fault) → IsChangedIfRead keeper sender r old new →
       frames_dropped new ≡ sum_after (is_dropped_if_read keeper sender r) old

@@ -177,10 +177,11 @@ fails_behind old frame (errors.Refused why) is =
 -- the same of a node that did what came
 pub fails_then : (old now : Node) (work : Work) (frame : Strings) (error : NodeError) →
     HasActed (sender_or old.keeper.ids.node (arrival_at frame)) (letters_in old.keeper frame) old.keeper now.keeper work →
-    ServedSince (arrival_at frame) old now work.to_clients.items work.notices.items →
+    ServedSince (arrival_at frame) old now work.to_clients.items work.notices.items work.outputs.items →
     (error ≡ errors.NoMemory) ⊎ ((asker : ℕ) (got : List Named) (came : Option Arrival) (first : Node) →
     HasActed asker got first.keeper now.keeper work →
-    ServedSince came first now work.to_clients.items work.notices.items → FailsBehind asker got came first error) →
+    ServedSince came first now work.to_clients.items work.notices.items work.outputs.items →
+    FailsBehind asker got came first error) →
     Fails old frame error
 fails_then old now work frame error acted served (inl is) = subst (Fails old frame) (sym is) tt
 fails_then old now work frame error acted served (inr why) =

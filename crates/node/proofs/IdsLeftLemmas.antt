@@ -121,6 +121,7 @@ run_out node frame within (inr fails) =
       now = middle;
       frames = fails.work.to_clients.items;
       seen = fails.work.notices.items;
+      outputs = fails.work.outputs.items;
       served = served;
       all = omega arith;
     })

@@ -8,6 +8,7 @@ pub mod SilenceLemmas
 pub mod MoveLemmas
 pub mod GivenIdLemmas
 pub mod IdsLeftLemmas
+pub mod PutOutLemmas
 pub mod ServingLemmas
 pub mod CommandLemmas
 pub mod PlainReplyLemmas

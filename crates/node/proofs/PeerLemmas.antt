@@ -5,8 +5,6 @@ use Rattle.std.specs.Str.{bytes_eq}
 use Rattle.std.proofs.lemmas.Bool.{and_parts}
 use Rattle.std.proofs.lemmas.List.{append-nil, append_assoc}
 use Rattle.node_effects.specs.declared.report.Report.{Report}
-use Rattle.node_effects.specs.Seen.{named_of}
-use Rattle.node_keeper.specs.Keeping.{heeds, kept_of}
 use Rattle.node_keeper.specs.declared.keeper.Keeper.{Keeper}
 use Rattle.layout.specs.Quorum.{has}
 use Rattle.node_messages.specs.Limits.{has_low_tags}
@@ -17,9 +15,10 @@ use Rattle.node_strings.specs.declared.arrival.Arrival.TheVariants as arrived
 use Rattle.node.specs.Frames.{is_admitted, is_from_cluster}
 use Rattle.node.specs.Peers.{AreDistinctAfter, HasNotedIf, IsChangedByMessage, IsChangedIfRead, OthersAreToldOnce, after_letter}
 use Rattle.node.specs.Peers.{after_message, is_foreign, is_known}
-use Rattle.node.specs.Peers.{report_of, with_other}
+use Rattle.node.specs.Peers.{reception_of, report_of, with_other}
 use Rattle.node.specs.declared.peers.Peers.{Peers}
 use Rattle.node.specs.declared.peers.TheConstants.{MOST_OTHERS}
+use Rattle.node.specs.declared.reception.Reception.{Reception}
 
 -- one more stands behind those that are there once
 one_behind : (front others : List Report) (other : Report) → AreDistinctAfter front others → is_known (front ++ others) other ≡ false →
@@ -46,9 +45,10 @@ with_once others other are = go (nat_lt (length others) MOST_OTHERS && not (is_k
     go false e = are
 
 -- a message of the same cluster file changes no others
-others_stay : (admitted heeded : Bool) (peers : Peers) → (after_message admitted heeded peers).others ≡ peers.others
-others_stay true heeded peers = refl
-others_stay false heeded peers = refl
+others_stay : (admitted : Bool) (reception : Reception) (peers : Peers) →
+    (after_message admitted reception peers).others ≡ peers.others
+others_stay true reception peers = refl
+others_stay false reception peers = refl
 
 -- a message that is admitted is of the same cluster file
 pub admitted_is_own : (keeper : Keeper) (sender : ℕ) (message : NodeMessage) → is_admitted keeper sender message ≡ true →
@@ -61,14 +61,14 @@ admitted_is_own keeper sender message is =
 
 -- what a message that is admitted changes
 pub admitted_changes : (keeper : Keeper) (sender : ℕ) (message : NodeMessage) (old new : Peers) →
-    is_admitted keeper sender message ≡ true → new ≡ after_letter (heeds (kept_of keeper) (named_of message.named)) old →
+    is_admitted keeper sender message ≡ true → new ≡ after_letter (reception_of keeper message.named) old →
     IsChangedByMessage keeper sender message old new
 admitted_changes keeper sender message old new is changed =
-    let heeded = heeds (kept_of keeper) (named_of message.named) in
+    let reception = reception_of keeper message.named in
     let other = report_of keeper sender message in
-    subst (λ b. HasNotedIf b other (after_message (is_admitted keeper sender message) heeded old) old new)
+    subst (λ b. HasNotedIf b other (after_message (is_admitted keeper sender message) reception old) old new)
     (sym (admitted_is_own keeper sender message is))
-    (subst (λ b. new ≡ after_message b heeded old) (sym is) changed)
+    (subst (λ b. new ≡ after_message b reception old) (sym is) changed)
 
 noted_once : (b : Bool) (other : Report) (after old new : Peers) → after.others ≡ old.others → HasNotedIf b other after old new →
     AreDistinctAfter [] old.others.items → AreDistinctAfter [] new.others.items
@@ -81,9 +81,9 @@ read_once : (keeper : Keeper) (sender : ℕ) (r : Result NodeMessage Fault) (old
     IsChangedIfRead keeper sender r old new → AreDistinctAfter [] old.others.items → AreDistinctAfter [] new.others.items
 read_once keeper sender (Ok message) old new changed are =
     let admitted = is_admitted keeper sender message in
-    let heeded = heeds (kept_of keeper) (named_of message.named) in
-    noted_once (is_foreign keeper message) (report_of keeper sender message) (after_message admitted heeded old) old new
-    (others_stay admitted heeded old) changed are
+    let reception = reception_of keeper message.named in
+    noted_once (is_foreign keeper message) (report_of keeper sender message) (after_message admitted reception old) old new
+    (others_stay admitted reception old) changed are
 read_once keeper sender (Err fault) old new same are =
     subst (λ (peers : Peers). AreDistinctAfter [] peers.others.items) (sym same) are
 

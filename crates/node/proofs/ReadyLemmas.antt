@@ -7,7 +7,7 @@ use Rattle.std.proofs.lemmas.List.Sums.{count_by-le-length, sum_by-cons, sum_by-
 use Rattle.std.proofs.lemmas.List.{length-drop, length-take-le}
 use Rattle.cluster_file.specs.Placement.{comes_before, in_order, with_node}
 use Rattle.cluster_file.proofs.FirstNodesLemmas.{length-in_order}
-use Rattle.node.specs.Info.{ReadyNodesHearQuorums, first_quorum}
+use Rattle.node.specs.Ready.{ReadyNodesHearQuorums, first_quorum}
 
 -- one more node in front
 count_cons : (hears : ℕ → Bool) (x : ℕ) (xs : List ℕ) → count_by hears (x ∷ xs) ≡ cond (hears x) 1 0 + count_by hears xs

@@ -11,6 +11,7 @@ use Rattle.node_clients.specs.Served.{HasServed, IsServiceDone}
 use Rattle.node_clients.specs.Services.{Service, service_dues, service_frames, service_notices}
 use Rattle.node_clients.proofs.ServedLemmas.{has_served_then, one_served}
 use Rattle.node_keeper.specs.declared.keeper.Keeper.{Keeper}
+use Rattle.node.specs.BegunCalls.{HasPutOut}
 use Rattle.node.specs.GivenIds.{UsesIds}
 use Rattle.node.specs.Replies.{IsRight}
 use Rattle.node.specs.Serving.{FollowsUp, ServesClients}
@@ -71,13 +72,13 @@ serves_then a b c u v w first second f s = record {
 
 -- no further service is done
 pub more_none : (old new : Node) (u v : Work) → ServesClients old u [] new v → ServesMore old u new v
-more_none old new u v serves = record { services = []; serves = serves; follows = tt }
+more_none old new u v serves = record { services = []; serves = serves; follows = tt; put_out = tt }
 
 -- one further service is done
-pub more_one : (old new : Node) (u v : Work) (service : Service) → FollowsUp service →
+pub more_one : (old new : Node) (u v : Work) (service : Service) → FollowsUp service → HasPutOut old.keeper v.outputs.items service →
     ServesClients old u (service ∷ []) new v → ServesMore old u new v
-more_one old new u v service follows serves =
-    record { services = service ∷ []; serves = serves; follows = (follows, tt) }
+more_one old new u v service follows put_out serves =
+    record { services = service ∷ []; serves = serves; follows = (follows, tt); put_out = (put_out, tt) }
 
 -- one service that changes the desk alone: it sends no frame, no client sees anything, and no connection is idle again
 pub unsent_one : (old new : Node) (work : Work) (service : Service) →
@@ -108,7 +109,7 @@ more_beside old new peers u v m =
     let s = m.serves in
     let serves : ServesClients old u m.services (record new { peers = peers }) v =
     record { has = s.has; right = s.right; ids = s.ids; file = s.file; number = s.number } in
-    record { services = m.services; serves = serves; follows = m.follows }
+    record { services = m.services; serves = serves; follows = m.follows; put_out = m.put_out }
 
 pub peers_more : (node : Node) (peers : Peers) (work : Work) → ServesMore node work (record node { peers = peers }) work
 peers_more node peers work = more_none node (record node { peers = peers }) work work (peers_alone node peers work)

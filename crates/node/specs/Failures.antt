@@ -38,6 +38,7 @@ use Rattle.node_keeper.specs.Sendings.{Sending}
 use Rattle.node_keeper.specs.declared.delivered.Delivered.TheVariants as delivered
 use Rattle.node_keeper.specs.declared.keeper.Keeper.{Keeper}
 use Rattle.node.specs.AtOnce.{IsPlainHere}
+use Rattle.node.specs.BegunCalls.{wants_nothing}
 use Rattle.node.specs.Frames.{is_admitted, letters_in, sender_or}
 use Rattle.node.specs.Handles.{HasActed}
 use Rattle.node.specs.Replies.{IsPlainReply}
@@ -71,7 +72,8 @@ NeedsId command = ⊥
 -- everything that has to be written for a command of a client can be written: what its call needs, if it begins one,
 -- and otherwise the plain answer
 abbrev pub CanObey : Keeper → Peers → (calls : ℕ) → Counts → (client : ℕ) → Command → Type 0
-CanObey keeper peers calls counts client (ask.Read wanted name) = CanBeginNext (reading_call name) keeper
+CanObey keeper peers calls counts client (ask.Read wanted name) =
+    CanBeginNext (reading_call name (wants_nothing wanted)) keeper
 CanObey keeper peers calls counts client (ask.Set name value) = CanBeginNext (writing_call name value) keeper
 CanObey keeper peers calls counts client (ask.Delete deletion) =
     CanBeginNext (writing_call (name_now deletion) []) keeper
@@ -175,7 +177,7 @@ pub record FailsBehind (asker : ℕ) (got : List Named) (arrival : Option Arriva
   pub middle : Node
   pub work : Work
   pub acted : HasActed asker got first.keeper middle.keeper work
-  pub served : ServedSince arrival first middle work.to_clients.items work.notices.items
+  pub served : ServedSince arrival first middle work.to_clients.items work.notices.items work.outputs.items
   pub fails : FailsStep middle work.own.items work.due.items error
 
 -- why a node cannot go on with what has come, or later

@@ -56,11 +56,11 @@ pub record HasActed (asker : ℕ) (got : List Named) (first now : Keeper) (work 
 -- nodes. An entry is read back as its record, and a frame as a message with its letter. They stand in such an order
 -- that the node may stop behind any of them: each frame depends only on the entries before it. The entries tell of the
 -- ids that the node gave: of each epoch that began, and of the id of each move. Behind them come the answers to
--- clients. What the node did for its clients says which answers these are, which ids it gave for what, and what clients
--- saw. If no command that may be carried out waited before, none waits now. What it does first with what has come is
--- told exactly: at a tick, open calls send their requests again; and the letter of a message that is admitted is
--- served, taken or dropped as `Keeper::deliver` says. What the node knows of the other nodes changes exactly as
--- `IsChangedBy` says.
+-- clients. What the node did for its clients says which answers these are, which ids it gave for what, what clients
+-- saw, and what the node put out as their calls began. If no command that may be carried out waited before, none waits
+-- now. What it does first with what has come is told exactly: at a tick, open calls send their requests again; and the
+-- letter of a message that is admitted is served, taken or dropped as `Keeper::deliver` says. What the node knows of
+-- the other nodes changes exactly as `IsChangedBy` says.
 pub record Handles (old : Node) (frame : Strings) (effects : Effects) (new : Node) : Type 0 where
   pub wants : List Want
   pub handled : IsHandledSafely fragment (kept_of old.keeper) (letters_in old.keeper frame) (left_by wants)
@@ -72,6 +72,7 @@ pub record Handles (old : Node) (frame : Strings) (effects : Effects) (new : Nod
   pub addressed : AreAddressed old.keeper.ids.node (sender_or old.keeper.ids.node (arrival_at frame))
       (letters_in old.keeper frame) (sends_in wants)
   pub served : ServedSince (arrival_at frame) old new effects.answers.items effects.notices.items
+      effects.outputs.items
   pub waits : NoneWaits old.desk.clients [] → NoneWaits new.desk.clients []
   pub first : IsDoneFirst (arrival_at frame) old effects.outputs.items
   pub peers : IsChangedBy (arrival_at frame) old.keeper old.peers new.peers

@@ -7,6 +7,7 @@ use Rattle.node_strings.specs.Strings.{Strings}
 use Rattle.node_effects.specs.declared.effects.Effects.{Effects}
 use Rattle.node_effects.specs.declared.error.NodeError.TheVariants as errors
 use Rattle.node_effects.specs.declared.notice.Notice.{Notice}
+use Rattle.node_effects.specs.declared.output.Output.{Output}
 use Rattle.node_keeper.specs.NextIds.{ids_left, next_id_of}
 use Rattle.node.specs.Failures.{Fails}
 use Rattle.node.specs.GivenIds.{ids_used}
@@ -19,7 +20,8 @@ pub record HasUsedAllIds (first : Node) (frame : Strings) : Type 0 where
   pub now : Node
   pub frames : List Strings
   pub seen : List Notice
-  pub served : ServedSince (arrival_at frame) first now frames seen
+  pub outputs : List Output
+  pub served : ServedSince (arrival_at frame) first now frames seen outputs
   pub all : ids_left first.keeper.ids ≡ ids_used (served.coming ++ served.more)
 
 -- The laws

@@ -1,48 +1,22 @@
 -- What a node tells about itself: the text of INFO, in sections as Redis has them.
-use Rattle.std.specs.Prelude.{◌+◌, ◌/◌, ◌-◌, ◌^◌, ◌≤◌, ℕ, min, Bool, true, false, IsTrue, nat_le, if◌then◌else◌}
+use Rattle.std.specs.Prelude.{◌+◌, ◌-◌, ◌^◌, ℕ, min, Bool, true, false, if◌then◌else◌}
 use Rattle.std.specs.Prelude.{◌==◌, List, [], ◌∷◌, ◌++◌, length, get_or, codes, Option, None, Some}
 use Rattle.std.specs.Fmt.{decimal}
 use Rattle.std.specs.List.{concat, count_by, flat_map}
 use Rattle.words.specs.Hexadecimal.{hexadecimal_text}
 use Rattle.client_commands.specs.declared.sections.Sections.{Sections}
-use Rattle.cluster_file.specs.File.{Fixed, placement_of}
-use Rattle.cluster_file.specs.Placement.{AreLawfulNodes, placed}
-use Rattle.layout.specs.Layout.{quorum_of}
 use Rattle.node_strings.specs.declared.heard.Heard.{Heard}
 use Rattle.node_keeper.specs.Objects.{bytes_in_banks, heard_names}
-use Rattle.node_keeper.specs.Sizes.{known_tags, open_banks}
+use Rattle.node_keeper.specs.Sizes.{closed_banks, known_tags, open_banks}
 use Rattle.node_keeper.specs.Written.{written_names}
 use Rattle.node_clients.specs.declared.counts.Counts.{Counts}
 use Rattle.node_clients.specs.declared.open_call.OpenCall.{OpenCall}
 use Rattle.node_keeper.specs.declared.keeper.Keeper.{Keeper}
-use Rattle.node.specs.Moves.{hears}
 use Rattle.node.specs.Peers.{frames_dropped}
+use Rattle.node.specs.Ready.{hears_now, is_ready}
 use Rattle.node.specs.Shown.{node_word}
 use Rattle.node.specs.declared.drops.Drops.{Drops}
 use Rattle.node.specs.declared.peers.Peers.{Peers}
-
--- Nodes that are heard
-
--- whether the node of this number hears a node: itself, and those that its host hears; none before the host has told
--- which nodes it hears
-abbrev pub hears_now : (number : ℕ) → Option Heard → (node : ℕ) → Bool
-hears_now number None node = false
-hears_now number (Some heard) node = hears number heard node
-
--- the least size of a quorum of a layout that a name has before any move
-abbrev pub first_quorum : Fixed → ℕ
-first_quorum fixed = (fixed.n + fixed.k + 1) / 2
-
--- whether each such layout has a quorum that is heard, if so many of the nodes are heard among which placement chooses:
--- so at most n minus a quorum of them are not heard
-abbrev pub is_ready : Fixed → (heard : ℕ) → Bool
-is_ready fixed heard = nat_le (length fixed.nodes + first_quorum fixed) (heard + fixed.n)
-
--- a node that is ready hears a quorum of the layout that any name has before any move
-abbrev pub ReadyNodesHearQuorums : Type 0
-ReadyNodesHearQuorums = (fixed : Fixed) (hears : ℕ → Bool) (name : List ℕ) → AreLawfulNodes (placement_of fixed) →
-    IsTrue (is_ready fixed (count_by hears fixed.nodes)) →
-    quorum_of (placed (placement_of fixed) name) ≤ count_by hears (placed (placement_of fixed) name).members
 
 -- how Redis says whether a cluster can serve: ok or fail
 abbrev pub state_word : Bool → List ℕ
@@ -123,18 +97,26 @@ name_lines node mover digest epoch = concat (
     codes "# Node\r\nprogram:casd\r\nnode:" ∷ decimal node ∷ codes "\r\nmover:" ∷ decimal mover
     ∷ codes "\r\ncluster:" ∷ hexadecimal_text digest ∷ codes "\r\nepoch:" ∷ decimal epoch ∷ codes "\r\n" ∷ [])
 
--- the lines with the numbers of objects, of bytes that their banks store, of connections, and of open calls
-abbrev pub size_lines : (objects bytes clients calls : ℕ) → List ℕ
-size_lines objects bytes clients calls = concat (
+-- the lines with the numbers of objects, of bytes that their banks store, of closed banks, of connections, and of open
+-- calls
+abbrev pub size_lines : (objects bytes closed clients calls : ℕ) → List ℕ
+size_lines objects bytes closed clients calls = concat (
     codes "objects:" ∷ decimal objects ∷ codes "\r\nbytes_stored:" ∷ decimal bytes
+    ∷ codes "\r\nclosed_banks:" ∷ decimal closed
     ∷ codes "\r\nclients:" ∷ decimal clients ∷ codes "\r\ncalls_open:" ∷ decimal calls ∷ codes "\r\n" ∷ [])
 
--- the lines with what a node has counted; `dropped` and `foreign` are as in `lost_lines`
-abbrev pub count_lines : Counts → (dropped foreign : ℕ) → List ℕ
-count_lines counts dropped foreign = concat (
+-- the lines with how many commands were answered and calls were given up; `dropped` is as in `lost_lines`
+abbrev pub count_lines : Counts → (dropped : ℕ) → List ℕ
+count_lines counts dropped = concat (
     codes "commands_answered:" ∷ decimal counts.answered ∷ codes "\r\ncalls_given_up:" ∷ decimal counts.given_up
-    ∷ codes "\r\nframes_dropped:" ∷ decimal dropped ∷ codes "\r\nframes_of_other_clusters:" ∷ decimal foreign
-    ∷ codes "\r\nbytes_of_the_log:" ∷ decimal counts.log_bytes ∷ codes "\r\n" ∷ [])
+    ∷ codes "\r\nframes_dropped:" ∷ decimal dropped ∷ codes "\r\n" ∷ [])
+
+-- the lines with how many messages came of nodes with another cluster file, how many requests for fragments closed
+-- banks have declined, and how many bytes the log has
+abbrev pub other_lines : (foreign declined log_bytes : ℕ) → List ℕ
+other_lines foreign declined log_bytes = concat (
+    codes "frames_of_other_clusters:" ∷ decimal foreign ∷ codes "\r\nfetches_declined:" ∷ decimal declined
+    ∷ codes "\r\nbytes_of_the_log:" ∷ decimal log_bytes ∷ codes "\r\n" ∷ [])
 
 -- the lines with the nodes of the cluster file, each behind a space, and an empty line
 abbrev pub file_lines : (nodes later : List ℕ) → List ℕ
@@ -179,13 +161,17 @@ keyspace_section names =
 abbrev pub stored_bytes : Keeper → ℕ
 stored_bytes keeper = min (bytes_in_banks keeper.objects) (2 ^ 64 - 1)
 
--- how many banks a node keeps, or 2^64 - 1 if there are more
+-- how many open banks a node keeps, or 2^64 - 1 if there are more
 abbrev pub kept_banks : Keeper → ℕ
 kept_banks keeper = min (open_banks keeper.objects) (2 ^ 64 - 1)
 
 -- how many tags these banks know, or 2^64 - 1 if there are more
 abbrev pub kept_tags : Keeper → ℕ
 kept_tags keeper = min (known_tags keeper.objects) (2 ^ 64 - 1)
+
+-- how many closed banks a node keeps, or 2^64 - 1 if there are more
+abbrev pub kept_closed : Keeper → ℕ
+kept_closed keeper = min (closed_banks keeper.objects) (2 ^ 64 - 1)
 
 -- how many of these nodes a node hears
 abbrev pub count_heard : Keeper → Peers → List ℕ → ℕ
@@ -217,8 +203,9 @@ cluster_section keeper peers calls moves counts =
 abbrev pub about_node : Keeper → Peers → (clients calls : ℕ) → Counts → List ℕ
 about_node keeper peers clients calls counts =
     name_lines keeper.ids.node keeper.file.fixed.mover keeper.digest keeper.ids.epoch
-    ++ (size_lines (length (heard_names keeper.objects)) (stored_bytes keeper) clients calls
-    ++ count_lines counts (frames_dropped peers) peers.foreign)
+    ++ (size_lines (length (heard_names keeper.objects)) (stored_bytes keeper) (kept_closed keeper) clients calls
+    ++ (count_lines counts (frames_dropped peers)
+    ++ other_lines peers.foreign peers.declined counts.log_bytes))
 
 -- the section with the node's own lines
 abbrev pub node_section : Keeper → Peers → (clients calls : ℕ) → Counts → List ℕ

@@ -3,8 +3,10 @@ pub mod Peers
 pub mod Moves
 pub mod Shown
 pub mod Info
+pub mod Ready
 pub mod Replies
 pub mod AtOnce
+pub mod BegunCalls
 pub mod GivenIds
 pub mod Serving
 pub mod Hearing

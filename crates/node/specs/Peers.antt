@@ -4,10 +4,13 @@ use Rattle.std.specs.Prelude.{List, [], ◌∷◌, ◌++◌, length, replicate, 
 use Rattle.std.specs.Prelude.{Option, None, Some, Result, Ok, Err, if◌then◌else◌}
 use Rattle.std.specs.List.{list_any}
 use Rattle.std.specs.Str.{bytes_eq}
+use Rattle.letter.specs.declared.letter.NamedLetter.{NamedLetter}
 use Rattle.node_clients.specs.Desk.{one_more_counted}
 use Rattle.node_effects.specs.declared.report.Report.{Report}
 use Rattle.node_effects.specs.Seen.{named_of}
+use Rattle.node_keeper.specs.Declining.{declines}
 use Rattle.node_keeper.specs.Keeping.{heeds, kept_of}
+use Rattle.node_keeper.specs.Objects.{objects_of}
 use Rattle.node_keeper.specs.declared.keeper.Keeper.{Keeper}
 use Rattle.node_messages.specs.Reading.{message_from}
 use Rattle.node_messages.specs.declared.error.Fault.{Fault}
@@ -19,6 +22,7 @@ use Rattle.node_strings.specs.declared.arrival.Arrival.TheVariants as came
 use Rattle.node.specs.Frames.{is_admitted}
 use Rattle.node.specs.declared.drops.Drops.{Drops}
 use Rattle.node.specs.declared.peers.Peers.{Peers}
+use Rattle.node.specs.declared.reception.Reception.{Reception}
 use Rattle.node.specs.declared.peers.TheConstants.{MOST_OTHERS}
 use Rattle.node.specs.declared.silences.TheConstants.{NUMBERS}
 
@@ -35,6 +39,17 @@ abbrev pub silences_after : Heard → (node : ℕ) → List (Option ℕ) → Lis
 silences_after heard node [] = []
 silences_after heard node (silence ∷ more) =
     silence_after (has_heard heard node) silence ∷ silences_after heard (node + 1) more
+
+-- What becomes of letters
+
+-- what becomes of a letter at a node that keeps this: whether the node heeds it, and whether it is a request that the
+-- node serves, and to which its closed bank sends no reply
+abbrev pub reception_of : Keeper → NamedLetter → Reception
+reception_of keeper it =
+    let heeded = heeds (kept_of keeper) (named_of it) in record {
+      is_heeded = heeded;
+      is_declined = heeded && declines (objects_of keeper.objects it.name) it.letter;
+    }
 
 -- Dropped frames
 
@@ -71,6 +86,7 @@ pub record KnowsNothing (peers : Peers) : Type 0 where
   pub silences : peers.silences ≡ replicate NUMBERS None
   pub foreign : peers.foreign ≡ 0
   pub drops : peers.drops ≡ none_dropped
+  pub declined : peers.declined ≡ 0
   pub others : peers.others.items ≡ []
   pub told : peers.told ≡ 0
 
@@ -114,18 +130,23 @@ pub record HasNoted (other : Report) (old new : Peers) : Type 0 where
   pub silences : new.silences ≡ old.silences
   pub foreign : new.foreign ≡ one_more_counted old.foreign
   pub drops : new.drops ≡ old.drops
+  pub declined : new.declined ≡ old.declined
   pub others : new.others.items ≡ with_other old.others.items other
   pub told : new.told ≡ old.told
 
--- what the letter of a message that is admitted changes: the message is counted unless the node heeds the letter
-abbrev pub after_letter : (heeded : Bool) → Peers → Peers
-after_letter heeded peers = record peers { drops = with_letter heeded peers.drops }
+-- what the letter of a message that is admitted changes, by what becomes of it: the message is counted among those that
+-- were dropped unless the node heeds the letter, and among those that were declined if its closed bank declines it
+abbrev pub after_letter : Reception → Peers → Peers
+after_letter reception peers = record peers {
+  drops = with_letter reception.is_heeded peers.drops;
+  declined = if reception.is_declined then one_more_counted peers.declined else peers.declined;
+}
 
--- what a message of a node with the same cluster file changes: it is counted unless it is admitted and its letter is
--- heeded
-abbrev pub after_message : (admitted heeded : Bool) → Peers → Peers
-after_message admitted heeded peers =
-    if admitted then after_letter heeded peers else record peers { drops = with_not_admitted peers.drops }
+-- what a message of a node with the same cluster file changes: it is counted as dropped if it is not admitted, and
+-- otherwise by what becomes of its letter
+abbrev pub after_message : (admitted : Bool) → Reception → Peers → Peers
+after_message admitted reception peers =
+    if admitted then after_letter reception peers else record peers { drops = with_not_admitted peers.drops }
 
 -- what a message changes: one of a node with another cluster file was noted; with any other, these are the peers after
 abbrev pub HasNotedIf : (foreign : Bool) → (other : Report) → (after old new : Peers) → Type 0
@@ -136,7 +157,7 @@ HasNotedIf false other after old new = new ≡ after
 abbrev pub IsChangedByMessage : Keeper → (sender : ℕ) → NodeMessage → (old new : Peers) → Type 0
 IsChangedByMessage keeper sender message old new =
     HasNotedIf (is_foreign keeper message) (report_of keeper sender message)
-    (after_message (is_admitted keeper sender message) (heeds (kept_of keeper) (named_of message.named)) old) old new
+    (after_message (is_admitted keeper sender message) (reception_of keeper message.named) old) old new
 
 -- what a frame of a node changes: if it was read, what the message changes; otherwise it is counted
 abbrev pub IsChangedIfRead : Keeper → (sender : ℕ) → Result NodeMessage Fault → (old new : Peers) → Type 0
@@ -145,7 +166,8 @@ IsChangedIfRead keeper sender (Err fault) old new = new ≡ record old { drops =
 
 -- What changes with what has come: at a tick, the nodes that the host hears, and the silences; with a message of a node
 -- that has another cluster file, the count of these messages, and the nodes of which is told; with any other frame that
--- is dropped, the count for its cause. So each frame that is dropped counts once. Nothing changes with anything else.
+-- is dropped, the count for its cause; and with a request that a closed bank declines, the count of these. So each
+-- frame that is dropped counts once. Nothing changes with anything else, nor with a letter of the node to itself.
 abbrev pub IsChangedBy : Option Arrival → Keeper → (old new : Peers) → Type 0
 IsChangedBy (Some (came.Tick heard)) keeper old new = new ≡ with_tick heard old
 IsChangedBy (Some (came.Message sender frame)) keeper old new =

@@ -10,6 +10,7 @@ use Rattle.client_commands.specs.declared.command.Command.TheVariants as ask
 use Rattle.node_strings.specs.Strings.{Strings}
 use Rattle.node_effects.specs.Work.{IsGrown}
 use Rattle.node_effects.specs.declared.notice.Notice.{Notice}
+use Rattle.node_effects.specs.declared.output.Output.{Output}
 use Rattle.node_effects.specs.declared.work.Work.{Work}
 use Rattle.node_clients.specs.Connections.{asked, doing, waiting_on}
 use Rattle.node_clients.specs.declared.next.Next.{Next}
@@ -26,6 +27,7 @@ use Rattle.node_clients.specs.declared.open_call.OpenCall.{OpenCall}
 use Rattle.node_keeper.specs.declared.delivered.Begun.{Begun}
 use Rattle.node_keeper.specs.declared.delivered.Begun.TheVariants as begun
 use Rattle.node.specs.AtOnce.{IsAtOnce, IsCarriedOut, IsFirstDone}
+use Rattle.node.specs.BegunCalls.{HasPutOut}
 use Rattle.node.specs.GivenIds.{UseIds, UsesIds}
 use Rattle.node.specs.Replies.{IsRight}
 use Rattle.node.specs.declared.node.Node.{Node}
@@ -74,11 +76,12 @@ pub record ServesClients (old : Node) (before : Work) (services : List Service) 
   pub file : new.keeper.file ≡ old.keeper.file
   pub number : new.keeper.ids.node ≡ old.keeper.ids.node
 
--- the node did some services that follow up
+-- the node did some services that follow up, and put out what it puts out for the calls that they begin
 pub record ServesMore (old : Node) (before : Work) (new : Node) (after : Work) : Type 0 where
   pub services : List Service
   pub serves : ServesClients old before services new after
   pub follows : AllByRecursion FollowsUp services
+  pub put_out : AllByRecursion (HasPutOut old.keeper after.outputs.items) services
 
 -- the node did some services that follow up; if a client's connection was idle, the first of them carries out the
 -- first command that waited there
@@ -88,7 +91,8 @@ pub record ServesNext (client : ℕ) (old : Node) (before : Work) (new : Node) (
       waiting_on (connection_of old.desk client) ≡ next ∷ waiting →
       IsFirstDone old.keeper old.peers (index_map_len old.desk.calls) old.desk.counts client next more.services
 
--- the node did the services for what came, and then some that follow up
+-- the node did the services for what came, and then some that follow up, and put out what it puts out for the calls
+-- that these begin
 pub record ServesArrival (came : Option Arrival) (old : Node) (before : Work) (new : Node) (after : Work) : Type 0 where
   pub coming : List Service
   pub more : List Service
@@ -96,11 +100,12 @@ pub record ServesArrival (came : Option Arrival) (old : Node) (before : Work) (n
   pub follows : AllByRecursion FollowsUp more
   pub at_once : IsAtOnce came old.keeper old.peers old.desk more
   pub serves : ServesClients old before (coming ++ more) new after
+  pub put_out : AllByRecursion (HasPutOut old.keeper after.outputs.items) more
 
--- the same since the node was `first`, when its work was empty: these are all frames that clients are sent, and all
--- notices of what they see
-pub record ServedSince (came : Option Arrival) (first now : Node) (frames : List Strings)
-    (seen : List Notice) : Type 0 where
+-- the same since the node was `first`, when its work was empty: these are all frames that clients are sent, all notices
+-- of what they see, and all that the node put out
+pub record ServedSince (came : Option Arrival) (first now : Node) (frames : List Strings) (seen : List Notice)
+    (outputs : List Output) : Type 0 where
   pub coming : List Service
   pub more : List Service
   pub comes : IsComing first.desk came coming
@@ -112,7 +117,9 @@ pub record ServedSince (came : Option Arrival) (first now : Node) (frames : List
   pub ids : UseIds first.keeper.ids (coming ++ more) now.keeper.ids
   pub answers : frames ≡ all_frames (coming ++ more)
   pub notices : seen ≡ all_notices (coming ++ more)
+  pub put_out : AllByRecursion (HasPutOut first.keeper outputs) more
   pub file : now.keeper.file ≡ first.keeper.file
+  pub digest : now.keeper.digest ≡ first.keeper.digest
   pub number : now.keeper.ids.node ≡ first.keeper.ids.node
 
 -- Commands
@@ -127,7 +134,8 @@ IsCommandDone old client next (Service.Quits other) new =
     (other ≡ client) × (asked next ≡ Ok ask.Quit) × HasQuit old client new
 IsCommandDone old client next service new = ⊥
 
--- the node carried out a client's command, with which the client's connection is busy: it did one service
+-- the node carried out a client's command, with which the client's connection is busy: it did one service, and if this
+-- began a call, put out what it puts out then
 pub record ServesCommand (client : ℕ) (next : Next) (old : Node) (before : Work) (new : Node)
     (after : Work) : Type 0 where
   pub service : Service
@@ -137,6 +145,7 @@ pub record ServesCommand (client : ℕ) (next : Next) (old : Node) (before : Wor
   pub told : after.to_clients.items ≡ before.to_clients.items ++ service_frames service
   pub due : after.due.items ≡ before.due.items ++ service_dues service
   pub notices : after.notices.items ≡ before.notices.items ++ service_notices service
+  pub put_out : HasPutOut old.keeper after.outputs.items service
   pub file : new.keeper.file ≡ old.keeper.file
   pub ids : UsesIds old.keeper.ids service new.keeper.ids
 

@@ -5,9 +5,9 @@ ghost use Rattle.node.specs.Anew.{AnewGivesCopies, HandledFramesKeepOwn, Handled
 ghost use Rattle.node.specs.Anew.{OwnCallsAreDistinct, RecoveredEntriesKeepOwn, StartedNodesKeepOwn};
 ghost use Rattle.node.specs.Anew.{StartingNodesHaveOwn};
 ghost use Rattle.node.specs.IdsLeft.{HandledFramesUseIds, IdsAreLeft, NodesRunOutOfIds};
-ghost use Rattle.node.specs.Info.{ReadyNodesHearQuorums};
 ghost use Rattle.node.specs.OpenMoves.{DesksHaveTheOpenMoves, StartedDesksHaveTheOpenMoves};
 ghost use Rattle.node.specs.Peers.{DroppedFramesCountOnce, OthersAreToldOnce};
+ghost use Rattle.node.specs.Ready.{ReadyNodesHearQuorums};
 
 /// A law: what a new node has from the entries that `Node::entries_anew` returns is a copy of the node.
 pub fn anew_gives_copies()

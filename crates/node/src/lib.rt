@@ -14,4 +14,5 @@ mod drops;
 mod laws;
 mod node;
 mod peers;
+mod reception;
 mod silences;

@@ -41,6 +41,7 @@ mod machine;
 mod messages;
 mod moves;
 mod peer_lines;
+mod plain;
 mod recovery;
 mod redis;
 mod rewriting;
@@ -189,7 +190,9 @@ impl Node {
             → HasActed asker got first self.old.keeper work.old → HasActed asker got first self.new.keeper work.new) }
         ensures served { OnOk result ((came : Option Came) (first : Was)
             → ServedSince came first self.old work.old.to_clients.items work.old.notices.items
-            → ServedSince came first self.new work.new.to_clients.items work.new.notices.items) }
+            work.old.outputs.items
+            → ServedSince came first self.new work.new.to_clients.items work.new.notices.items
+            work.new.outputs.items) }
         ensures outputs { OnOk result ((first : List Output) → AreFirst first work.old.outputs.items
             → AreFirst first work.new.outputs.items) }
         ensures own { OnOk result (work.new.own.items ≡ []) }
@@ -200,6 +203,7 @@ impl Node {
         ensures refused { IfErr result (λ e. (e ≡ NoMemory) ⊎ ((asker : ℕ) (got : List Named) (came : Option Came)
             (first : Was) → HasActed asker got first.keeper self.old.keeper work.old
             → ServedSince came first self.old work.old.to_clients.items work.old.notices.items
+            work.old.outputs.items
             → FailsBehind asker got came first e)) }
     {
         for _ in 0..u64::MAX {
@@ -218,7 +222,9 @@ impl Node {
             → HasActed asker got first self.old.keeper work.old → HasActed asker got first self.new.keeper work.new) }
         ensures served { OnOk result ((came : Option Came) (first : Was)
             → ServedSince came first self.old work.old.to_clients.items work.old.notices.items
-            → ServedSince came first self.new work.new.to_clients.items work.new.notices.items) }
+            work.old.outputs.items
+            → ServedSince came first self.new work.new.to_clients.items work.new.notices.items
+            work.new.outputs.items) }
         ensures outputs { OnOk result ((first : List Output) → AreFirst first work.old.outputs.items
             → AreFirst first work.new.outputs.items) }
         ensures own { IfOk result (λ more. more ≡ false → work.new.own.items ≡ []) }

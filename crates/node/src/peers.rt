@@ -2,11 +2,12 @@
 ghost use Rattle.std.specs.Prelude.{◌≡◌, ◌≤◌, None, IfErr, OnOk, get_or, length};
 ghost use Rattle.std.specs.List.{count_by};
 ghost use Rattle.node_effects.specs.declared.error.NodeError.TheVariants.{NoMemory};
-ghost use Rattle.node.specs.Info.{hears_now};
-ghost use Rattle.node.specs.Peers.{HasNoted, KnowsNothing, frames_dropped, heard_at, is_known, is_same_report};
-ghost use Rattle.node.specs.Peers.{next_report, with_next_told, with_tick};
+ghost use Rattle.node.specs.Peers.{HasNoted, KnowsNothing, after_letter, frames_dropped, heard_at, is_known};
+ghost use Rattle.node.specs.Peers.{is_same_report, next_report, with_next_told, with_tick};
+ghost use Rattle.node.specs.Ready.{hears_now};
 
 use crate::drops::Drops;
+use crate::reception::Reception;
 use crate::silences::{NUMBERS, count_tick, no_silences};
 use node_effects::{NodeError, Report};
 use node_strings::Heard;
@@ -26,6 +27,8 @@ pub struct Peers {
     pub foreign: u64,
     /// How many frames were dropped for each other cause.
     pub drops: Drops,
+    /// How many requests of other nodes the node's closed banks have declined. The count stops at 2^64 - 1.
+    pub declined: u64,
     /// Nodes with another cluster file, in the order in which they were first heard. A node stands here once for each
     /// digest of its file.
     pub others: Vec<Report>,
@@ -39,6 +42,7 @@ impl Drop for Peers {
             heard: _,
             silences: _,
             drops: _,
+            declined: _,
             foreign: _,
             others: _,
             told: _,
@@ -55,6 +59,7 @@ impl Peers {
             heard: None,
             silences: no_silences(),
             drops: Drops::ZERO,
+            declined: 0,
             foreign: 0,
             others: Vec::new(alloc),
             told: 0,
@@ -112,6 +117,17 @@ impl Peers {
             self.others.push(other)?;
         }
         Ok(())
+    }
+
+    /// A message came that is admitted, and its letter was handled. It counts if the node dropped it, or if a closed
+    /// bank declined it.
+    pub(crate) fn count_letter(&mut self, reception: Reception)
+        ensures { self.new ≡ after_letter reception self.old }
+    {
+        self.drops.count_letter(reception.is_heeded);
+        if reception.is_declined {
+            self.declined = self.declined.saturating_add(1);
+        }
     }
 
     /// Returns how many frames were dropped, for all causes together, or 2^64 - 1 if these are more.

@@ -12,7 +12,7 @@ use Rattle.node_store.specs.Recovery.{HasRecovered, log_bytes}
 use Rattle.node_store.specs.declared.end.LogEnd.{LogEnd}
 use Rattle.node_strings.specs.Strings.{Strings}
 use Rattle.processes.specs.Events.{IsNewNode}
-use Rattle.processes.specs.Programs.{IsReadLog}
+use Rattle.processes.specs.Programs.{IsNewAndIdle, IsReadLog}
 use Rattle.recoveries.specs.Records.{IsStarted}
 use Rattle.node_core.specs.Opening.{HasBegun, HasOpened, HasReadFile, IsOpened, IsUnopened, IsUnread}
 use Rattle.node_core.specs.declared.error.CoreError.{CoreError}
@@ -54,7 +54,7 @@ begun copy node end cut entries (Err error) named started desk those stays lost 
 
 -- a new node carried out the log, and was started
 pub opened_so : (names : FileOfNames) (number : ℕ) (disk : List ℕ) (new copy : Node) (end : LogEnd) (cut : ℕ)
-    (r : Result Opened CoreError) → IsNewNode names number new →
+    (r : Result Opened CoreError) → IsNewAndIdle names number new →
     HasRecovered CarriesOutEntry new copy (Some disk) (Ok end) → cut ≡ length disk - end.length →
     MatchResult r (HasBegun copy end cut) (IsUnbegun copy end) →
     MatchResult r (HasOpened names number disk) (IsUnread names number disk)

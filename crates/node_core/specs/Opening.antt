@@ -14,8 +14,7 @@ use Rattle.node_keeper.specs.Keeping.{kept_of, names_of}
 use Rattle.node_log.specs.Entry.{IsOldHead, chain_behind}
 use Rattle.node_store.specs.Recovery.{HasRecovered, log_bytes}
 use Rattle.node_store.specs.declared.end.LogEnd.{LogEnd}
-use Rattle.processes.specs.Events.{IsNewNode}
-use Rattle.processes.specs.Programs.{IsReadLog}
+use Rattle.processes.specs.Programs.{IsNewAndIdle, IsReadLog}
 use Rattle.recoveries.specs.Records.{IsStarted}
 use Rattle.node_core.specs.declared.error.CoreError.{CoreError}
 use Rattle.node_core.specs.declared.error.CoreError.TheVariants as errors
@@ -70,7 +69,7 @@ pub record HasOpened (names : FileOfNames) (number : ℕ) (disk : List ℕ) (ope
 -- out all, and cannot start; or there is no memory
 abbrev pub IsUnread : FileOfNames → (number : ℕ) → (disk : List ℕ) → CoreError → Type 0
 IsUnread names number disk (errors.BadLog error) =
-    (new copy : Node) × IsNewNode names number new × HasRecovered CarriesOutEntry new copy (Some disk) (Err error)
+    (new copy : Node) × IsNewAndIdle names number new × HasRecovered CarriesOutEntry new copy (Some disk) (Err error)
 IsUnread names number disk (errors.Refused error) =
     (copy : Node) × (end : LogEnd) × IsReadLog names number disk copy end
     × IsNotStarted copy.keeper.digest copy.keeper.ids error

@@ -4,8 +4,7 @@ ghost use Rattle.cluster_file.specs.File.{IsLawfulFile};
 ghost use Rattle.deeds.specs.Kept.{FileOfNames};
 ghost use Rattle.node_log.specs.Entry.{chain_behind};
 ghost use Rattle.node_store.specs.Recovery.{log_bytes};
-ghost use Rattle.processes.specs.Events.{IsNewNode};
-ghost use Rattle.processes.specs.Programs.{IsReadLog};
+ghost use Rattle.processes.specs.Programs.{IsNewAndIdle, IsReadLog};
 ghost use Rattle.node_core.specs.Opening.{HasBegun, HasOpened, HasReadFile, IsOfOldForm, IsOpened};
 ghost use Rattle.node_core.specs.Opening.{IsUnopened, IsUnread};
 ghost use Rattle.node_core.specs.declared.error.CoreError.TheVariants.{NoMemory};
@@ -115,7 +114,7 @@ fn has_old_form(log: &[u8]) -> bool
 
 // A new node carries out the log again, and starts.
 fn open_with(alloc: Global, node: Node, log: &[u8]) -> Result<Opened, CoreError>
-    ensures { (names : FileOfNames) (number : ℕ) → IsNewNode names number node
+    ensures { (names : FileOfNames) (number : ℕ) → IsNewAndIdle names number node
         → MatchResult result (HasOpened names number log.now) (IsUnread names number log.now) }
 {
     let mut node = node;

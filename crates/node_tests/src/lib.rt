@@ -15,6 +15,8 @@ mod closes;
 #[cfg(test)]
 mod commands;
 #[cfg(test)]
+mod declines;
+#[cfg(test)]
 mod deletions;
 #[cfg(test)]
 mod disk;
@@ -24,6 +26,8 @@ mod files;
 mod info;
 #[cfg(test)]
 mod log;
+#[cfg(test)]
+mod logged;
 #[cfg(test)]
 mod memory;
 #[cfg(test)]
@@ -38,6 +42,8 @@ mod objects;
 mod order;
 #[cfg(test)]
 mod pair;
+#[cfg(test)]
+mod passed;
 #[cfg(test)]
 mod rounds;
 #[cfg(test)]

@@ -4,7 +4,7 @@ use bytes::Bytes;
 use frames::Frame;
 use node::Node;
 use node_effects::{Effects, Machine, Output};
-use node_messages::read_message;
+use node_messages::{NodeMessage, read_message};
 use std::alloc::Global;
 use std::process::Abort;
 
@@ -12,7 +12,7 @@ use std::process::Abort;
 #[derive(Drop)]
 pub(crate) struct Pair {
     pub(crate) first: Node,
-    second: Node,
+    pub(crate) second: Node,
     /// What the first node wants done.
     pub(crate) last: Effects,
 }
@@ -36,8 +36,8 @@ pub(crate) fn asked_pair(rt: &impl Abort, alloc: Global, words: &'static str) ->
     }
 }
 
-// A frame to the node of this address, as it comes there from the node of another address.
-fn carried(
+/// Returns a frame to the node of this address, as it comes there from the node of another address.
+pub(crate) fn carried(
     rt: &impl Abort,
     alloc: Global,
     effects: &Effects,
@@ -80,6 +80,7 @@ pub(crate) fn readdressed(
     Frame::new(strings).expect(rt, "a frame")
 }
 
+// Appends these strings, but not the first one.
 fn push_rest(rt: &impl Abort, strings: &mut Vec<Bytes>, sent: &[Bytes]) {
     for string in sent.iter().skip(1) {
         let shared = string.clone().expect(rt, "one more owner");
@@ -89,14 +90,19 @@ fn push_rest(rt: &impl Abort, strings: &mut Vec<Bytes>, sent: &[Bytes]) {
 
 // The position of the start that a message tells which is to be sent, if it tells one.
 fn start_in(rt: &impl Abort, alloc: Global, output: &Output) -> Option<u32> {
-    let mut strings = Vec::new(alloc);
-    push_rest(rt, &mut strings, strings_of(output));
-    let frame = Frame::new(strings).expect(rt, "a frame");
-    let message = read_message(alloc, &frame).expect(rt, "a message");
+    let message = message_in(rt, alloc, strings_of(output));
     match &message.named.letter.start {
         Some(start) => Some(start.position),
         None => None,
     }
+}
+
+/// Returns the message of a frame with these strings, of which the first one is an address.
+pub(crate) fn message_in(rt: &impl Abort, alloc: Global, strings: &[Bytes]) -> NodeMessage {
+    let mut rest = Vec::new(alloc);
+    push_rest(rt, &mut rest, strings);
+    let frame = Frame::new(rest).expect(rt, "a frame");
+    read_message(alloc, &frame).expect(rt, "a message")
 }
 
 impl Pair {

@@ -27,8 +27,8 @@ struct Step {
     /// The strings of the frame, with `|` between them.
     words: &'static str,
     times: u32,
-    /// Frames to the nodes at places below this one are lost.
-    silent: usize,
+    /// Frames to the nodes from the first of these places up to the second are lost.
+    silent: (usize, usize),
     /// The answers that came last, as they are printed for debugging.
     answers: &'static str,
 }
@@ -44,7 +44,7 @@ struct Sent {
 struct Nodes {
     nodes: Vec<Node>,
     mail: VecDeque<Sent>,
-    silent: usize,
+    silent: (usize, usize),
     answers: Vec<Frame>,
 }
 
@@ -66,7 +66,7 @@ fn seven_nodes(rt: &impl Abort, alloc: Global) -> Nodes {
     Nodes {
         nodes,
         mail: VecDeque::new(alloc),
-        silent: 0,
+        silent: ALL_HEAR,
         answers: Vec::new(alloc),
     }
 }
@@ -115,12 +115,18 @@ impl Nodes {
             return;
         };
         let to = place_of(address.as_slice()).expect(rt, "one of the nodes");
-        if to < self.silent {
+        if self.is_silent(to) {
             return;
         }
         let sender = ADDRESSES.get(from).copied().expect(rt, "one of the nodes");
         let frame = readdressed(rt, alloc, output, sender);
         self.mail.push_back(Sent { to, frame }).expect(rt, "memory");
+    }
+
+    // Whether frames to the node at a place are lost.
+    fn is_silent(&self, to: usize) -> bool {
+        let (first, end) = self.silent;
+        first <= to && to < end
     }
 
     fn note(&mut self, answers: Vec<Frame>) {
@@ -132,47 +138,91 @@ impl Nodes {
 
 const OK: &str = "[Frame { strings: [b\"client 1\", b\"+OK\\r\\n\"] }]";
 
+const HELLO: &str = "[Frame { strings: [b\"client 2\", b\"$5\\r\\n\", b\"hello\", b\"\\r\\n\"] }]";
+
+// No node is silent, the nodes of the first layout are, or node 7 is.
+const ALL_HEAR: (usize, usize) = (0, 0);
+
+const FIRST_NODES: (usize, usize) = (0, 3);
+
+const NODE_7: (usize, usize) = (6, 7);
+
+const A_WRITE: Step = Step {
+    node: 3,
+    words: "client 1|SET|a|hello",
+    times: 1,
+    silent: ALL_HEAR,
+    answers: OK,
+};
+
 // Node 7 has not heard of the move, and the nodes of the first layout are silent. At age 8 its read asks all nodes, and
 // those that know the start send it; at age 16 the read goes on there.
 static MEMBERS_ARE_SILENT: [Step; 5] = [
-    Step {
-        node: 3,
-        words: "client 1|SET|a|hello",
-        times: 1,
-        silent: 0,
-        answers: OK,
-    },
+    A_WRITE,
     Step {
         node: 3,
         words: "client 1|MOVE|a|1|4|5|6",
         times: 1,
-        silent: 0,
+        silent: NODE_7,
         answers: OK,
     },
     Step {
         node: 6,
         words: "client 2|GET|a",
         times: 1,
-        silent: 3,
+        silent: FIRST_NODES,
         answers: OK,
     },
     Step {
         node: 6,
         words: "tick",
         times: 15,
-        silent: 3,
+        silent: FIRST_NODES,
         answers: OK,
     },
     Step {
         node: 6,
         words: "tick",
         times: 1,
-        silent: 3,
-        answers: "[Frame { strings: [b\"client 2\", b\"$5\\r\\n\", b\"hello\", b\"\\r\\n\"] }]",
+        silent: FIRST_NODES,
+        answers: HELLO,
     },
 ];
 
 #[test]
 fn the_members_are_silent(rt: HostRuntime) {
     play(&rt, rt.alloc(), &MEMBERS_ARE_SILENT);
+}
+
+// The read with which the move ends asks all nodes. So node 7 has heard of the start, and its read needs none of the
+// nodes of the first layout; and node 1, which has heard of it too, keeps no fragment any more.
+static ALL_HEAR_OF_A_MOVE: [Step; 4] = [
+    A_WRITE,
+    Step {
+        node: 3,
+        words: "client 1|MOVE|a|1|4|5|6",
+        times: 1,
+        silent: ALL_HEAR,
+        answers: OK,
+    },
+    Step {
+        node: 6,
+        words: "client 2|GET|a",
+        times: 1,
+        silent: FIRST_NODES,
+        answers: HELLO,
+    },
+    Step {
+        node: 0,
+        words: "client 3|INFO|memory",
+        times: 1,
+        silent: ALL_HEAR,
+        answers: "[Frame { strings: [b\"client 3\", b\"$35\\r\\n\", b\"# Memory\\r\\nused_memory_dataset:0\\r\\n\
+            \\r\\n\", b\"\\r\\n\"] }]",
+    },
+];
+
+#[test]
+fn all_hear_of_a_move(rt: HostRuntime) {
+    play(&rt, rt.alloc(), &ALL_HEAR_OF_A_MOVE);
 }

@@ -1,4 +1,3 @@
--- The contracts that docs/trusted.md lists do not depend on this file; other contracts and proofs do.
 -- The letter with which a node asks itself to raise the pointer of its bank of a position to final.
 use Rattle.std.specs.Prelude.{ℕ, if◌then◌else◌, Option, None, Some}
 use Rattle.bank.specs.declared.request.Request.TheVariants as request

@@ -12,8 +12,8 @@ use Rattle.processes.specs.Events.{ProcessEvent, number_of, process_after, proce
 use Rattle.processes.specs.Interleaved.{AreOfOthers, IsAsProgram, bytes_of, written_by}
 use Rattle.processes.specs.Loops.{AreOf, HaveEvents, IsBetweenRounds, frames_in, written_in}
 use Rattle.processes.specs.Processes.{Process, Processes}
-use Rattle.processes.specs.Runs.{MayAllHappenTo, processes_run}
-use Rattle.processes.proofs.LeadLemmas.{may_then, run_then}
+use Rattle.processes.specs.Runs.{AreOfPrograms, MayAllHappenTo, processes_run}
+use Rattle.processes.proofs.LeadLemmas.{may_then, programs_then, run_then}
 
 -- Others
 
@@ -38,6 +38,12 @@ others_write number (event ∷ events) processes others =
     ap (λ b. cond b bytes [] ++ written_by number events (processes_after processes event))
     (ne_eqb (number_of event) number others.0)
     ∙ others_write number events (processes_after processes event) others.1
+
+others_programs : (number : ℕ) (events : List ProcessEvent) (processes : Processes) → AreOfOthers number events →
+    AreOfPrograms number events processes
+others_programs number [] processes others = tt
+others_programs number (event ∷ events) processes others =
+    (λ own. absurd (others.0 own), others_programs number events (processes_after processes event) others.1)
 
 -- Own events
 
@@ -72,6 +78,7 @@ module _ (names : FileOfNames) (number : ℕ) (from : Processes) where
       ap (λ (ps : Processes). ps.at number) (run_then done others from)
       ∙ others_leave number others (processes_run done from) are in record {
         may = may;
+        programs = programs_then number done others from at.programs (others_programs number others (processes_run done from) are);
         wrote = subst (λ (t : List ℕ). Appends held now.held t) (sym wrote) at.wrote;
         rests = subst (λ (p : Process). IsBetweenRounds p now.machine now.chain now.kept) (sym same) at.rests;
       }
@@ -80,18 +87,21 @@ module _ (names : FileOfNames) (number : ℕ) (from : Processes) where
   abbrev pub FollowsFrom : (all : List ProcessEvent) → (Holds : (written : List ℕ) → Process → Type 0)
       → (Then : List ProcessEvent → Type 0) → Type 0
   FollowsFrom all Holds Then = (own : List ProcessEvent) (written : List ℕ) → MayAllHappenTo names (all ++ own) from
+      → AreOfPrograms number (all ++ own) from
       → written_by number (all ++ own) from ≡ written_by number all from ++ written
       → Holds written ((processes_run (all ++ own) from).at number) → Then (all ++ own)
 
   pub own_behind : (all : List ProcessEvent) (Holds : (written : List ℕ) → Process → Type 0)
-      (Then : List ProcessEvent → Type 0) → MayAllHappenTo names all from →
+      (Then : List ProcessEvent → Type 0) → MayAllHappenTo names all from → AreOfPrograms number all from →
       HaveEvents names number (processes_run all from) Holds → FollowsFrom all Holds Then →
-      (own : List ProcessEvent) × AreOf number own × MayAllHappenTo names (all ++ own) from × Then (all ++ own)
-  own_behind all Holds Then may have then =
+      (own : List ProcessEvent) × AreOf number own × MayAllHappenTo names (all ++ own) from
+      × AreOfPrograms number (all ++ own) from × Then (all ++ own)
+  own_behind all Holds Then may of have then =
       let own = have.events in
       let at = processes_run all from in
       let both = may_then names all own from may have.may in
+      let programs = programs_then number all own from of have.programs in
       let wrote = by_then number all own from
       ∙ ap (λ (t : List ℕ). written_by number all from ++ t) (own_write number own at have.own) in
       let holds = subst (λ (ps : Processes). Holds (written_in own at) (ps.at number)) (sym (run_then all own from)) have.holds in
-      (own, have.own, both, then own (written_in own at) both wrote holds)
+      (own, have.own, both, programs, then own (written_in own at) both programs wrote holds)

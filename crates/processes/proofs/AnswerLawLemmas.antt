@@ -9,11 +9,11 @@ use Rattle.node_store.specs.Laws.{LeftLogIsRead}
 use Rattle.refinement.specs.Clusters.{NodeCluster}
 use Rattle.refinement.specs.SeenHistories.{IsHistoryOfSeen}
 use Rattle.refinement.proofs.ClusterLemmas.{seen_atomic}
-use Rattle.processes.specs.Answers.{AreOfPrograms, ClientsGetTheirAnswers, SeenHistory, new_talk, talk_in}
+use Rattle.processes.specs.Answers.{ClientsGetTheirAnswers, SeenHistory, new_talk, talk_in}
 use Rattle.processes.specs.Events.{call_begun}
 use Rattle.processes.specs.Laws.{IsClusterOf}
 use Rattle.processes.specs.Processes.{Processes, new_processes}
-use Rattle.processes.specs.Runs.{AreReached}
+use Rattle.processes.specs.Runs.{AreOfPrograms, AreReached}
 use Rattle.processes.proofs.AnswerHistoryLemmas.{answers_all}
 use Rattle.processes.proofs.ProcessLawLemmas.{are_atomic}
 use Rattle.processes.proofs.SeenHistoryLemmas.{seen_last, seen_through}
@@ -56,18 +56,18 @@ module _ (law : LeftLogIsRead) (processes : Processes) (reached : AreReached pro
     };
   }
 
-  talks : AreOfPrograms reached.events new_processes → (number : ℕ) →
+  talks : (number : ℕ) → AreOfPrograms number reached.events new_processes →
       ((client : ℕ) → (talk_in processes reached number client).reused ≡ false) →
       TalksAt number processes (λ client. talk_in processes reached number client)
-  talks of number unused =
+  talks number of unused =
       subst (λ (p : Processes). TalksAt number p (λ client. talk_in processes reached number client)) reached.result
       (all_events reached.names number reached.events new_processes (λ client. new_talk) reached.may of (λ other node e. absurd (cc))
       (λ other. tt) (λ all. begun number) unused)
 
 pub get_answers : LeftLogIsRead → ClientsGetTheirAnswers
-get_answers law processes reached of = (
+get_answers law processes reached = (
   histories law processes reached,
-  λ number unused client small place written e. (let is = talks law processes reached of number unused in
+  λ number of unused client small place written e. (let is = talks law processes reached number of unused in
       let known = (is.each client).replied small in
       answers_all processes.seen (histories law processes reached) (last law processes reached) number client is.file is.ids
       (talk_in processes reached number client).file (is.each client).named

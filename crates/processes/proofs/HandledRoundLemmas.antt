@@ -173,7 +173,7 @@ module _ (names : FileOfNames) (number : ℕ) where
       (all_written_later from event number events were.1) in record {
         to = rest.to;
         leads = leads_on names number from next rest.to [] []
-            (leads_once names number from event refl (old, runs, (bytes, folds.1))) rest.leads;
+            (leads_once names number from event refl (old, runs, (bytes, folds.1)) tt) rest.leads;
         process = rest.process ∙ ap (λ p. after_events p events new) own;
       }
   handles_all (Handles frame effects ∷ events) from old new runs folds were =
@@ -185,7 +185,7 @@ module _ (names : FileOfNames) (number : ℕ) where
       (all_written_later from event number events were.1) in record {
         to = rest.to;
         leads = leads_on names number from next rest.to [] []
-            (leads_once names number from event refl ((old, runs, folds.1), were.0)) rest.leads;
+            (leads_once names number from event refl ((old, runs, folds.1), were.0) tt) rest.leads;
         process = rest.process ∙ ap (λ p. after_events p events new) own
             ∙ handled_after (from.at number) frame effects j new events;
       }

@@ -22,7 +22,7 @@ use Rattle.processes.specs.Interleaved.{GoesOnAmongOthers, IsLeftBehind, written
 use Rattle.processes.specs.Kills.{LeavesEvents}
 use Rattle.processes.specs.Loops.{IsBetweenRounds}
 use Rattle.processes.specs.Processes.{Process, Processes}
-use Rattle.processes.specs.Runs.{MayAllHappenTo, processes_run}
+use Rattle.processes.specs.Runs.{AreOfPrograms, MayAllHappenTo, processes_run}
 use Rattle.processes.proofs.AmongLemmas.{as_among}
 use Rattle.processes.proofs.SessionLawLemmas.{HasEnded, among, ends_among, stops_among}
 use Rattle.processes.proofs.SessionLemmas.{IsAt, round_steps}
@@ -65,6 +65,7 @@ rests_among names number from held last done at others are may brings =
       [],
       tt,
       subst (λ (es : List ProcessEvent). MayAllHappenTo names es from) (sym same) may,
+      subst (λ (es : List ProcessEvent). AreOfPrograms number es from) (sym same) here.programs,
       subst (λ (es : List ProcessEvent). IsLeftBehind held last.held last.kept (written_by number es from)
           ((processes_run es from).at number)) (sym same) holds,
     )
@@ -76,7 +77,7 @@ among_weaker : (names : FileOfNames) (number : ℕ) (from : Processes) (done : L
     GoesOnAmongOthers names number from done AreRead (λ all. P (written_by number all from) ((processes_run all from).at number)) →
     GoesOnAmongOthers names number from done AreRead (λ all. Q (written_by number all from) ((processes_run all from).at number))
 among_weaker names number from done AreRead P Q weaker goes others are may brings =
-    let went = goes others are may brings in (went.0, went.1, went.2, weaker _ _ went.3)
+    let went = goes others are may brings in (went.0, went.1, went.2, went.3, weaker _ _ went.4)
 
 pub rounds_leave : (first : BetweenRounds Node) (new : Node) (left keeps holds : Known)
     (result : Result (Option LogEnd) ServeError) → ServesInRounds HandlesFrame NotesLength first new left keeps holds result →

@@ -12,7 +12,7 @@ use Rattle.refinement.proofs.PlaceLemmas.{get_first}
 use Rattle.processes.specs.Events.{MayHappenTo, ProcessEvent, WasWritten, number_of, processes_after}
 use Rattle.processes.specs.Loops.{AreOf, WasWrittenIn, frames_in, written_in}
 use Rattle.processes.specs.Processes.{Process, Processes, with_process}
-use Rattle.processes.specs.Runs.{MayAllHappenTo, processes_run}
+use Rattle.processes.specs.Runs.{AreOfPrograms, IsOfPrograms, MayAllHappenTo, processes_run}
 
 pub own_process : (at : ℕ → Process) (number : ℕ) (process : Process) → with_process at number process number ≡ process
 own_process at number process = ap (λ b. cond b process (at number)) (eq-eqb number number refl)
@@ -51,6 +51,11 @@ pub may_then : (names : FileOfNames) (xs ys : List ProcessEvent) (from : Process
 may_then names [] ys from first more = more
 may_then names (x ∷ xs) ys from first more = (first.0, may_then names xs ys (processes_after from x) first.1 more)
 
+pub programs_then : (number : ℕ) (xs ys : List ProcessEvent) (from : Processes) → AreOfPrograms number xs from →
+    AreOfPrograms number ys (processes_run xs from) → AreOfPrograms number (xs ++ ys) from
+programs_then number [] ys from first more = more
+programs_then number (x ∷ xs) ys from first more = (first.0, programs_then number xs ys (processes_after from x) first.1 more)
+
 pub written_then : (xs ys : List ProcessEvent) (from : Processes) →
     written_in (xs ++ ys) from ≡ written_in xs from ++ written_in ys (processes_run xs from)
 written_then [] ys from = refl
@@ -65,18 +70,21 @@ module _ (names : FileOfNames) (number : ℕ) where
     pub events : List ProcessEvent
     pub own : AreOf number events
     pub may : MayAllHappenTo names events from
+    pub programs : AreOfPrograms number events from
     pub writes : written_in events from ≡ written
     pub ends : processes_run events from ≡ to
 
   pub leads_nowhere : (at : Processes) → LeadsTo at [] at
-  leads_nowhere at = record { events = []; own = tt; may = tt; writes = refl; ends = refl }
+  leads_nowhere at = record { events = []; own = tt; may = tt; programs = tt; writes = refl; ends = refl }
 
   pub leads_once : (from : Processes) (event : ProcessEvent) → number_of event ≡ number → MayHappenTo names from event →
+      IsOfPrograms from event →
       LeadsTo from (flat_map frame_bytes (frames_in (from.at (number_of event)) event)) (processes_after from event)
-  leads_once from event own may = record {
+  leads_once from event own may program = record {
     events = event ∷ [];
     own = (own, tt);
     may = (may, tt);
+    programs = (λ is. program, tt);
     writes = append-nil (flat_map frame_bytes (frames_in (from.at (number_of event)) event));
     ends = refl;
   }
@@ -88,6 +96,8 @@ module _ (names : FileOfNames) (number : ℕ) where
     own = all_append (λ event. number_of event ≡ number) first.events more.events first.own more.own;
     may = may_then names first.events more.events from first.may
         (subst (λ at. MayAllHappenTo names more.events at) (sym first.ends) more.may);
+    programs = programs_then number first.events more.events from first.programs
+        (subst (λ at. AreOfPrograms number more.events at) (sym first.ends) more.programs);
     writes = written_then first.events more.events from
         ∙ ap (λ (t : List ℕ). t ++ written_in more.events (processes_run first.events from)) first.writes
         ∙ ap (λ at. xs ++ written_in more.events at) first.ends

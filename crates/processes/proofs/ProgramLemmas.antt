@@ -4,6 +4,7 @@ use Rattle.std.proofs.Common.{refl, sym, subst, ap, ◌∙◌, append_assoc, app
 use Rattle.std.specs.List.{AllByRecursion, FoldsTo}
 use Rattle.std.specs.Io.KnownBytes.{Appends, Keeps}
 use Rattle.deeds.specs.Kept.{FileOfNames}
+use Rattle.node_clients.specs.Desk.{NoneWaits}
 use Rattle.node_log.specs.Entry.{chain_behind, first_chain}
 use Rattle.node_strings.specs.Strings.{Strings}
 use Rattle.node.specs.Anew.{CarriesOutAll}
@@ -84,6 +85,7 @@ pub record StartedSo (process : Process) (number : ℕ) (names : FileOfNames) (n
   pub new : Node
   pub copy : Node
   pub may : MayStart names number process read anew new copy node
+  pub idle : NoneWaits new.desk.clients []
   pub sound : HasWholeLog (started_process process read anew copy node)
   pub bytes : keeps ≡ Some (log_bytes first_chain (started_process process read anew copy node).log)
   pub chained : chain ≡ chain_behind first_chain (started_process process read anew copy node).log
@@ -105,7 +107,7 @@ started_so law processes reached number disk node chain keeps stopped left start
       left = left;
       whole = carried.0;
       begins = carried.3;
-      is_new = start.is_new;
+      is_new = start.is_new.new;
       recovered = carried_all start.new copy read carried.1;
       rewritten = start.renewed;
       named = start.named;
@@ -120,6 +122,7 @@ started_so law processes reached number disk node chain keeps stopped left start
       new = start.new;
       copy = copy;
       may = may;
+      idle = start.is_new.idle;
       sound = started_whole names number process read start.anew start.new copy node
           (read_first law names number process read start.anew start.new copy node (reached_whole law processes reached number) may) may;
       bytes = log_grows log (start_entries copy) start.then.chain.state start.kept keeps found.bytes found.chained
@@ -148,8 +151,8 @@ starts_are_events law processes reached number disk node chain keeps stopped lef
     own_process next.at number (record (next.at number) { synced = count })
     ∙ ap (λ (p : Process). record p { synced = count }) own in
     have_events names number processes to [] (λ written at. (written ≡ []) × IsBetweenRounds at node chain keeps)
-    (leads_on names number processes next to [] [] (leads_once names number processes event refl so.may)
-    (leads_once names number next syncs refl within)) (
+    (leads_on names number processes next to [] [] (leads_once names number processes event refl so.may so.idle)
+    (leads_once names number next syncs refl within tt)) (
       refl,
       record {
         runs = ap (λ (p : Process). p.running) same;
@@ -167,7 +170,7 @@ rewrites_are_events names number processes node chain kept keeps entries end res
     let same : to.at number ≡ rewritten_process (processes.at number) entries =
     own_process processes.at number (rewritten_process (processes.at number) entries) in
     have_events names number processes to [] (λ written at. (written ≡ []) × IsBetweenRounds at node end.chain.state keeps)
-    (leads_once names number processes event refl ((node, rests.runs, anew), rests.synced)) (
+    (leads_once names number processes event refl ((node, rests.runs, anew), rests.synced) rests.told) (
       refl,
       record {
         runs = ap (λ (p : Process). p.running) same ∙ rests.runs;

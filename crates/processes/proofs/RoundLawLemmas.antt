@@ -50,6 +50,7 @@ module _ (names : FileOfNames) (number : ℕ) where
     events = leads.events;
     own = leads.own;
     may = leads.may;
+    programs = leads.programs;
     holds = subst (λ (at : Processes). Holds (written_in leads.events from) (at.at number)) (sym leads.ends)
         (subst (λ (t : List ℕ). Holds t (to.at number)) (sym leads.writes) holds);
   }
@@ -82,7 +83,7 @@ module _ (names : FileOfNames) (number : ℕ) where
       subst (λ (p : Process). (p.synced ≤ count) × (count ≤ length p.log)) (sym handled.process)
       (subst (λ (s : ℕ). s ≤ count) (sym rests.synced) least, most) in record {
         to = to;
-        leads = leads_on names number from handled.to to [] [] handled.leads (leads_once names number handled.to event refl within);
+        leads = leads_on names number from handled.to to [] [] handled.leads (leads_once names number handled.to event refl within tt);
         runs = ap (λ (p : Process). p.running) same;
         log = ap (λ (p : Process). p.log) same;
         synced = ap (λ (p : Process). p.synced) same;

@@ -74,6 +74,7 @@ half_exchanged names number processes last keeps rests (entries, anew, either) =
           events = have.events;
           own = have.own;
           may = have.may;
+          programs = have.programs;
           holds = (have.holds.0, (last.machine, end.chain.state, have.holds.1));
         }
 
@@ -111,7 +112,7 @@ module _ (names : FileOfNames) (number : ℕ) (from : Processes) (first : Betwee
     among = serves_among names number from first.held steps first last []
         (λ done. GoesOnAmongOthers names number from done (AreRead last)
         (λ all. Holds (written_by number all from) ((processes_run all from).at number))) (record {
-          is = record { may = tt; wrote = appends_none first.held; rests = rests };
+          is = record { may = tt; programs = tt; wrote = appends_none first.held; rests = rests };
           input = input;
           known = known;
         }) taken goes;
@@ -132,8 +133,8 @@ module _ (names : FileOfNames) (number : ℕ) (from : Processes) (first : Betwee
       last.held holds (Ok false)) at.known serves)
       (subst (λ (had : Known). BringsWritten (processes_run all from) number (λ events. ReadsFrames had left events false))
       at.known brings) in
-      own_behind names number from all _ (HoldsOf number from (HasEnded first.held new keeps holds)) may have
-      (λ own written both wrote rested. (
+      own_behind names number from all _ (HoldsOf number from (HasEnded first.held new keeps holds)) may here.programs have
+      (λ own written both programs wrote rested. (
         subst (λ (t : List ℕ). Appends first.held holds t) (sym wrote)
             (appends_then first.held last.held holds (written_by number all from) written here.wrote rested.0),
         (then, rested.1),
@@ -154,8 +155,8 @@ module _ (names : FileOfNames) (number : ℕ) (from : Processes) (first : Betwee
       error) at.known stops)
       (subst (λ (had : Known). BringsWritten (processes_run all from) number
       (λ events. HadLeft (BeginsWithFrames events (StopsServing error)) had)) at.known brings) in
-      own_behind names number from all _ (HoldsOf number from (IsLeftBehind first.held holds keeps)) may have
-      (λ own written both wrote stopped. (
+      own_behind names number from all _ (HoldsOf number from (IsLeftBehind first.held holds keeps)) may here.programs have
+      (λ own written both programs wrote stopped. (
         subst (λ (t : List ℕ). AppendsFront first.held holds t) (sym wrote)
             (fronts_then first.held last.held holds (written_by number all from) written here.wrote stopped.0),
         stopped.1,
@@ -171,8 +172,8 @@ module _ (names : FileOfNames) (number : ℕ) (from : Processes) (first : Betwee
       let all = done ++ others in
       let here = as_among names number from first.held last done others are may at.is in
       let have = half_exchanged names number (processes_run all from) last keeps here.rests half in
-      own_behind names number from all _ (HoldsOf number from (HasBroken first.held keeps holds)) may have
-      (λ own written both wrote rested. (
+      own_behind names number from all _ (HoldsOf number from (HasBroken first.held keeps holds)) may here.programs have
+      (λ own written both programs wrote rested. (
         subst (λ (h : Known). Appends first.held h (written_by number (all ++ own) from)) (sym is_held)
             (subst (λ (t : List ℕ). Appends first.held last.held t)
             (sym (wrote ∙ ap (λ (t : List ℕ). written_by number all from ++ t) rested.0))

@@ -85,6 +85,7 @@ renewals_are_events names number processes old new rests renewal =
           events = have.events;
           own = have.own;
           may = have.may;
+          programs = have.programs;
           holds = (
             have.holds.0,
             rests_as ((processes_run have.events processes).at number) old.machine new.machine renewal.then.chain.state
@@ -124,11 +125,12 @@ module _ (names : FileOfNames) (number : ℕ) (from : Processes) (held : Known) 
         new.left now.kept new.kept now.held new.held true here.rests round
         (subst (λ (left : Known). BringsWritten (processes_run all from) number (λ events. ReadsFrames left new.left events true))
         at.known brings) in
-        own_behind names number from all _ (λ them. ServesAmongOthers names number from held steps new them Holds) may have
-        (λ own written both wrote holds. serves_among steps new last (all ++ own) Holds
+        own_behind names number from all _ (λ them. ServesAmongOthers names number from held steps new them Holds) may here.programs have
+        (λ own written both programs wrote holds. serves_among steps new last (all ++ own) Holds
         (record {
           is = record {
             may = both;
+            programs = programs;
             wrote = subst (λ (t : List ℕ). Appends held new.held t) (sym wrote)
                 (appends_then held now.held new.held (written_by number all from) written here.wrote holds.0);
             rests = holds.1;
@@ -143,11 +145,12 @@ module _ (names : FileOfNames) (number : ℕ) (from : Processes) (held : Known) 
         let all = done ++ others in
         let here = as_among names number from held now done others are may at.is in
         let have = renewals_are_events names number (processes_run all from) now new here.rests taken.0 in
-        own_behind names number from all _ (λ them. ServesAmongOthers names number from held steps new them Holds) may have
-        (λ own written both wrote holds. serves_among steps new last (all ++ own) Holds
+        own_behind names number from all _ (λ them. ServesAmongOthers names number from held steps new them Holds) may here.programs have
+        (λ own written both programs wrote holds. serves_among steps new last (all ++ own) Holds
         (record {
           is = record {
             may = both;
+            programs = programs;
             wrote = subst (λ (t : List ℕ). Appends held new.held t)
                 (sym (wrote ∙ ap (λ (t : List ℕ). written_by number all from ++ t) holds.0))
                 (appends_then held now.held new.held (written_by number all from) [] here.wrote

@@ -5,6 +5,7 @@ use Rattle.std.proofs.lemmas.List.{take-append-drop}
 use Rattle.std.specs.Io.KnownBytes.{Appends}
 use Rattle.deeds.specs.CallId.{with_next_epoch}
 use Rattle.deeds.specs.Kept.{FileOfNames}
+use Rattle.node_clients.specs.Desk.{NoneWaits}
 use Rattle.recoveries.specs.Records.{IsStarted}
 use Rattle.node.specs.Anew.{AreAnew}
 use Rattle.node.specs.Starts.{CanBeNamed, HasMoreEpochs, start_entries}
@@ -45,10 +46,10 @@ stays names number processes keeps now stopped is left =
 -- the process starts and stops again
 starts_and_stops : (names : FileOfNames) (number : ℕ) (processes : Processes) (read : List Strings)
     (anew : Option (List Strings)) (new copy after : Node) (keeps : Known) (now : List ℕ) →
-    MayStart names number (processes.at number) read anew new copy after → keeps ≡ Some now →
+    MayStart names number (processes.at number) read anew new copy after → NoneWaits new.desk.clients [] → keeps ≡ Some now →
     IsLeft (found_log read anew ++ start_entries copy) (found_synced (processes.at number).synced anew) now →
     HaveEvents names number processes (Leaves keeps)
-starts_and_stops names number processes read anew new copy after keeps now may is left =
+starts_and_stops names number processes read anew new copy after keeps now may idle is left =
     let event = ProcessEvent.Starts number read anew new copy after in
     let next = processes_after processes event in
     let started = started_process (processes.at number) read anew copy after in
@@ -59,8 +60,8 @@ starts_and_stops names number processes read anew new copy after keeps now may i
     ∙ ap (λ (p : Process). record p { running = None; frames = []; answers = [] })
     (own_process processes.at number started) in
     have_events names number processes to [] (Leaves keeps)
-    (leads_on names number processes next to [] [] (leads_once names number processes event refl may)
-    (leads_once names number next stops refl tt)) (
+    (leads_on names number processes next to [] [] (leads_once names number processes event refl may idle)
+    (leads_once names number next stops refl tt tt)) (
       refl,
       (
         ap (λ (p : Process). p.running) same,
@@ -151,13 +152,14 @@ module _ (law : LeftLogIsRead) (processes : Processes) (reached : AreReached pro
           left = left;
           whole = found.recovered.1.0;
           begins = found.recovered.1.3;
-          is_new = found.is_new;
+          is_new = found.is_new.new;
           recovered = carried_all found.new copy read found.recovered.1.1;
           rewritten = are;
           named = named;
           started = started;
           desk = desk;
         })
+        found.is_new.idle
         (log_grows log (start_entries copy) then.chain.state between keeps is.bytes is.chained added appends)
         (left_grown log (start_entries copy) (found_synced (processes.at number).synced anew) added back (fits anew)
         (ap (λ (c : ℕ). log_bytes c (start_entries copy)) (sym is.chained) ∙ bytes))

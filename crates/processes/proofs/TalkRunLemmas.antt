@@ -6,12 +6,12 @@ use Rattle.deeds.specs.Deeds.{Notice}
 use Rattle.deeds.specs.Kept.{FileOfNames}
 use Rattle.node.specs.declared.node.Node.{Node}
 use Rattle.node_strings.specs.Arrival.{arrival_at}
-use Rattle.processes.specs.Answers.{AreOfPrograms, IsOfPrograms, Talk, answers_to, own_talk_after, passed_at, talk_after, talk_of}
+use Rattle.processes.specs.Answers.{Talk, answers_to, own_talk_after, passed_at, talk_after, talk_of}
 use Rattle.processes.specs.Events.{MayHappenTo, ProcessEvent, first_told, number_of, process_after, processes_after}
 use Rattle.processes.specs.Events.{seen_in}
 use Rattle.processes.specs.Loops.{first_frames}
 use Rattle.processes.specs.Processes.{Process, Processes}
-use Rattle.processes.specs.Runs.{MayAllHappenTo, processes_run}
+use Rattle.processes.specs.Runs.{AreOfPrograms, IsOfPrograms, MayAllHappenTo, processes_run}
 use Rattle.processes.proofs.ServiceAnswerLemmas.{HasDeskIf}
 use Rattle.processes.proofs.ServiceIdLemmas.{was_not}
 use Rattle.processes.proofs.StartedTalkLemmas.{started_desk}
@@ -95,8 +95,8 @@ own_event names processes (ProcessEvent.Stops number) talks may of all only know
 -- Any event
 
 one_event : (names : FileOfNames) (processes : Processes) (event : ProcessEvent) (number : ℕ) (talks : ℕ → Talk) →
-    MayHappenTo names processes event → IsOfPrograms processes event → AllOwn processes → AllTellOnly processes →
-    TalksIf number processes talks → TalksIf number (processes_after processes event)
+    MayHappenTo names processes event → (number_of event ≡ number → IsOfPrograms processes event) → AllOwn processes →
+    AllTellOnly processes → TalksIf number processes talks → TalksIf number (processes_after processes event)
     (λ client. talk_after number client processes event (talks client))
 one_event names processes event number talks may of all only known unused = go (eqb (number_of event) number) refl unused
   where
@@ -127,7 +127,7 @@ one_event names processes event number talks may of all only known unused = go (
         subst (λ (p : Process). AreTalks number seen p.running p.answers (own_talks processes event talks)) (sym (own_there (sym same)))
         (subst (λ n. AreTalks n seen (process_after (processes.at own) event).running (process_after (processes.at own) event).answers
         (own_talks processes event talks)) same
-        (own_event names processes event talks may of all only (subst (λ n. TalksIf n processes talks) (sym same) known) unused))
+        (own_event names processes event talks may (of same) all only (subst (λ n. TalksIf n processes talks) (sym same) known) unused))
     go false t unused =
         let differ : own ≡ number → ⊥ = λ same. absurd (let wrong : false ≡ true = sym t ∙ eq-eqb own number same in cc) in
         let is = known unused in
@@ -138,7 +138,7 @@ one_event names processes event number talks may of all only known unused = go (
 -- all events
 
 pub all_events : (names : FileOfNames) (number : ℕ) (events : List ProcessEvent) (processes : Processes) (talks : ℕ → Talk) →
-    MayAllHappenTo names events processes → AreOfPrograms events processes → AllOwn processes → AllTellOnly processes →
+    MayAllHappenTo names events processes → AreOfPrograms number events processes → AllOwn processes → AllTellOnly processes →
     TalksIf number processes talks → TalksIf number (processes_run events processes)
     (λ client. talk_of number client events processes (talks client))
 all_events names number [] processes talks may of all only known = known

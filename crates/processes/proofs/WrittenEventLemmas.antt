@@ -57,7 +57,7 @@ module _ (names : FileOfNames) (number : ℕ) where
         to = rest.to;
         leads = subst (λ (t : List ℕ). LeadsTo names number from (t ++ all_sent outputs) rest.to) (append-nil (frame_bytes frame))
             (leads_on names number from next rest.to (frame_bytes frame ++ []) (all_sent outputs)
-            (leads_once names number from event refl (waits.0, waits.1, waits.2, waits.3, behind)) rest.leads);
+            (leads_once names number from event refl (waits.0, waits.1, waits.2, waits.3, behind) tt) rest.leads);
         process = rest.process ∙ ap (λ (p : Process). record p { answers = (next.at number).answers }) own
             ∙ ap (λ (p : Process). record (from.at number) { answers = p.answers }) own;
       }
@@ -71,7 +71,7 @@ module _ (names : FileOfNames) (number : ℕ) where
       let next = processes_after from event in record {
         to = next;
         leads = subst (λ (them : List WaitingAnswers). LeadsTo names number from (flat_map frame_bytes (first_frames them)) next) waits
-            (leads_once names number from event refl (first, rest, waits, fits));
+            (leads_once names number from event refl (first, rest, waits, fits) tt);
         process = own_process from.at number (record (from.at number) { answers = drop 1 (from.at number).answers })
             ∙ ap (λ (them : List WaitingAnswers). record (from.at number) { answers = drop 1 them }) waits;
       }

@@ -17,7 +17,6 @@ use Rattle.deeds.specs.Deeds.{Notice}
 use Rattle.local_object.specs.declared.progress.Ended.{Ended}
 use Rattle.node.specs.Replies.{IsReplyTo}
 use Rattle.node_clients.specs.Answers.{told_value}
-use Rattle.node_clients.specs.Desk.{NoneWaits}
 use Rattle.node_clients.specs.Served.{call_begun}
 use Rattle.node_strings.specs.Arrival.{arrival_at, client_address}
 use Rattle.node_strings.specs.Strings.{Strings}
@@ -31,7 +30,7 @@ use Rattle.refinement.specs.SeenHistories.{IsHistoryOfSeen}
 use Rattle.processes.specs.Events.{ProcessEvent, first_told, number_of, processes_after}
 use Rattle.processes.specs.Loops.{first_frames}
 use Rattle.processes.specs.Processes.{Processes, new_processes}
-use Rattle.processes.specs.Runs.{AreReached}
+use Rattle.processes.specs.Runs.{AreOfPrograms, AreReached}
 
 -- What passes on a connection
 
@@ -107,19 +106,6 @@ abbrev pub talk_of : (number client : ℕ) → List ProcessEvent → Processes �
 talk_of number client [] processes talk = talk
 talk_of number client (event ∷ events) processes talk =
     talk_of number client events (processes_after processes event) (talk_after number client processes event talk)
-
--- An event is such as the laws of programs make: a new node has no command that waits and may be carried out, and a log
--- is written anew only when no answer waits.
-abbrev pub IsOfPrograms : Processes → ProcessEvent → Type 0
-IsOfPrograms processes (ProcessEvent.Starts number read anew new copy after) = NoneWaits new.desk.clients []
-IsOfPrograms processes (ProcessEvent.Rewrites number entries) = (processes.at number).answers ≡ []
-IsOfPrograms processes event = ⊤
-
--- all these events, one after another, are such
-abbrev pub AreOfPrograms : List ProcessEvent → Processes → Type 0
-AreOfPrograms [] processes = ⊤
-AreOfPrograms (event ∷ events) processes =
-    IsOfPrograms processes event × AreOfPrograms events (processes_after processes event)
 
 -- what has passed on the connection of a client since its process started, in all that has happened
 abbrev pub talk_in : (processes : Processes) → AreReached processes → (number client : ℕ) → Talk
@@ -208,14 +194,13 @@ module _ (seen : List Notice) (histories : (name : List ℕ) → SeenHistory see
 -- The law
 
 -- Whatever the processes of a cluster do and wherever they stop, for each name there is an atomic history of what their
--- clients saw, and each answer that is written to a client is one to the client's own command: at a process that uses
--- the number of no connection twice, the answers on each connection are those to its commands, in their order, and what
--- they say of reads and writes is what these histories say. This is so of programs, whose nodes begin with nothing to
--- do, and which write their logs anew only when no answer waits.
+-- clients saw, and each answer that is written to a client is one to the client's own command: at a process that does
+-- what programs do, and that uses the number of no connection twice, the answers on each connection are those to its
+-- commands, in their order, and what they say of reads and writes is what these histories say.
 abbrev pub ClientsGetTheirAnswers : Type 0
 ClientsGetTheirAnswers = (processes : Processes) (reached : AreReached processes) →
-    AreOfPrograms reached.events new_processes →
     (histories : (name : List ℕ) → SeenHistory processes.seen name)
-    × ((number : ℕ) → ((client : ℕ) → (talk_in processes reached number client).reused ≡ false) →
+    × ((number : ℕ) → AreOfPrograms number reached.events new_processes →
+    ((client : ℕ) → (talk_in processes reached number client).reused ≡ false) →
     (client : ℕ) → client < 2 ^ 64 →
     AnswersItsCommands processes.seen histories number client (talk_in processes reached number client))

@@ -18,7 +18,7 @@ use Rattle.processes.specs.Events.{ProcessEvent, number_of, processes_after}
 use Rattle.processes.specs.Loops.{AreOf, BringsWritten, IsBetweenRounds, frames_in}
 use Rattle.processes.specs.Processes.{Process, Processes}
 use Rattle.processes.specs.Programs.{IsHalfRewritten}
-use Rattle.processes.specs.Runs.{MayAllHappenTo, processes_run}
+use Rattle.processes.specs.Runs.{AreOfPrograms, MayAllHappenTo, processes_run}
 use Rattle.processes.specs.Sessions.{IsRenewal, ServesToEnd, ServesToExchange, ServesToStop}
 
 -- The steps of a program
@@ -67,22 +67,25 @@ written_by number (event ∷ events) processes =
     bytes_of number event processes ++ written_by number events (processes_after processes event)
 
 module _ (names : FileOfNames) (number : ℕ) (from : Processes) where
-  -- These events may happen, one after another. In them, the process of this number has written what the program has
-  -- written, whose output held these bytes at first; and then it rests as the program does.
+  -- These events may happen, one after another. In them, the process of this number does what programs do. It has
+  -- written what the program has written, whose output held these bytes at first; and then it rests as the program
+  -- does.
   pub record IsAsProgram (held : Option (List ℕ)) (now : BetweenRounds Node) (done : List ProcessEvent) : Type 0 where
     pub may : MayAllHappenTo names done from
+    pub programs : AreOfPrograms number done from
     pub wrote : Appends held now.held (written_by number done from)
     pub rests : IsBetweenRounds ((processes_run done from).at number) now.machine now.chain now.kept
 
   -- Whatever other processes do behind these events: if then each message was written that is read now, there are more
-  -- events, of this process alone, which may happen behind all of these; and then this holds of all events.
+  -- events, of this process alone, which may happen behind all of these. What this process does in all events is such
+  -- as programs do it; and then this holds of all events.
   abbrev pub GoesOnAmongOthers : (done : List ProcessEvent) → (AreRead : List LoopEvent → Type 0)
       → (Holds : List ProcessEvent → Type 0) → Type 0
   GoesOnAmongOthers done AreRead Holds = (others : List ProcessEvent) → AreOfOthers number others
       → MayAllHappenTo names (done ++ others) from
       → BringsWritten (processes_run (done ++ others) from) number AreRead
       → (own : List ProcessEvent) × AreOf number own × MayAllHappenTo names ((done ++ others) ++ own) from
-      × Holds ((done ++ others) ++ own)
+      × AreOfPrograms number ((done ++ others) ++ own) from × Holds ((done ++ others) ++ own)
 
   -- the same step by step: before each step, other processes do what they may, and behind each step, the process is as
   -- the program; and behind all steps, this holds of all events

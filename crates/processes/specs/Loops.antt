@@ -18,7 +18,7 @@ use Rattle.node_store.specs.Serving.{StopsEarly, StopsServing}
 use Rattle.node_store.specs.declared.stop.ServeError.{ServeError}
 use Rattle.processes.specs.Events.{ProcessEvent, WasWritten, number_of, processes_after}
 use Rattle.processes.specs.Processes.{Process, Processes, WaitingAnswers}
-use Rattle.processes.specs.Runs.{MayAllHappenTo, processes_run}
+use Rattle.processes.specs.Runs.{AreOfPrograms, MayAllHappenTo, processes_run}
 
 -- What a process writes
 
@@ -66,13 +66,14 @@ BringsWritten processes number AreRead =
 
 -- The laws
 
--- these events may happen to the process of the node of this number, one after another, and then this holds of the
--- bytes that they write and of the process
+-- these events may happen to the process of the node of this number, one after another, and are such as programs make;
+-- and then this holds of the bytes that they write and of the process
 pub record HaveEvents (names : FileOfNames) (number : ℕ) (processes : Processes)
     (Holds : (written : List ℕ) → Process → Type 0) : Type 0 where
   pub events : List ProcessEvent
   pub own : AreOf number events
   pub may : MayAllHappenTo names events processes
+  pub programs : AreOfPrograms number events processes
   pub holds : Holds (written_in events processes) ((processes_run events processes).at number)
 
 -- A round of the loop is a list of events of the process: these write just the bytes that the loop writes, in its

@@ -3,6 +3,7 @@ use Rattle.std.specs.Prelude.{◌≡◌, ◌⊎◌, ◌≤◌, ℕ, List, [], le
 use Rattle.std.specs.Io.KnownBytes.{Appends}
 use Rattle.recoveries.specs.Records.{IsStarted}
 use Rattle.deeds.specs.Kept.{FileOfNames}
+use Rattle.node_clients.specs.Desk.{NoneWaits}
 use Rattle.node_keeper.specs.Keeping.{kept_of}
 use Rattle.node_log.specs.Entry.{chain_behind, first_chain}
 use Rattle.node_strings.specs.Strings.{Strings}
@@ -20,6 +21,11 @@ use Rattle.processes.specs.Events.{AreAnewIf, IsNewNode}
 use Rattle.processes.specs.Loops.{HaveEvents, IsBetweenRounds}
 use Rattle.processes.specs.Processes.{Processes}
 use Rattle.processes.specs.Runs.{AreReached}
+
+-- a new node of this number, as `Node::new` makes it: on its connections, no command waits that may be carried out
+pub record IsNewAndIdle (names : FileOfNames) (number : ℕ) (node : Node) : Type 0 where
+  pub new : IsNewNode names number node
+  pub idle : NoneWaits node.desk.clients []
 
 -- the log, which kept these bytes up to this end, was written anew with these entries, if there are some, and then
 -- keeps those bytes up to that end
@@ -63,7 +69,7 @@ pub record IsStart (names : FileOfNames) (number : ℕ) (disk : List ℕ) (node 
   pub then : LogEnd
   pub anew : Option (List Strings)
   pub kept : Option (List ℕ)
-  pub is_new : IsNewNode names number new
+  pub is_new : IsNewAndIdle names number new
   pub recovered : HasRecovered CarriesOutEntry new copy (Some disk) (Ok end)
   pub renewed : AreAnewIf copy anew
   pub rewritten : IsRewrittenIf anew (Some (take end.length disk)) end kept then
@@ -93,7 +99,7 @@ pub data StartStage : Type 0 where
 -- in these bytes, a new node found entries up to this end, and carried them out
 pub record IsReadLog (names : FileOfNames) (number : ℕ) (disk : List ℕ) (copy : Node) (end : LogEnd) : Type 0 where
   pub new : Node
-  pub is_new : IsNewNode names number new
+  pub is_new : IsNewAndIdle names number new
   pub recovered : HasRecovered CarriesOutEntry new copy (Some disk) (Ok end)
 
 -- A log in which these bytes were found, and which kept those, was to be cut behind so many bytes. Bytes that begin

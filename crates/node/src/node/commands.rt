@@ -1,28 +1,22 @@
 //! What a node does with the commands of its clients.
-ghost use Rattle.std.specs.Prelude.{◌≡◌, ◌∷◌, [], ℕ, List, false, nat_eq, IfErr, IfOk, OnOk, Ok, Some};
-ghost use Rattle.indexmap.specs.IndexMap.{get, index_map_len};
+ghost use Rattle.std.specs.Prelude.{◌≡◌, ◌∷◌, [], ℕ, List, nat_eq, IfErr, OnOk, Ok, Some};
+ghost use Rattle.indexmap.specs.IndexMap.{get};
 ghost use Rattle.node_clients.specs.Connections.{asked, doing};
 ghost use Rattle.node_clients.specs.declared.next.Next.{Next as Waits};
 ghost use Rattle.node_clients.specs.declared.connection.State.TheVariants.{Busy};
-ghost use Rattle.client_commands.specs.Patterns.{names_told};
 ghost use Rattle.client_commands.specs.Deletion.{name_now};
 ghost use Rattle.client_commands.specs.declared.command.Command.TheVariants as ask;
 ghost use Rattle.node_clients.specs.Answers.{TellsClients};
 ghost use Rattle.node_clients.specs.Desk.{NoneWaits};
 ghost use Rattle.node_keeper.specs.Acts.{Acts};
 ghost use Rattle.node_effects.specs.declared.error.NodeError.TheVariants.{NoMemory};
-ghost use Rattle.node.specs.AtOnce.{IsPlainHere};
+ghost use Rattle.node.specs.BegunCalls.{wants_nothing};
 ghost use Rattle.node.specs.Failures.{FailsAsked, FailsNext};
-ghost use Rattle.node.specs.GivenIds.{is_refusal};
-ghost use Rattle.node.specs.Replies.{IsPlainReply};
-ghost use Rattle.node.specs.Shown.{IsPageHere};
 ghost use Rattle.node.specs.Serving.{IsAwaited, ServesCommand, ServesNext};
 
 use super::Node;
 use bytes::Bytes;
-use client_commands::{
-    Answer, AnswerError, Command, Deletion, ScanOptions, Wanted, count_names, matching_names,
-};
+use client_commands::{AnswerError, Command, Deletion, Wanted};
 use node_clients::{Desk, Next, OpenCall};
 use node_effects::{NodeError, Work};
 use node_keeper::Begun;
@@ -93,57 +87,8 @@ impl Node {
         }
     }
 
-    // The answer to a command that begins no call, and is no `QUIT`.
-    fn plain_answer(&self, client: ConnectionId, command: Command) -> Result<Answer, NodeError>
-        ensures plain { IfOk result (IsPlainReply client command) }
-        ensures unrefused { IfOk result (λ answer. is_refusal answer ≡ false) }
-        ensures here { IfOk result
-            (IsPlainHere self.now.keeper self.now.peers (index_map_len self.now.desk.calls) self.now.desk.counts
-            command) }
-        ensures refused { IfErr result (λ e. e ≡ NoMemory) }
-    {
-        match command {
-            Command::Info(asked) => Ok(Answer::Value(self.info(asked)?)),
-            Command::CountWritten => Ok(Answer::Number(self.keeper.objects.count_written())),
-            Command::ShowLayout(name) => Ok(Answer::Value(self.layout_line(&name)?)),
-            Command::Scan { cursor, options } => self.page(cursor, options),
-            Command::Ping(None) => Ok(Answer::Pong),
-            Command::Ping(Some(text)) => Ok(Answer::Value(text)),
-            Command::Echo(text) => Ok(Answer::Value(text)),
-            Command::ListCommands => Ok(Answer::NoCommands),
-            Command::CountCommands => Ok(Answer::Number(count_names())),
-            Command::ClientId => Ok(Answer::Number(client)),
-            Command::ClientName => Ok(Answer::Nil),
-            Command::Hello => Ok(Answer::Greeting(client)),
-            _ => Ok(Answer::Ok),
-        }
-    }
-
-    // The answer to a `SCAN`.
-    fn page(&self, cursor: u64, options: ScanOptions) -> Result<Answer, NodeError>
-        ensures page { IfOk result (IsPageHere self.now.keeper.objects cursor options) }
-        ensures unrefused { IfOk result (λ answer. is_refusal answer ≡ false) }
-        ensures refused { IfErr result (λ e. e ≡ NoMemory) }
-    {
-        let page = self.keeper.objects.scan(cursor, options.count)?;
-        Ok(Answer::Page {
-            next: page.next,
-            names: self.told(options.pattern, page.names)?,
-        })
-    }
-
-    // Those of these names that match a pattern, if there is one.
-    fn told(&self, pattern: Option<Bytes>, names: Vec<Bytes>) -> Result<Vec<Bytes>, NodeError>
-        ensures told { IfOk result (λ told. told.items ≡ names_told pattern names.items) }
-        ensures refused { IfErr result (λ e. e ≡ NoMemory) }
-    {
-        match pattern {
-            Some(pattern) => Ok(matching_names(self.alloc, &pattern, &names)?),
-            None => Ok(names),
-        }
-    }
-
-    // A read begins, of whose value the client wants this.
+    // A read begins, of whose value the client wants this. If it wants nothing, as when a move has ended, the read asks
+    // all nodes, so that each of them hears of the object's start.
     fn read(
         &mut self,
         client: ConnectionId,
@@ -158,7 +103,7 @@ impl Node {
         ensures peers { self.new.peers ≡ self.old.peers }
         ensures refused { IfErr result (FailsAsked self.old client (Ok (ask.Read wanted name))) }
     {
-        let begun = self.keeper.begin_read(&name, work)?;
+        let begun = self.keeper.begin_read(&name, wants_nothing(wanted), work)?;
         let call = OpenCall {
             name,
             client: Some(client),
@@ -223,6 +168,13 @@ impl Node {
         };
         wait(&mut self.desk, client, call, begun, work)
     }
+}
+
+// Whether nothing is wanted of a value that is read.
+fn wants_nothing(wanted: Wanted) -> bool
+    ensures { result ≡ wants_nothing wanted }
+{
+    matches!(wanted, Wanted::Nothing)
 }
 
 // A call has begun, and its client, whose connection is busy, waits for it; or it was refused, and its client is told.

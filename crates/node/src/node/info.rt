@@ -15,7 +15,7 @@ use super::redis::{
     push_clients, push_memory, push_names, push_persistence, push_replication, push_server,
     push_stats,
 };
-use super::sections::{CountLines, NameLines, SizeLines};
+use super::sections::{CountLines, NameLines, OtherLines, SizeLines};
 use bytes::Bytes;
 use client_commands::Sections;
 use cluster_file::ClusterFile;
@@ -115,15 +115,20 @@ impl Node {
         let sizes = SizeLines {
             objects: self.keeper.objects.count(),
             bytes: self.keeper.objects.bytes_stored(),
+            closed: self.keeper.objects.closed_banks(),
             clients: self.desk.clients.count(),
             calls: self.desk.calls.len(),
         };
         let counts = CountLines {
             counts: self.desk.counts,
             dropped: self.peers.frames_dropped(),
-            foreign: self.peers.foreign,
         };
-        let own = format!(in self.alloc; "{name}{sizes}{counts}")?;
+        let others = OtherLines {
+            foreign: self.peers.foreign,
+            declined: self.peers.declined,
+            log_bytes: self.desk.counts.log_bytes,
+        };
+        let own = format!(in self.alloc; "{name}{sizes}{counts}{others}")?;
         text.extend_from_slice(own.as_bytes())?;
         Ok(())
     }

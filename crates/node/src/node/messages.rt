@@ -3,15 +3,16 @@ ghost use Rattle.std.specs.Prelude.{◌≡◌, IfErr, IfOk, IfSome, OnOk};
 ghost use Rattle.node_keeper.specs.Acts.{Acts};
 ghost use Rattle.node_messages.specs.Reading.{message_from};
 ghost use Rattle.node_effects.specs.Seen.{named_of};
-ghost use Rattle.node_keeper.specs.Keeping.{heeds, if_heeded, kept_of};
+ghost use Rattle.node_keeper.specs.Keeping.{if_heeded, kept_of};
 ghost use Rattle.node_keeper.specs.Sendings.{IsFrameOf};
 ghost use Rattle.node.specs.Failures.{FailsLetter, FailsMessage, FailsRead};
 ghost use Rattle.node.specs.Frames.{is_admitted, is_from_cluster, letter_from, letter_if_read};
 ghost use Rattle.node.specs.Hearing.{Hears, HearsIfRead, HearsMessage};
-ghost use Rattle.node.specs.Peers.{IsChangedByMessage, IsChangedIfRead, after_letter};
+ghost use Rattle.node.specs.Peers.{IsChangedByMessage, IsChangedIfRead, after_letter, reception_of};
 ghost use Rattle.node.specs.Serving.{ServesMore};
 
 use super::Node;
+use crate::reception::Reception;
 use frames::Frame;
 use letter::NamedLetter;
 use node_effects::{NodeError, Report, Work};
@@ -21,7 +22,7 @@ use node_messages::{MessageError, NodeMessage, has_low_tags, read_message};
 impl Node {
     /// Handles a frame that another node sent. The node drops a frame that is no message, that no node of the cluster
     /// sent, that a node with another cluster file sent, that has a tag above the limit, or whose letter the node does
-    /// not heed. It counts each frame that it drops once, by its cause.
+    /// not heed. It counts each frame that it drops once, by its cause, and each that its closed bank declines.
     pub(super) fn receive(
         &mut self,
         sender: u8,
@@ -80,7 +81,7 @@ impl Node {
     }
 
     // The letter of an admitted message has come, in this frame. The frame is dropped if the node does not heed the
-    // letter.
+    // letter; and if its closed bank declines it, this counts.
     fn hear(
         &mut self,
         sender: u8,
@@ -93,13 +94,13 @@ impl Node {
             self.old.keeper work.old self.new.keeper work.new) }
         ensures serves { OnOk result (ServesMore self.old work.old self.new work.new) }
         ensures peers { OnOk result (self.new.peers
-            ≡ after_letter (heeds (kept_of self.old.keeper) (named_of it)) self.old.peers) }
+            ≡ after_letter (reception_of self.old.keeper it) self.old.peers) }
         ensures hears { OnOk result (Hears sender it self.old.keeper work.old.outputs.items
             self.new.keeper work.new.outputs.items) }
         ensures refused { IfErr result (FailsLetter sender it self.old) }
     {
-        let heeded = self.deliver(sender, it, Some(frame), work)?;
-        self.peers.drops.count_letter(heeded);
+        let reception = self.deliver(sender, it, Some(frame), work)?;
+        self.peers.count_letter(reception);
         Ok(())
     }
 
@@ -119,19 +120,19 @@ impl Node {
     }
 
     /// Handles a letter from the node with this number, which may be this node itself. `came` is its frame, if it came
-    /// in one. Returns whether the node heeds the letter.
+    /// in one. Returns what became of it.
     pub(super) fn deliver(
         &mut self,
         sender: u8,
         it: NamedLetter,
         came: Option<Frame>,
         work: &mut Work,
-    ) -> Result<bool, NodeError>
+    ) -> Result<Reception, NodeError>
         requires { IfSome came (IsFrameOf self.old.keeper.digest it) }
         ensures acts { OnOk result (Acts sender (if_heeded (kept_of self.old.keeper) (named_of it))
             self.old.keeper work.old self.new.keeper work.new) }
         ensures serves { OnOk result (ServesMore self.old work.old self.new work.new) }
-        ensures heeded { IfOk result (λ heeded. heeded ≡ heeds (kept_of self.old.keeper) (named_of it)) }
+        ensures received { IfOk result (λ reception. reception ≡ reception_of self.old.keeper it) }
         ensures peers { self.new.peers ≡ self.old.peers }
         ensures hears { OnOk result (Hears sender it self.old.keeper work.old.outputs.items
             self.new.keeper work.new.outputs.items) }
@@ -139,11 +140,12 @@ impl Node {
     {
         let delta = self.keeper.file.delta();
         match self.keeper.deliver(sender, it, came, work)? {
-            Delivered::Dropped => Ok(false),
-            Delivered::Handled => Ok(true),
+            Delivered::Dropped => Ok(Reception::DROPPED),
+            Delivered::Handled => Ok(Reception::HANDLED),
+            Delivered::Declined => Ok(Reception::DECLINED),
             Delivered::Ended(ended) => {
                 self.desk.end(ended, delta, work)?;
-                Ok(true)
+                Ok(Reception::HANDLED)
             }
         }
     }

@@ -3,7 +3,8 @@ ghost use Rattle.std.specs.Prelude.{◌≡◌, ◌≤◌, ◌+◌, ◌++◌, OnO
 ghost use Rattle.std.specs.List.{count_by};
 ghost use Rattle.indexmap.specs.IndexMap.{index_map_len, values};
 ghost use Rattle.node.specs.Info.{about_cluster, about_nodes, cluster_section, count_heard, heard_line, heard_lines};
-ghost use Rattle.node.specs.Info.{is_move_open, is_ready, section_if, silence_line, silence_line_of, silence_lines};
+ghost use Rattle.node.specs.Info.{is_move_open, section_if, silence_line, silence_line_of, silence_lines};
+ghost use Rattle.node.specs.Ready.{is_ready};
 
 use super::Node;
 use super::sections::{ClusterLines, DropLines, KeptLines, LostLines, SilenceWord};

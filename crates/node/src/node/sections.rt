@@ -1,7 +1,7 @@
 //! The lines of `INFO`.
 ghost use Rattle.std.specs.Prelude.{◌≡◌, Some};
 ghost use Rattle.node.specs.Info.{cluster_lines, count_lines, drop_lines, kept_lines, lost_lines, name_lines};
-ghost use Rattle.node.specs.Info.{silence_word, size_lines, state_word};
+ghost use Rattle.node.specs.Info.{other_lines, silence_word, size_lines, state_word};
 
 use crate::drops::Drops;
 use node_clients::Counts;
@@ -146,48 +146,63 @@ impl fmt::Display for NameLines<'_> {
     }
 }
 
-/// The lines with the numbers of objects, bytes, connections and open calls.
+/// The lines with the numbers of objects, bytes, closed banks, connections and open calls.
 #[derive(Clone, Copy)]
 pub(super) struct SizeLines {
     pub objects: usize,
     pub bytes: u64,
+    pub closed: u64,
     pub clients: usize,
     pub calls: usize,
 }
 
 impl fmt::Display for SizeLines {
-    ghost output = { λ it. Some (size_lines it.objects it.bytes it.clients it.calls) };
+    ghost output = { λ it. Some (size_lines it.objects it.bytes it.closed it.clients it.calls) };
 
     fn fmt<W: fmt::Write>(&self, f: &mut fmt::Formatter<W>) -> fmt::Result {
         write!(
             f,
-            "objects:{}\r\nbytes_stored:{}\r\nclients:{}\r\ncalls_open:{}\r\n",
-            self.objects, self.bytes, self.clients, self.calls
+            "objects:{}\r\nbytes_stored:{}\r\nclosed_banks:{}\r\nclients:{}\r\ncalls_open:{}\r\n",
+            self.objects, self.bytes, self.closed, self.clients, self.calls
         )
     }
 }
 
-/// The lines with what was counted.
+/// The lines with how many commands were answered, calls were given up, and frames were dropped.
 #[derive(Clone, Copy)]
 pub(super) struct CountLines {
     pub counts: Counts,
     pub dropped: u64,
-    pub foreign: u64,
 }
 
 impl fmt::Display for CountLines {
-    ghost output = { λ it. Some (count_lines it.counts it.dropped it.foreign) };
+    ghost output = { λ it. Some (count_lines it.counts it.dropped) };
 
     fn fmt<W: fmt::Write>(&self, f: &mut fmt::Formatter<W>) -> fmt::Result {
         write!(
             f,
-            "commands_answered:{}\r\ncalls_given_up:{}\r\nframes_dropped:{}\r\n\
-            frames_of_other_clusters:{}\r\nbytes_of_the_log:{}\r\n",
-            self.counts.answered,
-            self.counts.given_up,
-            self.dropped,
-            self.foreign,
-            self.counts.log_bytes
+            "commands_answered:{}\r\ncalls_given_up:{}\r\nframes_dropped:{}\r\n",
+            self.counts.answered, self.counts.given_up, self.dropped
+        )
+    }
+}
+
+/// The lines with the messages of nodes with another cluster file, the requests that were declined, and the log.
+#[derive(Clone, Copy)]
+pub(super) struct OtherLines {
+    pub foreign: u64,
+    pub declined: u64,
+    pub log_bytes: u64,
+}
+
+impl fmt::Display for OtherLines {
+    ghost output = { λ it. Some (other_lines it.foreign it.declined it.log_bytes) };
+
+    fn fmt<W: fmt::Write>(&self, f: &mut fmt::Formatter<W>) -> fmt::Result {
+        write!(
+            f,
+            "frames_of_other_clusters:{}\r\nfetches_declined:{}\r\nbytes_of_the_log:{}\r\n",
+            self.foreign, self.declined, self.log_bytes
         )
     }
 }

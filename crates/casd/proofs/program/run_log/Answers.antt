@@ -7,10 +7,13 @@ returns-clause-runs g c = λ lawful. (
   c.start_and_serve.new.node,
   c.start_and_serve.ensures.runs (names_of c.args.file) c.args.number
       (record {
-        file = c.args.file;
-        lawful = lawful;
-        same = refl;
-        kept = c.new-node.ensures.kept;
-        calls = c.new-node.ensures.calls;
+        new = record {
+          file = c.args.file;
+          lawful = lawful;
+          same = refl;
+          kept = c.new-node.ensures.kept;
+          calls = c.new-node.ensures.calls;
+        };
+        idle = c.new-node.ensures.waits;
       }),
 )

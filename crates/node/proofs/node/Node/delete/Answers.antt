@@ -29,7 +29,8 @@ returns-clause-serves c =
     on_ok_weaker c.wait.result
     (λ awaited next asks. call_served c.args.client next (ask.Delete deletion) (writing_call (name_now deletion) []) old new
     c.args.work.now c.begin_write.new.work c.wait.new.work c.in_ok-begun.begun asks (λ id. refl)
-    (λ local id why e. (local, id, why, e, refl)) tt (λ id why given e. (id, given, why, e, refl)) (λ id given e. (given, e)) begins
+    (λ local id why e. (local, id, why, e, refl)) tt (λ id why given e. (id, given, why, e, refl)) (λ id given e. (given, e)) refl
+    begins
     (subst (λ n.
     let call : OpenCall = record {
       name = n;

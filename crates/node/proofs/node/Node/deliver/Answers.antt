@@ -1,4 +1,4 @@
-use Rattle.std.proofs.Common.{[], ◌≡◌, ℕ, not, List, refl, sym, subst, ap, ◌∙◌}
+use Rattle.std.proofs.Common.{[], ◌≡◌, ℕ, List, refl, sym, subst, ap, ◌∙◌}
 use Rattle.std.proofs.lemmas.List.{append-nil}
 use Rattle.node_effects.specs.Seen.{named_of}
 use Rattle.node_keeper.specs.Keeping.{if_heeded, kept_of}
@@ -7,7 +7,7 @@ use Rattle.node.proofs.TellLemmas.{tells_acts}
 use Rattle.letter.specs.declared.letter.NamedLetter.{NamedLetter}
 use Rattle.node_effects.specs.declared.output.Output.{Output}
 use Rattle.node_effects.specs.declared.work.Work.{Work}
-use Rattle.node_keeper.specs.Delivering.{CanDeliver, DeliversLetter, was_dropped}
+use Rattle.node_keeper.specs.Delivering.{CanDeliver, DeliversLetter}
 use Rattle.node_keeper.specs.declared.delivered.Delivered.{Delivered}
 use Rattle.node_keeper.specs.declared.delivered.Delivered.TheVariants as delivered
 use Rattle.node_keeper.specs.declared.keeper.Keeper.{Keeper}
@@ -18,7 +18,7 @@ use Rattle.node.specs.Hearing.{Hears}
 use Rattle.node.specs.declared.node.Node.{Node}
 use Rattle.node_clients.specs.Calls.{call_answer, call_under, rest_of, waiting_for}
 use Rattle.node_clients.proofs.EndLemmas.{EndsAs, concluded}
-use Rattle.node.proofs.KeeperLemmas.{ended_served, is_heeded, none_ended_served}
+use Rattle.node.proofs.KeeperLemmas.{ended_served, is_received, none_ended_served, received}
 use Rattle.node.proofs.node.Node.deliver.Goals as goal
 
 pub returns-in_ok-end-in-Ended-clause-acts : goal.returns-in_ok-end-in-Ended-clause-acts
@@ -45,6 +45,14 @@ returns-in-Handled-clause-serves c =
     (subst (λ result. DeliversLetter c.args.sender c.args.it old.keeper c.args.work.now c.deliver.new.self c.deliver.new.work result)
     c.in-Handled.is c.in_ok-deliver.ensures.delivers) refl refl
 
+pub returns-in-Declined-clause-serves : goal.returns-in-Declined-clause-serves
+returns-in-Declined-clause-serves c =
+    let old = c.args.self.now in
+    let new : Node = record old { keeper = c.deliver.new.self } in
+    none_ended_served c.args.sender c.args.it old new c.args.work.now c.deliver.new.work delivered.Declined
+    (subst (λ result. DeliversLetter c.args.sender c.args.it old.keeper c.args.work.now c.deliver.new.self c.deliver.new.work result)
+    c.in-Declined.is c.in_ok-deliver.ensures.delivers) refl refl
+
 pub returns-in_ok-end-in-Ended-clause-serves : goal.returns-in_ok-end-in-Ended-clause-serves
 returns-in_ok-end-in-Ended-clause-serves c =
     let old = c.args.self.now in
@@ -61,22 +69,28 @@ returns-in_ok-end-in-Ended-clause-serves c =
     (waiting_for old.desk.calls ended.id) refl (rest_of delta (call_under old.desk.calls ended.id)) refl is.told
     (record { gone = c.end.ensures.gone; others = c.end.ensures.others; idle = is.idle; counts = is.counts })))
 
-pub returns-in-Dropped-clause-heeded : goal.returns-in-Dropped-clause-heeded
-returns-in-Dropped-clause-heeded c =
-    ap (λ result. not (was_dropped result)) (sym c.in-Dropped.is)
-    ∙ is_heeded c.args.sender c.args.it c.args.self.now.keeper c.deliver.new.self c.args.work.now c.deliver.new.work _
+pub returns-in-Dropped-clause-received : goal.returns-in-Dropped-clause-received
+returns-in-Dropped-clause-received c =
+    ap received (sym c.in-Dropped.is)
+    ∙ is_received c.args.sender c.args.it c.args.self.now.keeper c.deliver.new.self c.args.work.now c.deliver.new.work _
     c.in_ok-deliver.ensures.delivers
 
-pub returns-in-Handled-clause-heeded : goal.returns-in-Handled-clause-heeded
-returns-in-Handled-clause-heeded c =
-    ap (λ result. not (was_dropped result)) (sym c.in-Handled.is)
-    ∙ is_heeded c.args.sender c.args.it c.args.self.now.keeper c.deliver.new.self c.args.work.now c.deliver.new.work _
+pub returns-in-Handled-clause-received : goal.returns-in-Handled-clause-received
+returns-in-Handled-clause-received c =
+    ap received (sym c.in-Handled.is)
+    ∙ is_received c.args.sender c.args.it c.args.self.now.keeper c.deliver.new.self c.args.work.now c.deliver.new.work _
     c.in_ok-deliver.ensures.delivers
 
-pub returns-in_ok-end-in-Ended-clause-heeded : goal.returns-in_ok-end-in-Ended-clause-heeded
-returns-in_ok-end-in-Ended-clause-heeded c =
-    ap (λ result. not (was_dropped result)) (sym c.in-Ended.is)
-    ∙ is_heeded c.args.sender c.args.it c.args.self.now.keeper c.deliver.new.self c.args.work.now c.deliver.new.work _
+pub returns-in-Declined-clause-received : goal.returns-in-Declined-clause-received
+returns-in-Declined-clause-received c =
+    ap received (sym c.in-Declined.is)
+    ∙ is_received c.args.sender c.args.it c.args.self.now.keeper c.deliver.new.self c.args.work.now c.deliver.new.work _
+    c.in_ok-deliver.ensures.delivers
+
+pub returns-in_ok-end-in-Ended-clause-received : goal.returns-in_ok-end-in-Ended-clause-received
+returns-in_ok-end-in-Ended-clause-received c =
+    ap received (sym c.in-Ended.is)
+    ∙ is_received c.args.sender c.args.it c.args.self.now.keeper c.deliver.new.self c.args.work.now c.deliver.new.work _
     c.in_ok-deliver.ensures.delivers
 
 -- what was delivered was heard
@@ -99,6 +113,11 @@ returns-in-Dropped-clause-hears c =
 
 pub returns-in-Handled-clause-hears : goal.returns-in-Handled-clause-hears
 returns-in-Handled-clause-hears c =
+    heard c.args.sender c.args.it c.args.self.now.keeper c.deliver.new.self c.args.work.now c.deliver.new.work _
+    c.deliver.new.work.outputs.items c.in_ok-deliver.ensures.delivers refl
+
+pub returns-in-Declined-clause-hears : goal.returns-in-Declined-clause-hears
+returns-in-Declined-clause-hears c =
     heard c.args.sender c.args.it c.args.self.now.keeper c.deliver.new.self c.args.work.now c.deliver.new.work _
     c.deliver.new.work.outputs.items c.in_ok-deliver.ensures.delivers refl
 

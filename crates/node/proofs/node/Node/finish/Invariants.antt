@@ -16,8 +16,8 @@ invariant-loop l = record {
   acted : (asker : ℕ) (got : List NamedLetter) (first : Keeper) → HasActed asker got first l.fn.self.keeper l.fn.work →
       HasActed asker got first l.self.keeper l.work;
   served : (came : Option Arrival) (first : Node) →
-      ServedSince came first l.fn.self l.fn.work.to_clients.items l.fn.work.notices.items →
-      ServedSince came first l.self l.work.to_clients.items l.work.notices.items;
+      ServedSince came first l.fn.self l.fn.work.to_clients.items l.fn.work.notices.items l.fn.work.outputs.items →
+      ServedSince came first l.self l.work.to_clients.items l.work.notices.items l.work.outputs.items;
   outputs : (first : List Output) → AreFirst first l.fn.work.outputs.items → AreFirst first l.work.outputs.items;
   waits : NoneWaits l.fn.self.desk.clients l.fn.work.due.items → NoneWaits l.self.desk.clients l.work.due.items;
   peers : l.self.peers ≡ l.fn.self.peers;

@@ -15,8 +15,10 @@ returns-in-Some-clause-acted c =
 pub returns-in-Some-clause-served : goal.returns-in-Some-clause-served
 returns-in-Some-clause-served c =
     let work = c.args.work.now in
+    let acts = c.in_ok-deliver.ensures.acts in
     λ came first since. since_then came first c.args.self.now c.deliver.new.self work.to_clients.items work.notices.items
-    c.next_own.new.self c.deliver.new.work c.in-Some.ensures.to_clients c.in-Some.ensures.notices since
+    work.outputs.items acts.growth.outputs c.next_own.new.self c.deliver.new.work c.in-Some.ensures.to_clients
+    c.in-Some.ensures.notices (acts.grown.outputs ∙ ap (λ xs. xs ++ acts.growth.outputs) c.in-Some.ensures.outputs) acts.digest since
     c.in_ok-deliver.ensures.serves
 
 pub returns-in-Some-next_due-clause-acted : goal.returns-in-Some-next_due-clause-acted
@@ -28,9 +30,13 @@ returns-in-Some-next_due-clause-acted c =
 pub returns-in-Some-next_due-clause-served : goal.returns-in-Some-next_due-clause-served
 returns-in-Some-next_due-clause-served c =
     let work = c.args.work.now in
+    let acts = c.in_ok-go_on.ensures.acts 0 in
     λ came first since. since_then came first c.args.self.now c.go_on.new.self work.to_clients.items work.notices.items
-    c.next_due.new.self c.go_on.new.work (c.in-Some-next_due.ensures.to_clients ∙ c.in_default.ensures.to_clients)
-    (c.in-Some-next_due.ensures.notices ∙ c.in_default.ensures.notices) since
+    work.outputs.items acts.growth.outputs c.next_due.new.self c.go_on.new.work
+    (c.in-Some-next_due.ensures.to_clients ∙ c.in_default.ensures.to_clients)
+    (c.in-Some-next_due.ensures.notices ∙ c.in_default.ensures.notices)
+    (acts.grown.outputs
+    ∙ ap (λ xs. xs ++ acts.growth.outputs) (c.in-Some-next_due.ensures.outputs ∙ c.in_default.ensures.outputs)) acts.digest since
     c.in_ok-go_on.ensures.serves.more
 
 pub returns-in-Some-next_due-clause-number : goal.returns-in-Some-next_due-clause-number

@@ -62,5 +62,5 @@ returns-clause-serves c =
     )) (old.peers.heard, none)
     (λ id why next e. subst (λ f. IsMoveRefusedHere f old.keeper c.args.name (answers.Error (errors.Refused why))) (sym none)
     (id, next, why, e, refl))
-    (λ id next e. (none, (next, e))) c.in_ok-begun.ensures.begins awaited)
+    (λ id next e. (none, (next, e))) refl c.in_ok-begun.ensures.begins awaited)
     c.wait.ensures.awaited

@@ -1,9 +1,9 @@
 use Rattle.std.proofs.Common.{◌≡◌, ℕ, Bool, List, length, ◌+◌, ◌++◌, ◌∙◌, ap}
 use Rattle.std.specs.List.{count_by}
 use Rattle.indexmap.specs.IndexMap.{index_map_len, values}
-use Rattle.node.specs.Info.{cluster_lines, count_heard, drop_lines, is_move_open, is_ready, kept_banks, kept_lines, kept_tags}
-use Rattle.node.specs.Info.{lost_lines}
+use Rattle.node.specs.Info.{cluster_lines, count_heard, drop_lines, is_move_open, kept_banks, kept_lines, kept_tags, lost_lines}
 use Rattle.node.specs.Peers.{frames_dropped}
+use Rattle.node.specs.Ready.{is_ready}
 use Rattle.node.proofs.node.Node.push_cluster_lines.Goals as goal
 
 pub returns : goal.returns

@@ -1,8 +1,9 @@
-use Rattle.std.proofs.Common.{refl}
+use Rattle.std.proofs.Common.{refl, subst}
 use Rattle.std.proofs.lemmas.Result.{on_ok_weaker}
 use Rattle.node.proofs.TellLemmas.{acts_and_tells}
 use Rattle.client_commands.specs.declared.command.Command.TheVariants as ask
-use Rattle.node_keeper.specs.Beginning.{reading_call}
+use Rattle.node_keeper.specs.Beginning.{BeginsCall, reading_call}
+use Rattle.node.specs.BegunCalls.{wants_nothing}
 use Rattle.node.specs.declared.node.Node.{Node}
 use Rattle.node.proofs.KeeperLemmas.{call_served}
 use Rattle.node.proofs.node.Node.read.Goals as goal
@@ -18,7 +19,9 @@ returns-clause-serves c =
     let new : Node = record old { keeper = c.begin_read.new.self; desk = c.wait.new.desk } in
     on_ok_weaker c.wait.result
     (λ awaited next asks. call_served c.args.client next (ask.Read c.args.wanted c.args.name)
-    (reading_call c.args.name) old new c.args.work.now c.begin_read.new.work c.wait.new.work c.in_ok-begun.begun asks
+    (reading_call c.args.name (wants_nothing c.args.wanted)) old new c.args.work.now c.begin_read.new.work c.wait.new.work
+    c.in_ok-begun.begun asks
     (λ id. refl) (λ local id why e. (local, id, why, e, refl)) tt
-    (λ id why next e. (id, next, why, e, refl)) (λ id next e. (next, e))
-    c.in_ok-begun.ensures.begins awaited) c.wait.ensures.awaited
+    (λ id why next e. (id, next, why, e, refl)) (λ id next e. (next, e)) refl
+    (subst (λ b. BeginsCall (reading_call c.args.name b) old.keeper c.args.work.now c.begin_read.new.self c.begin_read.new.work
+    c.in_ok-begun.begun) c.wants_nothing.ensures c.in_ok-begun.ensures.begins) awaited) c.wait.ensures.awaited

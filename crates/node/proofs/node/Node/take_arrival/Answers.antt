@@ -65,7 +65,7 @@ returns-in_ok-push-in-Command-clause-serves c =
     on_ok_weaker c.go_on.result
     (λ next. subst (λ a. ServesArrival (Some a) old work new c.go_on.new.work) (sym c.in-Command.is)
     (arrival_then (Some (came.Command client frame)) old between new work work c.go_on.new.work (Service.Arrives client frame)
-    refl (unsent_one old between work (Service.Arrives client frame) arrived refl refl refl tt refl refl) next.more
+    refl refl (unsent_one old between work (Service.Arrives client frame) arrived refl refl refl tt refl refl) next.more
     (λ free. next.first (Came frame) [] (arrived.state ∙ free.0) (arrived.waiting ∙ ap (λ xs. xs ++ (Came frame ∷ [])) free.1))))
     c.go_on.ensures.serves
 

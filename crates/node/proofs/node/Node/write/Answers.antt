@@ -20,5 +20,5 @@ returns-clause-serves c =
     (λ awaited next asks. call_served c.args.client next (ask.Set c.args.name c.args.value)
     (writing_call c.args.name c.args.value) old new c.args.work.now
     c.begin_write.new.work c.wait.new.work c.in_ok-begun.begun asks (λ id. refl) (λ local id why e. (local, id, why, e, refl)) tt
-    (λ id why next e. (id, next, why, e, refl)) (λ id next e. (next, e))
+    (λ id why next e. (id, next, why, e, refl)) (λ id next e. (next, e)) refl
     c.in_ok-begun.ensures.begins awaited) c.wait.ensures.awaited

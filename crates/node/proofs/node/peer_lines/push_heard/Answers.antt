@@ -1,5 +1,6 @@
 use Rattle.std.proofs.Common.{ℕ, ap, get_or}
-use Rattle.node.specs.Info.{heard_line, hears_now}
+use Rattle.node.specs.Info.{heard_line}
+use Rattle.node.specs.Ready.{hears_now}
 use Rattle.node.proofs.ShownLemmas.{one_more_shown}
 use Rattle.node.proofs.node.peer_lines.push_heard.Goals as goal
 

@@ -26,7 +26,7 @@ returns-clause-handled c =
     c.new-work.ensures c.in_ok-take_frame.ensures.acts))
     (c.in_ok-finish.ensures.served came old
     (since_first came old c.take_frame.new.self empty taken c.new-work.ensures.to_clients c.new-work.ensures.notices
-    c.in_ok-take_frame.ensures.serves))
+    c.in_ok-take_frame.ensures.acts.digest c.in_ok-take_frame.ensures.serves))
     c.into_effects.ensures.outputs c.into_effects.ensures.answers c.into_effects.ensures.notices
     (λ waits. c.in_ok-finish.ensures.waits (c.in_ok-take_frame.ensures.waits
     (subst (λ xs. NoneWaits old.desk.clients xs) (sym c.new-work.ensures.due) waits)))
@@ -57,4 +57,4 @@ returns-in_err-finish-clause-refused c =
     (acted_first asker got old.keeper c.take_frame.new.self.keeper empty taken c.number-number.ensures.within
     c.new-work.ensures c.in_ok-take_frame.ensures.acts)
     (since_first came old c.take_frame.new.self empty taken c.new-work.ensures.to_clients c.new-work.ensures.notices
-    c.in_ok-take_frame.ensures.serves) c.in_err-finish.ensures.refused)
+    c.in_ok-take_frame.ensures.acts.digest c.in_ok-take_frame.ensures.serves) c.in_err-finish.ensures.refused)
