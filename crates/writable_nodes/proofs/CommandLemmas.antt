@@ -1,5 +1,5 @@
 -- What is read from the strings of a client's frame is a fault or a command whose names are short.
-use Rattle.std.proofs.Common.{◌≡◌, ◌<◌, ◌≤◌, ◌^◌, ℕ, Bool, true, false, cond, List, [], ◌∷◌, length, Ok, Err, refl, subst, sym, arith}
+use Rattle.std.proofs.Common.{◌≡◌, ◌||◌, ◌<◌, ◌≤◌, ◌^◌, ℕ, Bool, true, false, cond, List, [], ◌∷◌, length, Ok, Err, refl, subst, sym, arith}
 use Rattle.std.specs.List.{AllByRecursion, list_any}
 use Rattle.std.proofs.lemmas.Bool.{ltb-false}
 use Rattle.client_commands.specs.Command.{AreNodes, AskFor}
@@ -18,11 +18,12 @@ use Rattle.writable_nodes.specs.Commands.{IsFitCommand, IsFitDeletion, IsFitFoun
 
 none_long : (names : Strings) → list_any is_long names ≡ false → AllByRecursion IsShortName names
 none_long [] e = tt
-none_long (name ∷ names) e = go (is_long name) refl e
+none_long (name ∷ names) e = go (is_long name) refl (none_long names) e
   where
-    go : (b : Bool) → is_long name ≡ b → cond b true (list_any is_long names) ≡ false → IsShortName name × AllByRecursion IsShortName names
-    go true t e = absurd (cc)
-    go false t e = (ltb-false LONGEST_NAME (length name) t, none_long names e)
+    go : (b : Bool) → is_long name ≡ b → (list_any is_long names ≡ false → AllByRecursion IsShortName names) →
+        (b || list_any is_long names) ≡ false → IsShortName name × AllByRecursion IsShortName names
+    go true t rest e = absurd (cc)
+    go false t rest e = (ltb-false LONGEST_NAME (length name) t, rest e)
 
 deletion_fit : (deletion : Deletion) (words : Strings) → length words ≤ 1024 → AskToDelete deletion words → IsFitDeletion deletion
 deletion_fit deletion words few asks = subst IsFitDeletion (sym asks.0) (record {
@@ -31,9 +32,11 @@ deletion_fit deletion words few asks = subst IsFitDeletion (sym asks.0) (record 
 })
 
 members_small : (members : List ℕ) → AreNodes members → AllByRecursion (λ member. member < 2 ^ 8) members
-members_small members all = all_weaker (λ member. member ≤ 255) (λ member. member < 2 ^ 8) (λ member le. omega (arith, le)) members all
+members_small members all =
+    all_weaker (λ member. member ≤ 255) (λ member. member < 2 ^ 8) (λ member le. omega (arith, le)) members all
 
-delete_fit : (strings : Strings) (deletion : Deletion) → length strings ≤ 1024 → AskFor strings (ask.Delete deletion) → IsFitDeletion deletion
+delete_fit : (strings : Strings) (deletion : Deletion) → length strings ≤ 1024 → AskFor strings (ask.Delete deletion) →
+    IsFitDeletion deletion
 delete_fit [] deletion few asks = absurd asks
 delete_fit (word ∷ words) deletion few asks = deletion_fit deletion words (omega (arith, few)) asks.1
 

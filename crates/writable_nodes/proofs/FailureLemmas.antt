@@ -18,6 +18,7 @@ use Rattle.frames.specs.declared.limits.TheConstants.{LONGEST_STRING, MOST_STRIN
 use Rattle.indexmap.specs.IndexMap.{index_map_len}
 use Rattle.layout.specs.Quorum.{has}
 use Rattle.letter.specs.declared.letter.NamedLetter.{NamedLetter}
+use Rattle.node.specs.BegunCalls.{wants_nothing}
 use Rattle.node.specs.Failures.{CanHear, CanObey, FailsArrival, FailsAsked, FailsFirst, FailsIf, FailsMessage, FailsRead}
 use Rattle.node.specs.Frames.{is_admitted, is_from_cluster}
 use Rattle.node.specs.declared.node.Node.{Node}
@@ -59,7 +60,7 @@ use Rattle.writable_nodes.proofs.TickLemmas.{ticks_do_not_fail}
 obeyed : (node : Node) (client : ℕ) (command : Command) → IsFitNode node → IsFitCommand command →
     (CanObey node.keeper node.peers (index_map_len node.desk.calls) node.desk.counts client command → ⊥) → HasLongAnswer node
 obeyed node client (ask.Read wanted name) fit short cannot =
-    absurd (cannot (λ id next. (can_begin_fit node.keeper name id fit.keeper short next).0))
+    absurd (cannot (λ id next. (can_begin_fit node.keeper name id fit.keeper short next).0 (wants_nothing wanted)))
 obeyed node client (ask.Set name value) fit short cannot =
     absurd (cannot (λ id next. (can_begin_fit node.keeper name id fit.keeper short next).1 value))
 obeyed node client (ask.Delete deletion) fit short cannot =
@@ -125,11 +126,11 @@ can_hear node sender it fit small is = (
 -- a node that is among these is one of them
 has_small : (nodes : List ℕ) (n : ℕ) → AreBytes nodes → has nodes n ≡ true → n < 2 ^ 8
 has_small [] n bytes e = absurd (cc)
-has_small (first ∷ nodes) n bytes e = go (eqb first n) refl e
+has_small (first ∷ nodes) n bytes e = go (eqb first n) refl (has_small nodes n bytes.1) e
   where
-    go : (b : Bool) → eqb first n ≡ b → (b || has nodes n) ≡ true → n < 2 ^ 8
-    go true t e = subst (λ m. m < 2 ^ 8) (eqb-true first n t) bytes.0
-    go false t e = has_small nodes n bytes.1 e
+    go : (b : Bool) → eqb first n ≡ b → (has nodes n ≡ true → n < 2 ^ 8) → (b || has nodes n) ≡ true → n < 2 ^ 8
+    go true t rest e = subst (λ m. m < 2 ^ 8) (eqb-true first n t) bytes.0
+    go false t rest e = rest e
 
 behind_all : {X : Type 0} (P : X → Type 0) (xs ys : List X) → AllByRecursion P (xs ++ ys) → AllByRecursion P xs × AllByRecursion P ys
 behind_all P [] ys all = (tt, all)

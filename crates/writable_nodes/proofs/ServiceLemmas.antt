@@ -49,7 +49,8 @@ older_fit (Some call) fit = record { name = fit.name; deletion = fit.deletion }
 aged_fit : (old : Desk) (id : ℕ) (new : Desk) → IsFitDesk old → IsOlder old id new → IsFitDesk new
 aged_fit old id new fit is = record {
   calls = calls_at old new id fit.calls is.others
-      (subst (λ (o : Option OpenCall). IfSome o IsFitOpenCall) (sym is.older) (older_fit (call_under old.calls id) (found_call old id fit.calls)));
+      (subst (λ (o : Option OpenCall). IfSome o IsFitOpenCall) (sym is.older)
+      (older_fit (call_under old.calls id) (found_call old id fit.calls)));
   waiting = subst AreFitWaiting (sym is.clients) fit.waiting;
 }
 

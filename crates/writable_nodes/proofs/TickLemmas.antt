@@ -69,4 +69,5 @@ pub ticks_do_not_fail : (heard : Heard) (node : Node) → IsFitNode node →
     FailsTicks (keys node.desk.calls) (hearing heard node) errors.Unwritable → ⊥
 ticks_do_not_fail heard node fit fails =
     let there : IsFitNode (hearing heard node) = record { keeper = fit.keeper; desk = fit.desk } in
-    fails.fails (can_age fails.middle fails.id (all_ticked_fit fails.first (hearing heard node) fails.sends fails.middle there fails.ticked))
+    let ticked : IsFitNode fails.middle = all_ticked_fit fails.first (hearing heard node) fails.sends fails.middle there fails.ticked in
+    fails.fails (can_age fails.middle fails.id ticked)

@@ -26,14 +26,15 @@ abbrev pub FitNodesCanGoOn : Type 0
 FitNodesCanGoOn = (node : Node) (own : List NamedLetter) (due : List ℕ) → IsFitNode node →
     AllByRecursion IsFitNamed own → FailsStep node own due errors.Unwritable → HasLongAnswer node
 
--- the node did deeds and services since it was `first`, and in this state it has a plain answer that is too long, unless
--- what it keeps, or a letter to itself, is not fit now
+-- the node did deeds and services since it was `first`, and if what it keeps now is fit, and so are its letters to
+-- itself that wait, it has a plain answer that is too long
 pub record IsStoppedBehind (first : Node) (frame : Strings) : Type 0 where
   pub middle : Node
   pub work : Work
   pub acted : HasActed (sender_or first.keeper.ids.node (arrival_at frame)) (letters_in first.keeper frame)
       first.keeper middle.keeper work
   pub served : ServedSince (arrival_at frame) first middle work.to_clients.items work.notices.items
+      work.outputs.items
   pub long : IsFitKeeper middle.keeper → HasFitOwn work → HasLongAnswer middle
 
 -- at a frame of bytes a fit node fails so only at a plain answer, if what it keeps stays fit while it handles the frame
