@@ -1,5 +1,5 @@
 -- What is read from the strings of a client's frame is a fault or a command whose names are short.
-use Rattle.std.proofs.Common.{◌≡◌, ◌||◌, ◌<◌, ◌≤◌, ◌^◌, ℕ, Bool, true, false, cond, List, [], ◌∷◌, length, Ok, Err, refl, subst, sym, arith}
+use Rattle.std.proofs.Common.{◌≡◌, ◌||◌, ◌<◌, ◌≤◌, ◌^◌, ℕ, Bool, true, false, List, [], ◌∷◌, length, Ok, Err, refl, subst, sym, arith}
 use Rattle.std.specs.List.{AllByRecursion, list_any}
 use Rattle.std.proofs.lemmas.Bool.{ltb-false}
 use Rattle.client_commands.specs.Command.{AreNodes, AskFor}

@@ -1,6 +1,6 @@
 -- The contracts that docs/trusted.md lists do not depend on this file; other contracts and proofs do.
 -- Commands whose calls a node can begin: their names are short, and the layout of a move is fit.
-use Rattle.std.specs.Prelude.{◌<◌, ◌≤◌, ◌^◌, ⊤, ℕ, IfOk, length}
+use Rattle.std.specs.Prelude.{◌<◌, ◌≤◌, ◌^◌, ⊤, IfOk, length}
 use Rattle.std.specs.List.{AllByRecursion}
 use Rattle.client_commands.specs.Deletion.{Deletion, count_of}
 use Rattle.client_commands.specs.Reading.{Found, command_at}

@@ -1,7 +1,6 @@
 -- The contracts that docs/trusted.md lists do not depend on this file; other contracts and proofs do.
 -- The laws: with what a fit node fails because something does not fit.
 use Rattle.std.specs.Prelude.{◌⊎◌, ℕ, List}
-use Rattle.deeds.specs.Named.{NamedLetter as Named}
 use Rattle.letter.specs.declared.letter.NamedLetter.{NamedLetter}
 use Rattle.node.specs.Failures.{FailsArrival, FailsStep, FailsWith}
 use Rattle.node.specs.Frames.{letters_in, sender_or}
