@@ -51,6 +51,10 @@ stopped_leads number old new is = (
       (ap all_seen is.seen ∙ sym (append-nil (all_seen old.seen.items))),
 )
 
+-- a run to which nothing happened
+pub stays_leads : (run : ProcessRun) → LeadsOn run run
+stays_leads run = (refl, λ processes by are. ([], tt, λ any. tt, are))
+
 -- a run that is led on from a reached one is reached
 pub reached_on : (old new : ProcessRun) → LeadsOn old new → IsReached old → IsReached new
 reached_on old new (text, leads) is =

@@ -2,6 +2,7 @@ use Rattle.std.proofs.Common.{◌<◌, length, refl, subst, arith}
 use Rattle.std.proofs.lemmas.Option.{slice_get_read}
 use Rattle.example_runs.specs.Steps.{IsFoundFor}
 use Rattle.example_runs.proofs.HandledStepLemmas.{from_node}
+use Rattle.example_runs.proofs.StepLemmas.{stays_leads}
 use Rattle.example_runs.proofs.process_run.ProcessRun.carry.Goals as goal
 
 pub handle-requires : goal.handle-requires
@@ -12,6 +13,9 @@ handle-requires c =
     from_node c.args.number c.args.place sent all.items c.in-Some.frame
     (slice_get_read all.items (length all.items) c.args.place sent refl within c.index-sent.ensures)
     (subst (IsFoundFor c.args.number sent) c.in-Some.is c.in_ok-frame.ensures)
+
+pub returns-in-None-clause-leads : goal.returns-in-None-clause-leads
+returns-in-None-clause-leads c = stays_leads c.args.self.now
 
 pub returns-in_ok-handle-in-Some-clause-does : goal.returns-in_ok-handle-in-Some-clause-does
 returns-in_ok-handle-in-Some-clause-does c =
