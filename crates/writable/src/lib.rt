@@ -4,7 +4,7 @@
 pub use laws::{
     fit_keepers_can_begin, fit_keepers_can_deliver, fit_keepers_can_resend, fit_keepers_can_rewrite,
 };
-pub use starting::{new_keepers_are_fit, recovered_objects_are_fit};
+pub use starting::{new_keepers_are_fit, read_records_are_fit, recovered_objects_are_fit};
 pub use staying::{
     asked_keepers_are_fit, begun_keepers_are_fit, delivered_keepers_are_fit,
     given_up_keepers_are_fit,

@@ -1,0 +1,5 @@
+use Rattle.writable_nodes.proofs.ServiceLemmas.{services_fit}
+use Rattle.writable_nodes.proofs.laws.desks_stay_fit.Goals as goal
+
+pub returns : goal.returns
+returns c = services_fit

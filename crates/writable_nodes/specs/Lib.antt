@@ -1,0 +1,4 @@
+pub mod Commands
+pub mod Desks
+pub mod Nodes
+pub mod Laws
