@@ -86,12 +86,25 @@ abbrev pub with_answer : Option NodeCall → (now : ℕ) → List Entry → List
 with_answer None now history = history
 with_answer (Some call) now history = map (answered_entry call now) history
 
+-- the entry of a call that ends early, which is answered with this value
+abbrev pub early_entry : NodeCall → (value : Option (List ℕ)) → (now : ℕ) → Entry → Entry
+early_entry call value now entry =
+    if entry.call == call.id
+    then record entry { answered = Some now; value = early_value_of call.kind value } else entry
+
+-- the history with the answer of a call that ends early, if there is one
+abbrev pub with_early_answer : Option NodeCall → (value : Option (List ℕ)) → (now : ℕ) → List Entry → List Entry
+with_early_answer None value now history = history
+with_early_answer (Some call) value now history = map (early_entry call value now) history
+
 -- the history after an event at a node
 abbrev pub history_after : LocalObject → LocalEvent → (now : ℕ) → List Entry → List Entry
 history_after local (LocalEvent.BeginRead id) now history = history ++ begun_entry id Read now ∷ []
 history_after local (LocalEvent.BeginWrite id value) now history = history ++ begun_entry id (Write value) now ∷ []
 history_after local (LocalEvent.BeginMove id layout) now history = history ++ begun_entry id Move now ∷ []
 history_after local (LocalEvent.Answer id) now history = with_answer (open_call local.calls id) now history
+history_after local (LocalEvent.EndEarly id value) now history =
+    with_early_answer (open_call local.calls id) value now history
 history_after local _ now history = history
 
 -- Refinement

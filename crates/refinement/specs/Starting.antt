@@ -33,12 +33,14 @@ left_behind None start = 0
 left_behind (Some call) start = start - call.phase.position
 
 -- how many events of the world an event at a node is: at the start, for each position that the call leaves behind as
--- many as this may take at most, and one more if the call begins, for the first time or anew
+-- many as this may take at most, and one more if the call begins, for the first time or anew; a call that ends early is
+-- given up in the world, and before that the world waits for one event, after which the client is answered
 abbrev pub event_count : LocalObject → LocalEvent → ℕ
 event_count local (LocalEvent.BeginRead id) = suc (local.start * most_events)
 event_count local (LocalEvent.BeginWrite id value) = suc (local.start * most_events)
 event_count local (LocalEvent.ReadOn id) = left_behind (open_call local.calls id) local.start * most_events
 event_count local (LocalEvent.BeginAnew id) = suc (local.start * most_events)
+event_count local (LocalEvent.EndEarly id value) = 2
 event_count local event = length (world_events local event)
 
 -- this many events may happen in the world, after which it agrees with what all nodes keep, and has this history
