@@ -25,6 +25,7 @@ pub mod ClosingLemmas
 pub mod AgreementLemmas
 pub mod CappedSumLemmas
 pub mod GivenUpCallLemmas
+pub mod ToldPieceLemmas
 pub mod EarlyEndLemmas
 pub mod EarlyCallLemmas
 pub mod ResentLemmas

@@ -9,7 +9,7 @@ ghost use Rattle.mail.specs.Message.{names_next, status_names_next};
 
 use crate::places::Places;
 use bank::{Answer, Kind, Request, Status};
-use letter::{Letter, SharedLayout, Start};
+use letter::{Letter, SharedLayout, Start, Telling};
 use mail::{Body, Message};
 use std::alloc::Global;
 use tag::Refusal;
@@ -81,6 +81,13 @@ pub(crate) fn letter_of(
         told: None,
         message,
     })
+}
+
+/// The letter, as one that tells this.
+pub(crate) fn with_told(letter: Letter, told: Option<Telling>) -> Letter
+    ensures { result ≡ record letter { told = told } }
+{
+    Letter { told, ..letter }
 }
 
 /// The start of which a node tells others: this one with its layout, unless it is position 0. `NoMemory` is the only

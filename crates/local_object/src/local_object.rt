@@ -6,11 +6,11 @@ ghost use Rattle.local_object.specs.Outcomes.{learnt_from};
 ghost use Rattle.local_object.specs.Doing.{IsOutcome, can_close, close_events, has_member, is_served, serve_events};
 
 use crate::calls::Calls;
-use crate::letters::letter_of;
+use crate::letters::{letter_of, with_told};
 use crate::places::Places;
 use crate::reports::Reports;
 use layout::Layout;
-use letter::{Letter, SharedLayout, Telling};
+use letter::{Letter, SharedLayout};
 use mail::{Body, Message};
 use std::alloc::Global;
 use std::marker::Model;
@@ -229,13 +229,6 @@ impl LocalObject {
         let letter = letter_of(&self.places, self.start, false, layout, answer)?;
         Ok(Some(with_told(letter, told)))
     }
-}
-
-// The letter, as one that tells this.
-fn with_told(letter: Letter, told: Option<Telling>) -> Letter
-    ensures { result ≡ record letter { told = told } }
-{
-    Letter { told, ..letter }
 }
 
 // Whether there is a number for the position after this one.

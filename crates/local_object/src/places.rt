@@ -170,10 +170,8 @@ impl Places {
         self.places[index].serve(alloc, member, delta, request)
     }
 
-    /// What the node tells of its bank of a position as this member, if it tells anything, with the piece of the
-    /// greatest finalized tag if it is asked for. A bank that is not there counts as a newly opened one.
-    ///
-    /// `NoMemory` is the only refusal.
+    /// What the node tells of its bank of a position as this member, with the piece if it is asked for. A bank that is
+    /// not there counts as a newly opened one. `NoMemory` is the only refusal.
     pub(crate) fn tell(
         &self,
         position: u32,

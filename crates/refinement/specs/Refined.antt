@@ -1,6 +1,7 @@
 -- The contracts that docs/trusted.md lists do not depend on this file; other contracts and proofs do.
 -- Which events of the world an event at a node is, and when the world after them agrees with what all nodes keep.
 use Rattle.std.specs.Prelude.{◌≡◌, ◌≢◌, ◌+◌, ℕ, suc, List, [], ◌∷◌, ◌++◌, length, map, Option, None, Some}
+use Rattle.std.specs.Prelude.{◌==◌, if◌then◌else◌}
 use Rattle.std.specs.List.{AllByRecursion}
 use Rattle.bank.specs.declared.reply.Reply.{Reply}
 use Rattle.mail.specs.declared.message.Body.{Body}
@@ -18,6 +19,7 @@ use Rattle.starts.specs.Starts.{IsStart}
 use Rattle.letter.specs.declared.letter.Letter.{Letter}
 use Rattle.local_object.specs.KeptBanks.{kept_reply}
 use Rattle.local_object.specs.Local.{LocalObject, bank_here}
+use Rattle.local_object.specs.Ended.{early_value_of}
 use Rattle.local_object.specs.Events.{LocalEvent}
 use Rattle.local_object.specs.Outcomes.{Outcome}
 use Rattle.refinement.specs.Parts.{IsPartOf, WasSentAs}
@@ -106,6 +108,11 @@ history_after local (LocalEvent.Answer id) now history = with_answer (open_call 
 history_after local (LocalEvent.EndEarly id value) now history =
     with_early_answer (open_call local.calls id) value now history
 history_after local _ now history = history
+
+-- the history of the world after an event at a node: an early answer is not in it
+abbrev pub world_history : LocalObject → LocalEvent → (now : ℕ) → List Entry → List Entry
+world_history local (LocalEvent.EndEarly id value) now history = history
+world_history local event now history = history_after local event now history
 
 -- Refinement
 

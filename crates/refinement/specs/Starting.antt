@@ -19,12 +19,14 @@ use Rattle.refinement.specs.Parts.{IsPartOf}
 use Rattle.refinement.specs.Refined.{IsRefined, world_events}
 use Rattle.refinement.specs.WellFormed.{IsWellFormed}
 
--- whether a call begins or goes on at the node's start: the world may need many events to do the same
+-- whether a call begins or goes on at the node's start, where the world may need many events to do the same, or a call
+-- ends early, where the world waits first
 abbrev pub is_at_start : LocalEvent → Bool
 is_at_start (LocalEvent.BeginRead id) = true
 is_at_start (LocalEvent.BeginWrite id value) = true
 is_at_start (LocalEvent.ReadOn id) = true
 is_at_start (LocalEvent.BeginAnew id) = true
+is_at_start (LocalEvent.EndEarly id value) = true
 is_at_start _ = false
 
 -- how many positions a call leaves behind as it goes on at a start
