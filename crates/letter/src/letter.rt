@@ -1,5 +1,6 @@
 use crate::shared_layout::SharedLayout;
 use crate::start::Start;
+use crate::telling::Telling;
 use bytes::Bytes;
 use mail::Message;
 
@@ -12,6 +13,11 @@ pub struct Letter {
     pub next: Option<SharedLayout>,
     /// The start of the object at the node that sent the letter, if that is later than position 0.
     pub start: Option<Start>,
+    /// Whether the letter asks the member for the piece of its greatest finalized tag, too. Only the requests of a read
+    /// do so.
+    pub asks_piece: bool,
+    /// What a reply tells of its member, if it tells anything. A closed bank tells nothing.
+    pub told: Option<Telling>,
     /// The request, or the reply.
     pub message: Message,
 }

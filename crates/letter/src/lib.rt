@@ -4,7 +4,9 @@
 pub use letter::{Letter, NamedLetter};
 pub use shared_layout::SharedLayout;
 pub use start::Start;
+pub use telling::Telling;
 
 mod letter;
 mod shared_layout;
 mod start;
+mod telling;

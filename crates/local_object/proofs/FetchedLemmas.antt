@@ -19,6 +19,7 @@ use Rattle.record.specs.Fragments.{answer_piece, HasPiece, HasPieces}
 use Rattle.record.specs.Records.{Object, layout_at}
 use Rattle.call.specs.Call.{OpenCall as Machine}
 use Rattle.open_calls.specs.OpenCalls.{NodeCall}
+use Rattle.local_object.specs.declared.report.Report.{Report}
 use Rattle.local_object.specs.Codes.{at_node}
 use Rattle.local_object.specs.Going.{IsFetchedValue}
 use Rattle.local_object.specs.Local.{Place, layout_in, heard_place}
@@ -27,20 +28,20 @@ use Rattle.local_object.specs.Pieces.{at_point, first_pieces, own_pieces}
 use Rattle.local_object.proofs.NextLemmas.{IsSettling, fetching_of}
 
 -- by index, and by recursion
-all_by : {X : Type 0} (P : X → Type 0) (xs : List X) → All P xs → AllByRecursion P xs
+pub all_by : {X : Type 0} (P : X → Type 0) (xs : List X) → All P xs → AllByRecursion P xs
 all_by P [] all = tt
 all_by P (x ∷ xs) all = (all 0 x (omega arith), all_by P xs (λ i d h. all (suc i) d (omega (arith, h))))
 
-all_take : {X : Type 0} (P : X → Type 0) (k : ℕ) (xs : List X) → AllByRecursion P xs → AllByRecursion P (take k xs)
+pub all_take : {X : Type 0} (P : X → Type 0) (k : ℕ) (xs : List X) → AllByRecursion P xs → AllByRecursion P (take k xs)
 all_take P zero xs all = tt
 all_take P (suc k) [] all = tt
 all_take P (suc k) (x ∷ xs) all = (all.0, all_take P k xs all.1)
 
-all_map : {X : Type 0} (P Q : X → Type 0) (xs : List X) → ((x : X) → P x → Q x) → AllByRecursion P xs → AllByRecursion Q xs
+pub all_map : {X : Type 0} (P Q : X → Type 0) (xs : List X) → ((x : X) → P x → Q x) → AllByRecursion P xs → AllByRecursion Q xs
 all_map P Q [] f all = tt
 all_map P Q (x ∷ xs) f all = (f x all.0, all_map P Q xs f all.1)
 
-length_points : (pieces : List Piece) → length (points_of pieces) ≡ length pieces
+pub length_points : (pieces : List Piece) → length (points_of pieces) ≡ length pieces
 length_points [] = refl
 length_points (p ∷ ps) = ap suc (length_points ps)
 
@@ -105,7 +106,7 @@ module _ (places : List Place) (call : Machine) (value : List ℕ) (is : IsFetch
   all_pieces [] own lens bytes = tt
   all_pieces (p ∷ ps) own lens bytes = (has_piece p own.0 lens.0 bytes.0, all_pieces ps own.1 lens.1 bytes.1)
 
-  has_pieces : HasPieces fragment object call.phase value
+  pub has_pieces : HasPieces fragment object call.phase value
   has_pieces =
       let pieces = first_pieces is.layout.k replies in record {
         members = points_of pieces;
@@ -116,11 +117,11 @@ module _ (places : List Place) (call : Machine) (value : List ℕ) (is : IsFetch
             (all_by _ pieces is.decoded.lawful.lens) (all_by _ pieces is.decoded.interpolated.fragments);
       }
 
-pub may_settle_here : (owner node : ℕ) (delta : Option ℕ) (start : ℕ) (places : List Place) (calls : List NodeCall) (call : Machine)
+pub may_settle_here : (owner node : ℕ) (delta : Option ℕ) (start : ℕ) (reports : List Report) (places : List Place) (calls : List NodeCall) (call : Machine)
     (value : List ℕ) → IsSettling call false → IsFetchedValue places call value
-    → IsFetchedHere fragment (record { node = owner; delta = delta; start = start; places = places; calls = calls })
+    → IsFetchedHere fragment (record { node = owner; delta = delta; start = start; places = places; reports = reports; calls = calls })
     (at_node node call) value
-may_settle_here owner node delta start places calls call value settling is =
+may_settle_here owner node delta start reports places calls call value settling is =
     let fetching = fetching_of call false settling in record {
       complete = settling.complete;
       fetch = fetching.0;

@@ -8,7 +8,7 @@ use Rattle.open_calls.specs.OpenCalls.{NodeCall, open_call, without_call}
 use Rattle.local_object.specs.Codes.{carried}
 use Rattle.local_object.specs.Distinct.{HaveOtherIds, DifferInIds}
 use Rattle.local_object.specs.Doing.{IsOutcome, give_up_events, gives_up, is_client_call}
-use Rattle.local_object.specs.Events.{LocalEvent}
+use Rattle.local_object.specs.Events.{LocalEvent, ended_here}
 use Rattle.local_object.specs.Local.{LocalObject}
 use Rattle.local_object.proofs.CarriedCallLemmas.{other_at, same_call}
 
@@ -41,7 +41,7 @@ module _ (o old : LocalObject) (view : o ≡ old) (id : ℕ) where
 
   pub give_up_done : (new : LocalObject) → true ≡ is_client_call (open_call o.calls id)
       → AllByRecursion (λ (call : NodeCall). call.id ≡ id → call.kind ≢ Move) o.calls
-      → new ≡ record o { calls = without_call id o.calls } → IsOutcome old (give_up_events old id) new []
+      → new ≡ ended_here o id → IsOutcome old (give_up_events old id) new []
   give_up_done new is may same =
       subst (λ b. IsOutcome old (cond b (LocalEvent.GiveUp id ∷ []) []) new []) (gives_is true is)
       (subst (λ (l : LocalObject). IsOutcome l (LocalEvent.GiveUp id ∷ []) new []) view

@@ -5,6 +5,8 @@ pub mod HeardPlaceLemmas
 pub mod LastPositionLemmas
 pub mod OneMemberLemmas
 pub mod PieceLemmas
+pub mod ReportLemmas
+pub mod TellingLemmas
 pub mod LearntLemmas
 pub mod ServeLemmas
 pub mod BeginLemmas
@@ -23,6 +25,9 @@ pub mod ClosingLemmas
 pub mod AgreementLemmas
 pub mod CappedSumLemmas
 pub mod GivenUpCallLemmas
+pub mod ToldPieceLemmas
+pub mod EarlyEndLemmas
+pub mod EarlyCallLemmas
 pub mod ResentLemmas
 pub mod NewObjectLemmas
 pub mod ReadingTestLemmas

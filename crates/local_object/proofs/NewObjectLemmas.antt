@@ -8,6 +8,7 @@ use Rattle.std.proofs.lemmas.Slice.Eq.{slice_eq-Decides}
 use Rattle.layout.specs.Layout.{Layout}
 use Rattle.open_calls.specs.OpenCalls.{NodeCall}
 use Rattle.local_object.specs.declared.kept_bank.KeptBank.{KeptBank}
+use Rattle.local_object.specs.declared.report.Report.{Report}
 use Rattle.local_object.specs.Agreement.{same_layout}
 use Rattle.local_object.specs.Local.{LocalObject, Place, new_local}
 use Rattle.local_object.specs.New.{are_new_places, is_new, is_new_if, is_new_place}
@@ -41,6 +42,11 @@ layout_is layout =
 no_bank : (bank : Option KeptBank) → not (is_some bank) ≡ true → bank ≡ None
 no_bank None e = refl
 no_bank (Some bank) e = absurd (cc)
+
+no_reports : (reports : List Report) → eqb (length reports) 0 ≡ true → reports ≡ []
+no_reports [] e = refl
+no_reports (report ∷ reports) e =
+    let none : length (report ∷ reports) ≡ 0 = eqb-true (length (report ∷ reports)) 0 e in absurd (omega (arith, none))
 
 no_calls : (calls : List NodeCall) → eqb (length calls) 0 ≡ true → calls ≡ []
 no_calls [] e = refl
@@ -86,15 +92,19 @@ new_decided local node delta first = (to, from)
         let begins = eqb local.start 0 in
         let quiet = eqb (length local.calls) 0 in
         let placed = are_new_places first local.places in
-        let one = both (eqb local.node node) (limited && (begins && (quiet && placed))) e in
-        let two = both limited (begins && (quiet && placed)) one.1 in
-        let three = both begins (quiet && placed) two.1 in
-        let four = both quiet placed three.1 in
+        let untold = eqb (length local.reports) 0 in
+        let one = both (eqb local.node node) (limited && (begins && (quiet && (untold && placed)))) e in
+        let two = both limited (begins && (quiet && (untold && placed))) one.1 in
+        let three = both begins (quiet && (untold && placed)) two.1 in
+        let four = both quiet (untold && placed) three.1 in
+        let five = both untold placed four.1 in
         ap (λ n. record local { node = n }) (eqb-true local.node node one.0)
         ∙ ap (λ d. record local { node = node; delta = d }) (limits_same local.delta delta two.0)
         ∙ ap (λ n. record local { node = node; delta = delta; start = n }) (eqb-true local.start 0 three.0)
         ∙ ap (λ (ps : List Place). record local { node = node; delta = delta; start = 0; places = ps })
-        (new_places first local.places four.1)
+        (new_places first local.places five.1)
+        ∙ ap (λ (rs : List Report). record (new_local node delta first) { reports = rs; calls = local.calls })
+        (no_reports local.reports five.0)
         ∙ ap (λ (cs : List NodeCall). record (new_local node delta first) { calls = cs }) (no_calls local.calls four.0)
 
     from : local ≡ new_local node delta first → is_new local node delta first ≡ true

@@ -13,12 +13,14 @@ use Rattle.call.specs.Call.{OpenCall as Machine, reached}
 use Rattle.call.specs.Steps.{entered, phase_next, taken_call}
 use Rattle.open_calls.specs.OpenCalls.{taking_open, NodeCall, open_call, due_phase, with_open, without_call}
 use Rattle.letter.specs.declared.letter.Letter.{Letter}
+use Rattle.letter.specs.declared.telling.Telling.{Telling}
+use Rattle.local_object.specs.declared.report.Report.{Report}
 use Rattle.local_object.specs.declared.progress.Ended.{Ended}
 use Rattle.local_object.specs.Codes.{at_node, carried}
 use Rattle.local_object.specs.Coding.{is_sendable}
 use Rattle.local_object.specs.Distinct.{HaveOtherIds, HaveDistinctIds, IsCallAt}
 use Rattle.local_object.specs.Ended.{told_if, told_of}
-use Rattle.local_object.specs.Events.{LocalEvent, advanced_at, advanced_here, done_here}
+use Rattle.local_object.specs.Events.{LocalEvent, advanced_at, advanced_here, done_here, ended_here, taking_here}
 use Rattle.local_object.specs.Outcomes.{Outcome, on_open_call, silent}
 use Rattle.local_object.specs.Going.{IsAdvancedIf, IsAdvanced, IsFetchedValue, next_here, next_if, settled_here, taken_here}
 use Rattle.local_object.specs.Taking.{CanSettle, IsOutcomeWithAnswers, begin_anew_events, begin_events, call_events, can_begin}
@@ -26,6 +28,7 @@ use Rattle.local_object.specs.Taking.{is_read_begin, lead_events, machine_of, st
 use Rattle.call.specs.declared.next.Next.{Next as Step}
 use Rattle.local_object.specs.Local.{LocalObject, Place, layout_in, heard_place}
 use Rattle.local_object.specs.May.{MayHappenHere}
+use Rattle.local_object.specs.Reports.{reports_after, told_to, without_reports}
 use Rattle.local_object.specs.Resent.{letters_again, letters_again_at, letters_again_of}
 use Rattle.local_object.specs.Sent.{missing_letters}
 use Rattle.local_object.proofs.BeginLemmas.{open_found}
@@ -44,9 +47,9 @@ abbrev position_or : ℕ → Option (Kind × ℕ) → ℕ
 position_or other None = other
 position_or other (Some asked) = asked.1
 
-module _ (node : ℕ) (delta : Option ℕ) (start : ℕ) (places : List Place) where
+module _ (node : ℕ) (delta : Option ℕ) (start : ℕ) (reports : List Report) (places : List Place) where
   abbrev pub object : List Machine → LocalObject
-  object calls = record { node = node; delta = delta; start = start; places = places; calls = carried node calls }
+  object calls = record { node = node; delta = delta; start = start; places = places; reports = reports; calls = carried node calls }
 
   module _ {calls : List Machine} {id index : ℕ} (distinct : HaveDistinctIds calls) (at : IsCallAt calls id index) where
     pub found : (f : NodeCall → Outcome) → on_open_call (object calls) (open_call (carried node calls) id) f ≡ f (at_node node at.call)
@@ -58,14 +61,16 @@ module _ (node : ℕ) (delta : Option ℕ) (start : ℕ) (places : List Place) w
         ap (λ (cs : List NodeCall). record (object calls) { calls = cs })
         (sym (with_set node calls index at.call new distinct.distinct at.there same))
 
-    pub taken_is : (message : Message) → id ≡ message.call
-        → object (set calls index (taken_call message 0 at.call)) ≡ (taken_here (object calls) message).local
-    taken_is message named =
-        changed_is (taken_call message 0 at.call) refl
-        ∙ sym (ap (λ (t : Outcome). t.local)
-        (found (λ call. silent (record (object calls) { calls = with_open (taking_open message call) (carried node calls) }))))
+    pub taken_is : (message : Message) (told : Option Telling) → id ≡ message.call
+        → record (object (set calls index (taken_call message 0 at.call))) {
+          reports = reports_after at.call.phase.number message (told_to at.call.kind told) reports;
+        } ≡ (taken_here (object calls) message told).local
+    taken_is message told named =
+        ap (λ (l : LocalObject). record l { reports = reports_after at.call.phase.number message (told_to at.call.kind told) reports })
+        (changed_is (taken_call message 0 at.call) refl)
+        ∙ sym (ap (λ (t : Outcome). t.local) (found (λ call. silent (taking_here (object calls) call message told))))
         ∙ ap (λ n. (on_open_call (object calls) (open_call (carried node calls) n)
-        (λ call. silent (record (object calls) { calls = with_open (taking_open message call) (carried node calls) }))).local) named
+        (λ call. silent (taking_here (object calls) call message told))).local) named
 
     pub settled_is : (value : List ℕ)
         → object (set calls index (record at.call { settled = Some value })) ≡ (settled_here (object calls) id value).local
@@ -138,18 +143,28 @@ module _ (node : ℕ) (delta : Option ℕ) (start : ℕ) (places : List Place) w
             → letters_again fragment (object calls) id ≡ missing_letters places start call layout
         sent_again is = sent_if true is
 
-      pub answered_by : (again : Bool) (new : List Machine) (letters : List Letter) (ended : List Ended)
-          → next_if again call ≡ next.Answer → new ≡ remove calls index → letters ≡ [] → ended ≡ told_of (at_node node call) ∷ []
-          → IsOutcomeWithAnswers (object calls) (lead_events again (object calls) id) (object new) letters ended
-      answered_by again new letters ended step rest none tells =
-          let is = answer_of call (again_answer again (next_here call) step) in
-          subst (λ events. IsOutcomeWithAnswers (object calls) events (object new) letters ended)
-          (ap (λ n. LocalEvent.Answer n ∷ []) (sym named_is) ∙ sym (lead_is again next.Answer step))
-          (by_one (object calls) (LocalEvent.Answer id) (object new) letters ended
-          (at_node node call, open_is, ready_of node call None is, due_begun (reached call) ∙ is.due)
-          (ap (λ (cs : List NodeCall). record (object calls) { calls = cs })
+      -- the call ends, and what it was told is dropped
+      pub ended_is : (new : List Machine) (kept : List Report) → new ≡ remove calls index → kept ≡ without_reports id reports
+          → record (object new) { reports = kept } ≡ ended_here (object calls) id
+      ended_is new kept rest kept_is =
+          ap (λ (rs : List Report). record (object new) { reports = rs }) kept_is
+          ∙ ap (λ (cs : List NodeCall). record (object calls) { calls = cs; reports = without_reports id reports })
           (ap (carried node) rest ∙ sym (without_at node calls index call distinct.distinct there)
-          ∙ ap (λ n. without_call n (carried node calls)) named_is))
+          ∙ ap (λ n. without_call n (carried node calls)) named_is)
+
+      pub answered_by : (again : Bool) (new : List Machine) (kept : List Report) (letters : List Letter) (ended : List Ended)
+          → next_if again call ≡ next.Answer → new ≡ remove calls index → kept ≡ without_reports id reports → letters ≡ []
+          → ended ≡ told_of (at_node node call) ∷ []
+          → IsOutcomeWithAnswers (object calls) (lead_events again (object calls) id) (record (object new) { reports = kept }) letters
+          ended
+      answered_by again new kept letters ended step rest kept_is none tells =
+          let is = answer_of call (again_answer again (next_here call) step) in
+          let after = record (object new) { reports = kept } in
+          subst (λ events. IsOutcomeWithAnswers (object calls) events after letters ended)
+          (ap (λ n. LocalEvent.Answer n ∷ []) (sym named_is) ∙ sym (lead_is again next.Answer step))
+          (by_one (object calls) (LocalEvent.Answer id) after letters ended
+          (at_node node call, open_is, ready_of node call None is, due_begun (reached call) ∙ is.due)
+          (ended_is new kept rest kept_is)
           none (tells ∙ sym (ap told_if open_is)))
 
       module _ (kind : Kind) (position : ℕ) (asked : due (reached call) ≡ Some (kind, position)) where
@@ -225,11 +240,10 @@ module _ (node : ℕ) (delta : Option ℕ) (start : ℕ) (places : List Place) w
   none_to_settle calls id others value can =
       let e : None ≡ Some can.call = sym (open_none node calls id others) ∙ can.carried in none-some can.call e
 
-  pub taken_none : (calls : List Machine) (message : Message) → HaveOtherIds message.call calls
-      → object calls ≡ (taken_here (object calls) message).local
-  taken_none calls message others =
-      sym (ap (λ o. (on_open_call (object calls) o
-      (λ call. silent (record (object calls) { calls = with_open (taking_open message call) (carried node calls) }))).local)
+  pub taken_none : (calls : List Machine) (message : Message) (told : Option Telling) → HaveOtherIds message.call calls
+      → object calls ≡ (taken_here (object calls) message told).local
+  taken_none calls message told others =
+      sym (ap (λ o. (on_open_call (object calls) o (λ call. silent (taking_here (object calls) call message told))).local)
       (open_none node calls message.call others))
 
   pub settled_none : (calls : List Machine) (id : ℕ) (value : List ℕ) → HaveOtherIds id calls
@@ -245,6 +259,6 @@ pub settle_may : (local : LocalObject) (id : ℕ) (value : List ℕ) → CanSett
 settle_may local id value can = (
   can.call,
   can.carried,
-  may_settle_here local.node can.call.node local.delta local.start local.places local.calls (machine_of can.call) value
+  may_settle_here local.node can.call.node local.delta local.start local.reports local.places local.calls (machine_of can.call) value
       (settle_of (machine_of can.call) can.next) can.fetched,
 )

@@ -9,6 +9,7 @@ use Rattle.call.specs.declared.next.Next.TheVariants as next
 use Rattle.call.specs.Call.{OpenCall as Machine, reached}
 use Rattle.open_calls.specs.OpenCalls.{NodeCall, open_call}
 use Rattle.letter.specs.declared.letter.Letter.{Letter}
+use Rattle.local_object.specs.declared.report.Report.{Report}
 use Rattle.local_object.specs.Anew.{IsBegunAnew, IsBegunAnewIf, IsReadAt, IsReadAtIf, IsReadLater, reading_machine}
 use Rattle.local_object.specs.Codes.{at_node, carried}
 use Rattle.local_object.specs.Distinct.{HaveDistinctIds, HaveOtherIds, IsCallAt, KnowsStart}
@@ -33,29 +34,29 @@ pub restart_unsettled : (again : Bool) (call : Machine) (kind : Kind) (position 
 restart_unsettled again call kind position step =
     (fetching_of call true (restart_of call kind position (again_restart again (next_here call) kind position step)).1).1
 
-module _ (node : ℕ) (delta : Option ℕ) (start : ℕ) (places : List Place) {calls : List Machine} {id index : ℕ}
+module _ (node : ℕ) (delta : Option ℕ) (start : ℕ) (reports : List Report) (places : List Place) {calls : List Machine} {id index : ℕ}
     (distinct : HaveDistinctIds calls) (at : IsCallAt calls id index) (call : Machine) (there : slice_get calls index ≡ Some call)
     (knows : KnowsStart places start) where
   abbrev local : LocalObject
-  local = object node delta start places calls
+  local = object node delta start reports places calls
 
   abbrev carries : open_call (carried node calls) id ≡ Some (at_node node call)
-  carries = open_is node delta start places distinct at call there
+  carries = open_is node delta start reports places distinct at call there
 
   abbrev names : call.id ≡ id
-  names = named_is node delta start places distinct at call there
+  names = named_is node delta start reports places distinct at call there
 
   start_known : IsSome (layout_in (heard_place places start))
   start_known = knows.known
 
   -- the call reads at the start, in a phase with this number
   read_is : (number : ℕ) (new : List Machine) (letters : List Letter) → IsReadAt places calls call index number start new letters
-      → (object node delta start places new ≡ (reads_here local (at_node node call) number).local)
+      → (object node delta start reports places new ≡ (reads_here local (at_node node call) number).local)
       × (letters ≡ (reads_here local (at_node node call) number).sent)
   read_is number new letters reads =
       let outcome : reads_here local (at_node node call) number ≡ reads_at local (at_node node call) number start (Some reads.layout) =
       ap (reads_at local (at_node node call) number start) reads.known in (
-        ap (object node delta start places) reads.calls
+        ap (object node delta start reports places) reads.calls
             ∙ ap (λ (cs : List NodeCall). record local { calls = cs })
             (sym (with_set node calls index call (reading_machine call number start reads.layout) distinct.distinct there refl))
             ∙ sym (ap (λ (t : Outcome). t.local) outcome),
@@ -64,7 +65,7 @@ module _ (node : ℕ) (delta : Option ℕ) (start : ℕ) (places : List Place) {
 
   module _ (new : List Machine) (letters : List Letter) where
     abbrev after : LocalObject
-    after = object node delta start places new
+    after = object node delta start reports places new
 
     -- the call begins anew
 
@@ -86,7 +87,7 @@ module _ (node : ℕ) (delta : Option ℕ) (start : ℕ) (places : List Place) {
         → IsOutcomeWithAnswers local (cond can (LocalEvent.BeginAnew call.id ∷ []) []) after letters []
     anew_if true may reads =
         subst (λ n. IsOutcomeWithAnswers local (LocalEvent.BeginAnew n ∷ []) after letters []) (sym names) (anew_done may reads)
-    anew_if false may same = by_none local after letters [] (ap (object node delta start places) same.0) same.1 refl
+    anew_if false may same = by_none local after letters [] (ap (object node delta start reports places) same.0) same.1 refl
 
     abbrev can_anew : Bool
     can_anew = not (is_move call.kind) && ltb (call.phase.number + first_number start) (2 ^ 32)
@@ -103,7 +104,7 @@ module _ (node : ℕ) (delta : Option ℕ) (start : ℕ) (places : List Place) {
     anew_by again kind position step anew reads =
         let both = restart_of call kind position (again_restart again (next_here call) kind position step) in
         subst (λ events. IsOutcomeWithAnswers local events after letters [])
-        (sym (lead_is node delta start places distinct at call there again (next.Restart kind position) step
+        (sym (lead_is node delta start reports places distinct at call there again (next.Restart kind position) step
         ∙ ap (λ b. cond b (begin_anew_events local call) (begin_events places call kind position)) anew
         ∙ anew_is))
         (anew_if can_anew
@@ -119,7 +120,7 @@ module _ (node : ℕ) (delta : Option ℕ) (start : ℕ) (places : List Place) {
             → IsOutcomeWithAnswers local (lead_events again local id) after letters []
         go true e begun = anew_by again kind position step e begun
         go false e begun =
-            restarted_by node delta start places distinct at call there kind position new letters again step e begun
+            restarted_by node delta start reports places distinct at call there kind position new letters again step e begun
 
     -- the call reads on
 
@@ -140,7 +141,7 @@ module _ (node : ℕ) (delta : Option ℕ) (start : ℕ) (places : List Place) {
         → IsReadAtIf can places calls call index (call.phase.number + 2 * (start - call.phase.position)) start new letters
         → IsOutcomeWithAnswers local (cond can (LocalEvent.ReadOn id ∷ []) []) after letters []
     on_if true may reads = on_done may reads
-    on_if false may same = by_none local after letters [] (ap (object node delta start places) same.0) same.1 refl
+    on_if false may same = by_none local after letters [] (ap (object node delta start reports places) same.0) same.1 refl
 
     pub reads_on_by : is_reading places call ≡ true → call.phase.call ≡ call.id
         → is_some call.phase.end ≡ not (ltb (length call.phase.replies) call.phase.quorum)
@@ -173,35 +174,35 @@ module _ (node : ℕ) (delta : Option ℕ) (start : ℕ) (places : List Place) {
         (at_node node call, carries, here, ltb-true call.phase.position start before, start_known) reads).done
 
 -- the call reads nowhere before the start
-module _ (node : ℕ) (delta : Option ℕ) (start : ℕ) (places : List Place) where
-  pub nothing_read : (calls : List Machine) (id : ℕ) (old : LocalObject) → object node delta start places calls ≡ old
-      → reads_on (object node delta start places calls) (open_call (carried node calls) id) ≡ false
+module _ (node : ℕ) (delta : Option ℕ) (start : ℕ) (reports : List Report) (places : List Place) where
+  pub nothing_read : (calls : List Machine) (id : ℕ) (old : LocalObject) → object node delta start reports places calls ≡ old
+      → reads_on (object node delta start reports places calls) (open_call (carried node calls) id) ≡ false
       → (letters : List Letter) → letters ≡ [] → IsOutcome old (read_on_events old id) old letters
   nothing_read calls id old view not_read letters none =
       subst (λ (l : LocalObject). IsOutcome l (read_on_events l id) l letters) view
-      (subst (λ b. IsOutcome (object node delta start places calls) (cond b (LocalEvent.ReadOn id ∷ []) [])
-      (object node delta start places calls) letters) (sym not_read)
+      (subst (λ b. IsOutcome (object node delta start reports places calls) (cond b (LocalEvent.ReadOn id ∷ []) [])
+      (object node delta start reports places calls) letters) (sym not_read)
       (record { may = tt; local = refl; letters = none }))
 
   pub reads_none : (calls : List Machine) (id : ℕ) → HaveOtherIds id calls
-      → reads_on (object node delta start places calls) (open_call (carried node calls) id) ≡ false
-  reads_none calls id others = ap (reads_on (object node delta start places calls)) (open_none node calls id others)
+      → reads_on (object node delta start reports places calls) (open_call (carried node calls) id) ≡ false
+  reads_none calls id others = ap (reads_on (object node delta start reports places calls)) (open_none node calls id others)
 
   module _ {calls : List Machine} {id index : ℕ} (distinct : HaveDistinctIds calls) (at : IsCallAt calls id index) (call : Machine)
       (there : slice_get calls index ≡ Some call) where
-    reads_if : reads_on (object node delta start places calls) (open_call (carried node calls) id)
+    reads_if : reads_on (object node delta start reports places calls) (open_call (carried node calls) id)
         ≡ (is_reading places call && (ltb call.phase.position start
         && ltb (call.phase.number + 2 * (start - call.phase.position)) (2 ^ 32)))
-    reads_if = ap (reads_on (object node delta start places calls)) (open_is node delta start places distinct at call there)
+    reads_if = ap (reads_on (object node delta start reports places calls)) (open_is node delta start reports places distinct at call there)
 
     pub not_reading : is_reading places call ≡ false
-        → reads_on (object node delta start places calls) (open_call (carried node calls) id) ≡ false
+        → reads_on (object node delta start reports places calls) (open_call (carried node calls) id) ≡ false
     not_reading e =
         reads_if
         ∙ ap (λ b. b && (ltb call.phase.position start && ltb (call.phase.number + 2 * (start - call.phase.position)) (2 ^ 32))) e
 
     pub not_before : is_reading places call ≡ true → ltb call.phase.position start ≡ false
-        → reads_on (object node delta start places calls) (open_call (carried node calls) id) ≡ false
+        → reads_on (object node delta start reports places calls) (open_call (carried node calls) id) ≡ false
     not_before reading e =
         reads_if
         ∙ ap (λ b. b && (ltb call.phase.position start && ltb (call.phase.number + 2 * (start - call.phase.position)) (2 ^ 32)))

@@ -11,13 +11,16 @@ use Rattle.mail.specs.declared.message.Body.{Body}
 use Rattle.mail.specs.declared.message.Body.TheVariants as body
 use Rattle.letter.specs.declared.letter.Letter.{Letter}
 use Rattle.letter.specs.declared.start.Start.{Start}
+use Rattle.letter.specs.declared.telling.Telling.{Telling}
 use Rattle.local_object.specs.declared.kept_bank.KeptBank.{KeptBank}
+use Rattle.local_object.specs.ChangedBanks.{kept_bank}
 use Rattle.local_object.specs.KeptBanks.{kept_reply}
+use Rattle.local_object.specs.Reports.{told_by}
 use Rattle.local_object.specs.Doing.{IsOutcome, has_member, is_askable, is_member, is_served, names_node, serve_events, stray_events}
 use Rattle.mail.specs.Message.{is_request}
 use Rattle.local_object.specs.Events.{LocalEvent, reply_letters, served_here}
 use Rattle.local_object.specs.Outcomes.{learnt_from, next_in_body}
-use Rattle.local_object.specs.Local.{LocalObject, Place, bank_here, layout_here, layout_in, heard_place, start_at, told_start}
+use Rattle.local_object.specs.Local.{LocalObject, Place, bank_here, bank_in, bank_or_opened, layout_here, layout_in, heard_place, start_at, told_start}
 use Rattle.local_object.specs.Local.{told_start_in, with_bank_here}
 use Rattle.local_object.specs.May.{IsAddressed}
 use Rattle.local_object.proofs.HeardLayoutLemmas.{node_heard}
@@ -38,38 +41,55 @@ module _ (local : LocalObject) (letter : Letter) (asked : Request) (is : letter.
   abbrev position : ℕ
   position = letter.message.position
 
-  abbrev made : Option Layout → Option Start → Kind → Reply → Letter
-  made next start kind reply = record {
+  abbrev member : ℕ
+  member = letter.message.member
+
+  abbrev made : Option Layout → Option Start → Option Telling → Kind → Reply → Letter
+  made next start told kind reply = record {
     layout = letter.layout;
     next = next_in_body (body.Reply kind reply) next;
     start = start;
+    asks_piece = false;
+    told = told;
     message = record {
       call = letter.message.call;
       phase = letter.message.phase;
       position = position;
-      member = letter.message.member;
+      member = member;
       body = body.Reply kind reply;
     };
   }
 
-  pub handled_sent : (places : List Place) (bank : Option KeptBank) (kind : Kind) (reply : Reply) (sent : Letter)
-      → places ≡ with_bank_here local.places position bank → kind ≡ kind_of asked
-      → Some reply ≡ kept_reply (bank_here local position letter.message.member) asked
-      → sent ≡ made (layout_in (heard_place places (suc position))) (told_start_in places local.start) kind reply
+  -- what the node keeps of its bank afterwards, and all its places then
+  abbrev bank : Option KeptBank
+  bank = kept_bank (bank_in (heard_place local.places position)) member local.delta asked
+
+  abbrev served_places : List Place
+  served_places = with_bank_here local.places position bank
+
+  abbrev tells_in : List Place → Option Telling
+  tells_in places = told_by (bank_or_opened (bank_in (heard_place places position)) member local.delta) letter.asks_piece
+
+  pub handled_sent : (places : List Place) (kind : Kind) (reply : Reply) (told : Option Telling) (sent : Letter)
+      → places ≡ served_places → kind ≡ kind_of asked
+      → Some reply ≡ kept_reply (bank_here local position member) asked → told ≡ tells_in places
+      → sent ≡ made (layout_in (heard_place places (suc position))) (told_start_in places local.start) told kind reply
       → sent ∷ [] ≡ (served_here local letter letter.message.body).sent
-  handled_sent places bank kind reply sent places_are kind_is reply_is sent_is =
+  handled_sent places kind reply told sent places_are kind_is reply_is told_is sent_is =
       let next : layout_in (heard_place places (suc position)) ≡ layout_here local (suc position) =
       ap (λ (ps : List Place). layout_in (heard_place ps (suc position))) places_are
       ∙ layout_bank local.places position bank (suc position) in
-      let told : told_start_in places local.start ≡ told_start local =
+      let begins : told_start_in places local.start ≡ told_start local =
       ap (start_at local.start)
       (ap (λ (ps : List Place). layout_in (heard_place ps local.start)) places_are
       ∙ layout_bank local.places position bank local.start) in
       ap (λ (l : Letter). l ∷ [])
-      (sent_is ∙ ap (λ o. made o (told_start_in places local.start) kind reply) next
-      ∙ ap (λ s. made (layout_here local (suc position)) s kind reply) told
-      ∙ ap (λ k. made (layout_here local (suc position)) (told_start local) k reply) (kind_is ∙ sym (ap body_kind is)))
-      ∙ ap (reply_letters local letter) reply_is
+      (sent_is ∙ ap (λ o. made o (told_start_in places local.start) told kind reply) next
+      ∙ ap (λ s. made (layout_here local (suc position)) s told kind reply) begins
+      ∙ ap (λ t. made (layout_here local (suc position)) (told_start local) t kind reply) (told_is ∙ ap tells_in places_are)
+      ∙ ap (λ k. made (layout_here local (suc position)) (told_start local) (tells_in served_places) k reply)
+      (kind_is ∙ sym (ap body_kind is)))
+      ∙ ap (reply_letters local letter (tells_in served_places)) reply_is
       ∙ sym (ap (λ b. (served_here local letter b).sent) is)
 
 -- Whether a letter is served

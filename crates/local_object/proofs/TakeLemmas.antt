@@ -5,16 +5,18 @@ use Rattle.encoder.specs.Fragment.{fragment}
 use Rattle.bank.specs.declared.reply.Reply.{Reply}
 use Rattle.mail.specs.declared.message.Body.{Body}
 use Rattle.mail.specs.declared.message.Body.TheVariants as body
-use Rattle.open_calls.specs.OpenCalls.{taking_open, open_call, with_open}
-use Rattle.std.proofs.Common.{List, ◌∷◌, ◌++◌, subst}
+use Rattle.open_calls.specs.OpenCalls.{open_call}
+use Rattle.std.proofs.Common.{ℕ, List, ◌∷◌, ◌++◌, Option, Some, inl, inr, subst}
 use Rattle.letter.specs.declared.letter.Letter.{Letter}
 use Rattle.local_object.specs.declared.progress.Ended.{Ended}
 use Rattle.local_object.specs.Doing.{is_taken}
 use Rattle.mail.specs.Message.{is_request}
-use Rattle.local_object.specs.Events.{LocalEvent, all_done}
+use Rattle.local_object.specs.Events.{LocalEvent, all_done, taking_here}
 use Rattle.local_object.specs.Outcomes.{learnt_from}
 use Rattle.local_object.specs.Going.{taken_here}
-use Rattle.local_object.specs.Taking.{AreSettling, IsOutcomeWithAnswers, IsReplyOutcome, SettlesFetched, going_events, grow_events}
+use Rattle.local_object.specs.EarlyEnds.{CanEndEarly, EndedIf}
+use Rattle.local_object.specs.Replies.{IsReplyOutcome}
+use Rattle.local_object.specs.Taking.{AreSettling, IsOutcomeWithAnswers, SettlesFetched, going_events, grow_events}
 use Rattle.local_object.specs.Taking.{lead_events, repeats}
 use Rattle.local_object.specs.Local.{LocalObject}
 use Rattle.local_object.proofs.DoneLemmas.{by_none, by_one, by_then}
@@ -29,7 +31,7 @@ reply_of (body.Request asked) e = absurd (cc)
 reply_of (body.Reply kind made) e = (kind, made, refl)
 
 pub take_by : (old : LocalObject) (letter : Letter) (mid new : LocalObject) → is_taken old letter ≡ true
-    → mid ≡ learnt_from old letter → new ≡ (taken_here mid letter.message).local
+    → mid ≡ learnt_from old letter → new ≡ (taken_here mid letter.message letter.told).local
     → IsOutcomeWithAnswers old (LocalEvent.Take letter ∷ []) new [] []
 take_by old letter mid new taken learnt is =
     let next = learnt_from old letter in
@@ -37,9 +39,9 @@ take_by old letter mid new taken learnt is =
     (reply_of letter.message.body
     (not_request (is_request letter.message.body)
     (ltb (letter.message.position + 1) (2 ^ 32) && is_some (open_call old.calls letter.message.call)) taken))
-    (is ∙ ap (λ (l : LocalObject). (taken_here l letter.message).local) learnt)
+    (is ∙ ap (λ (l : LocalObject). (taken_here l letter.message letter.told).local) learnt)
     (sym (silent_sent next (open_call next.calls letter.message.call)
-    (λ call. record next { calls = with_open (taking_open letter.message call) next.calls }))) refl
+    (λ call. taking_here next call letter.message letter.told))) refl
 
 pub taken_by : (local : LocalObject) (letter : Letter) (kind : Kind) (made : Reply) (r : Bool) → letter.message.body ≡ body.Reply kind made
     → ltb (letter.message.position + 1) (2 ^ 32) ≡ true → r ≡ is_some (open_call local.calls letter.message.call)
@@ -80,9 +82,13 @@ module _ {old mid settled grown new : LocalObject} {letter : Letter} {letters : 
       ended
       both going
 
-  pub goes_on : is_taken old letter ≡ true → again ≡ repeats old letter → IsReplyOutcome (is_taken old letter) old letter new letters ended
-  goes_on taken repeated =
-      subst (λ b. IsReplyOutcome b old letter new letters ended) (sym taken) (record {
+  pub goes_on : is_taken old letter ≡ true → again ≡ repeats old letter
+      → ((returned : Option (List ℕ)) → CanEndEarly mid letter.message.call returned → ⊥)
+      → IsReplyOutcome (is_taken old letter) old letter new letters ended
+  goes_on taken repeated waits =
+      subst (λ b. IsReplyOutcome b old letter new letters ended) (sym taken) (inr (record {
+        waits = subst (λ (l : LocalObject). (returned : Option (List ℕ)) → CanEndEarly l letter.message.call returned → ⊥)
+            first.done.local waits;
         settling = second.events;
         settles = subst (λ (l : LocalObject). AreSettling l letter.message.call second.events) first.done.local second.settles;
         leads = subst (λ (b : Bool). IsOutcomeWithAnswers old
@@ -91,4 +97,28 @@ module _ {old mid settled grown new : LocalObject} {letter : Letter} {letters : 
             (subst (λ (l : LocalObject). IsOutcomeWithAnswers old
             (LocalEvent.Take letter ∷ second.events ++ going_events again l letter.message.call) new letters ended)
             both.done.local all_by);
-      })
+      }))
+
+-- a call that took a reply ended early
+module _ {old mid new : LocalObject} {letter : Letter} {ended : Ended}
+    (first : IsOutcomeWithAnswers old (LocalEvent.Take letter ∷ []) mid [] [])
+    (early : EndedIf mid letter.message.call new (Some ended)) where
+  abbrev both_events : List LocalEvent
+  both_events = LocalEvent.Take letter ∷ LocalEvent.EndEarly letter.message.call early.0 ∷ []
+
+  pub both_done : (letters : List Letter) (told : List Ended) → letters ≡ [] → told ≡ ended ∷ []
+      → IsOutcomeWithAnswers old both_events new letters told
+  both_done letters told none tells =
+      subst (λ t. IsOutcomeWithAnswers old both_events new letters t) (sym tells)
+      (subst (λ ls. IsOutcomeWithAnswers old both_events new ls (ended ∷ [])) (sym none)
+      (by_then old mid new (LocalEvent.Take letter ∷ []) (LocalEvent.EndEarly letter.message.call early.0 ∷ []) [] [] []
+      (ended ∷ []) first early.2))
+
+  pub ends_early : (letters : List Letter) (told : List Ended) → letters ≡ [] → told ≡ ended ∷ [] → is_taken old letter ≡ true
+      → IsReplyOutcome (is_taken old letter) old letter new letters told
+  ends_early letters told none tells taken =
+      subst (λ b. IsReplyOutcome b old letter new letters told) (sym taken) (inl (record {
+        returned = early.0;
+        can = subst (λ (l : LocalObject). CanEndEarly l letter.message.call early.0) first.done.local early.1;
+        done = both_done letters told none tells;
+      }))

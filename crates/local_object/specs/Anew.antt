@@ -14,6 +14,7 @@ use Rattle.call.specs.Call.{OpenCall as Machine, reached}
 use Rattle.letter.specs.declared.letter.Letter.{Letter}
 use Rattle.local_object.specs.Going.{IsAdvancedIf}
 use Rattle.local_object.specs.Letters.{letter_in}
+use Rattle.local_object.specs.Outcomes.{is_read}
 use Rattle.local_object.specs.Local.{LocalObject, Place, heard_place, layout_here, layout_in}
 use Rattle.local_object.specs.Starting.{first_number}
 use Rattle.local_object.specs.Taking.{can_begin, is_read_begin}
@@ -27,9 +28,9 @@ reading_machine call number position layout = record call {
 
 -- the letters of a phase that reads the sequence of layouts at the node's start, which is this position with this
 -- layout
-abbrev pub reading_letters : List Place → (id number position : ℕ) → Layout → List Letter
-reading_letters places id number position layout =
-    map (letter_in places position layout) (requests id number Next position layout.members 0 empty_piece)
+abbrev pub reading_letters : List Place → (asks : Bool) → (id number position : ℕ) → Layout → List Letter
+reading_letters places asks id number position layout =
+    map (letter_in places position asks layout) (requests id number Next position layout.members 0 empty_piece)
 
 -- the call at an index reads at a position of which the node has heard, in a phase with this number, and these letters
 -- were sent
@@ -38,7 +39,7 @@ pub record IsReadAt (places : List Place) (old : List Machine) (call : Machine) 
   pub layout : Layout
   pub known : layout_in (heard_place places position) ≡ Some layout
   pub calls : new ≡ slice_set old index (reading_machine call number position layout)
-  pub sent : letters ≡ reading_letters places call.id number position layout
+  pub sent : letters ≡ reading_letters places (is_read call.kind) call.id number position layout
 
 -- the call at an index reads at a position, if it could; otherwise nothing changed, and nothing was sent
 abbrev pub IsReadAtIf : (can : Bool) → List Place → (old : List Machine) → Machine → (index number position : ℕ) →

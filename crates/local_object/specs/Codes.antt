@@ -10,6 +10,7 @@ use Rattle.call.specs.Call.{OpenCall as Machine}
 use Rattle.open_calls.specs.OpenCalls.{NodeCall}
 use Rattle.local_object.specs.declared.kept_bank.KeptBank.{KeptBank}
 use Rattle.local_object.specs.declared.kept_bank.KeptBank.TheVariants as kept
+use Rattle.local_object.specs.declared.report.Report.{Report}
 use Rattle.local_object.specs.Local.{Place, LocalObject}
 
 -- what is kept of a bank, as one of two
@@ -39,12 +40,12 @@ place_code layout bank =
     (λ t. record { position = t.0; layout = t.1.0; bank = t.1.1 }) (λ _. refl)
 
 -- how an object is encoded: as the tuple of its parts
-abbrev pub local_code : Coded Place → Coded NodeCall → Coded LocalObject
-local_code place call =
-    code_by (ℕ × (Option ℕ × (ℕ × (List Place × List NodeCall))))
-    (coded× coded_ℕ (coded× (coded_option coded_ℕ) (coded× coded_ℕ (coded× (coded_list place) (coded_list call)))))
-    (λ o. (o.node, (o.delta, (o.start, (o.places, o.calls)))))
-    (λ t. record { node = t.0; delta = t.1.0; start = t.1.1.0; places = t.1.1.1.0; calls = t.1.1.1.1 }) (λ _. refl)
+abbrev pub local_code : Coded Place → Coded Report → Coded NodeCall → Coded LocalObject
+local_code place report call =
+    code_by (ℕ × (Option ℕ × (ℕ × (List Place × (List Report × List NodeCall)))))
+    (coded× coded_ℕ (coded× (coded_option coded_ℕ) (coded× coded_ℕ (coded× (coded_list place) (coded× (coded_list report) (coded_list call))))))
+    (λ o. (o.node, (o.delta, (o.start, (o.places, (o.reports, o.calls))))))
+    (λ t. record { node = t.0; delta = t.1.0; start = t.1.1.0; places = t.1.1.1.0; reports = t.1.1.1.1.0; calls = t.1.1.1.1.1 }) (λ _. refl)
 
 -- a machine as a call of this node
 abbrev pub at_node : (node : ℕ) → Machine → NodeCall

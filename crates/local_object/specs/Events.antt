@@ -1,5 +1,5 @@
 -- What a node does with one object, what it keeps of the object afterwards, and the letters that it sends.
-use Rattle.std.specs.Prelude.{ℕ, suc, List, [], ◌∷◌, ◌++◌, Option, None, Some}
+use Rattle.std.specs.Prelude.{ℕ, suc, false, List, [], ◌∷◌, ◌++◌, Option, None, Some}
 use Rattle.layout.specs.Layout.{Layout}
 use Rattle.piece.specs.declared.piece.Piece.{Piece}
 use Rattle.bank.specs.declared.kind.Kind.{Kind}
@@ -20,12 +20,15 @@ use Rattle.record.specs.Steps.{new_phase}
 use Rattle.open_calls.specs.OpenCalls.{NodeCall, open_call, with_open, without_call, stage_reached, due_phase}
 use Rattle.open_calls.specs.OpenCalls.{taking_open}
 use Rattle.letter.specs.declared.letter.Letter.{Letter}
+use Rattle.letter.specs.declared.telling.Telling.{Telling}
+use Rattle.mail.specs.declared.message.Message.{Message}
 use Rattle.local_object.specs.ChangedBanks.{kept_bank}
 use Rattle.local_object.specs.KeptBanks.{after_closing, after_raising, kept_reply}
 use Rattle.local_object.specs.Local.{LocalObject, layout_here, bank_here, bank_in, heard_place, with_bank_here}
 use Rattle.local_object.specs.Local.{last_position, told_start, with_heard}
 use Rattle.local_object.specs.Outcomes.{Outcome, begun_here, learnt_from, letter_of, on_open_call, phase_letters}
 use Rattle.local_object.specs.Outcomes.{silent}
+use Rattle.local_object.specs.Reports.{reports_after, told_by, told_to, without_reports}
 use Rattle.local_object.specs.Starting.{anew_number, called_at, number_at, reads_here}
 
 -- what a node does with one object; a call is named by its id, and a bank by its position
@@ -46,6 +49,7 @@ pub data LocalEvent : Type 0 where
   ReadOn : (id : ℕ) → LocalEvent
   BeginAnew : (id : ℕ) → LocalEvent
   Raise : (position : ℕ) → LocalEvent
+  EndEarly : (id : ℕ) → Option (List ℕ) → LocalEvent
 
 -- Calls
 
@@ -76,7 +80,7 @@ advanced_at fragment local call next (Some layout) =
               phase = new_phase call.id number next.0 next.1 layout 0;
             }) local.calls;
       };
-      sent = phase_letters local call.id number next.0 next.1 layout (pieces_here fragment layout call);
+      sent = phase_letters local false call.id number next.0 next.1 layout (pieces_here fragment layout call);
     }
 
 -- after a call begins the phase that is due, if there is one
@@ -84,22 +88,40 @@ abbrev pub advanced_here : Code → LocalObject → NodeCall → Option (Kind ×
 advanced_here fragment local call None = silent local
 advanced_here fragment local call (Some next) = advanced_at fragment local call next (layout_here local next.1)
 
+-- after a call takes a message, with which its member told this
+abbrev pub taking_here : LocalObject → NodeCall → Message → Option Telling → LocalObject
+taking_here local call message told = record local {
+  calls = with_open (taking_open message call) local.calls;
+  reports = reports_after call.phase.number message (told_to call.kind told) local.reports;
+}
+
+-- after a call has ended, and what it was told is dropped
+abbrev pub ended_here : LocalObject → (id : ℕ) → LocalObject
+ended_here local id = record local {
+  calls = without_call id local.calls;
+  reports = without_reports id local.reports;
+}
+
 -- Messages
 
--- the letter that carries the reply to a request, if there is one
-abbrev pub reply_letters : LocalObject → Letter → Option Reply → List Letter
-reply_letters local letter None = []
-reply_letters local letter (Some reply) = letter_of local letter.layout (answered letter.message reply) ∷ []
+-- the letter that carries the reply to a request, if there is one, and tells this
+abbrev pub reply_letters : LocalObject → Letter → Option Telling → Option Reply → List Letter
+reply_letters local letter told None = []
+reply_letters local letter told (Some reply) =
+    record (letter_of local false letter.layout (answered letter.message reply)) { told = told } ∷ []
 
--- after the node's bank serves a request, and its reply is sent; a bank that this opens is kept only if the request may
--- change it, and a closed bank sends no reply to a fetch
+-- after the node's bank serves a request, and its reply is sent, which tells what the bank is then; a bank that this
+-- opens is kept only if the request may change it, and a closed bank sends no reply to a fetch
 abbrev pub handled_here : LocalObject → Letter → Request → Outcome
 handled_here local letter asked =
     let place = letter.message.position in
     let member = letter.message.member in
-    let old = bank_in (heard_place local.places place) in record {
-      local = record local { places = with_bank_here local.places place (kept_bank old member local.delta asked) };
-      sent = reply_letters local letter (kept_reply (bank_here local place member) asked);
+    let old = bank_in (heard_place local.places place) in
+    let after = record local { places = with_bank_here local.places place (kept_bank old member local.delta asked) } in
+    record {
+      local = after;
+      sent = reply_letters local letter (told_by (bank_here after place member) letter.asks_piece)
+          (kept_reply (bank_here local place member) asked);
     }
 
 -- after the node serves a letter with this body if it is a request; a reply changes nothing
@@ -137,12 +159,12 @@ done_here fragment local (LocalEvent.Serve letter) =
 done_here fragment local (LocalEvent.Take letter) =
     let next = learnt_from local letter in
     on_open_call next (open_call next.calls letter.message.call)
-    (λ call. silent (record next { calls = with_open (taking_open letter.message call) next.calls }))
+    (λ call. silent (taking_here next call letter.message letter.told))
 done_here fragment local (LocalEvent.Settle id value) =
     on_open_call local (open_call local.calls id)
     (λ call. silent (record local { calls = with_open (record call { settled = Some value }) local.calls }))
-done_here fragment local (LocalEvent.Answer id) = silent (record local { calls = without_call id local.calls })
-done_here fragment local (LocalEvent.GiveUp id) = silent (record local { calls = without_call id local.calls })
+done_here fragment local (LocalEvent.Answer id) = silent (ended_here local id)
+done_here fragment local (LocalEvent.GiveUp id) = silent (ended_here local id)
 done_here fragment local (LocalEvent.Close position) = silent (closed_here local position)
 done_here fragment local (LocalEvent.Grow id) = silent (record local { start = suc local.start })
 done_here fragment local (LocalEvent.Hear letter) = silent (learnt_from local letter)
@@ -152,6 +174,7 @@ done_here fragment local (LocalEvent.ReadOn id) =
 done_here fragment local (LocalEvent.BeginAnew id) =
     on_open_call local (open_call local.calls id) (λ call. reads_here local call (anew_number call local.start))
 done_here fragment local (LocalEvent.Raise position) = silent (raised_here local position)
+done_here fragment local (LocalEvent.EndEarly id value) = silent (ended_here local id)
 
 -- after these events, one after another, with all letters in the order in which they were sent
 abbrev pub all_done : Code → LocalObject → List LocalEvent → Outcome

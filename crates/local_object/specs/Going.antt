@@ -1,6 +1,6 @@
 -- How a call goes on once its phase is complete.
 use Rattle.std.specs.Prelude.{◌≡◌, ℕ, suc, Bool, true, false, if◌then◌else◌, List, [], map}
-use Rattle.std.specs.Prelude.{Some, slice_set}
+use Rattle.std.specs.Prelude.{Option, Some, slice_set}
 use Rattle.bank.specs.declared.kind.Kind.{Kind}
 use Rattle.encoder.specs.Fragment.{fragment}
 use Rattle.layout.specs.Layout.{Layout}
@@ -14,14 +14,15 @@ use Rattle.call.specs.Limits.{is_within_limits}
 use Rattle.call.specs.Next.{is_unsettled, next_of}
 use Rattle.call.specs.Steps.{entered, phase_next}
 use Rattle.letter.specs.declared.letter.Letter.{Letter}
+use Rattle.letter.specs.declared.telling.Telling.{Telling}
 use Rattle.local_object.specs.declared.progress.Ended.{Ended}
 use Rattle.local_object.specs.Coding.{call_value}
 use Rattle.local_object.specs.Doing.{IsOutcome}
 use Rattle.local_object.specs.Ended.{all_told}
-use Rattle.local_object.specs.Events.{LocalEvent}
+use Rattle.local_object.specs.Events.{LocalEvent, taking_here}
 use Rattle.local_object.specs.Outcomes.{Outcome, on_open_call, silent}
 use Rattle.mail.specs.declared.message.Message.{Message}
-use Rattle.open_calls.specs.OpenCalls.{taking_open, open_call, with_open}
+use Rattle.open_calls.specs.OpenCalls.{open_call, with_open}
 use Rattle.local_object.specs.Letters.{letter_in}
 use Rattle.local_object.specs.Pieces.{first_pieces}
 use Rattle.local_object.specs.Local.{LocalObject, Place, layout_in, heard_place}
@@ -57,7 +58,7 @@ UnlessWaiting _ fact = fact
 -- the letters that a call sends as it begins its next phase at a position with this layout
 abbrev pub next_letters : List Place → (start : ℕ) → Machine → Kind → (position : ℕ) → Layout → List Letter
 next_letters places start call kind position layout =
-    map (letter_in places start layout)
+    map (letter_in places start false layout)
     (requests call.id (suc call.phase.number) kind position layout.members 0
     (fragment_piece fragment layout (call_value call)))
 
@@ -92,11 +93,11 @@ pub record IsFetchedValue (places : List Place) (call : Machine) (value : List �
       IsDecoded (record { k = layout.k; pieces = first_pieces layout.k call.phase.replies; value = other }) →
       other ≡ value
 
--- what the node keeps after a call takes the message that names it, if the node carries out the call
-abbrev pub taken_here : LocalObject → Message → Outcome
-taken_here local message =
-    on_open_call local (open_call local.calls message.call)
-    (λ call. silent (record local { calls = with_open (taking_open message call) local.calls }))
+-- what the node keeps after a call takes the message that names it, with which its member told this, if the node
+-- carries out the call
+abbrev pub taken_here : LocalObject → Message → Option Telling → Outcome
+taken_here local message told =
+    on_open_call local (open_call local.calls message.call) (λ call. silent (taking_here local call message told))
 
 -- what the node keeps after the call with this id settles a value, if the node carries out the call
 abbrev pub settled_here : LocalObject → (id : ℕ) → (value : List ℕ) → Outcome

@@ -1,14 +1,16 @@
+pub mod Pieces
+pub mod Reports
 pub mod Local
 pub mod KeptBanks
 pub mod ChangedBanks
 pub mod Outcomes
 pub mod Starting
 pub mod Events
+pub mod Early
 pub mod May
 pub mod Codes
 pub mod Distinct
 pub mod Ended
-pub mod Pieces
 pub mod Letters
 pub mod Doing
 pub mod Leaving
@@ -16,6 +18,8 @@ pub mod Passed
 pub mod Coding
 pub mod Going
 pub mod Taking
+pub mod EarlyEnds
+pub mod Replies
 pub mod Agreement
 pub mod Changing
 pub mod Resent

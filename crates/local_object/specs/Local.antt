@@ -6,6 +6,7 @@ use Rattle.bank.specs.Bank.{opened_bank}
 use Rattle.open_calls.specs.OpenCalls.{NodeCall}
 use Rattle.letter.specs.declared.start.Start.{Start}
 use Rattle.local_object.specs.declared.kept_bank.KeptBank.{KeptBank}
+use Rattle.local_object.specs.declared.report.Report.{Report}
 use Rattle.local_object.specs.declared.kept_bank.KeptBank.TheVariants as kept
 
 -- what a node keeps for a position that it has heard of: the layout, and its bank, open or closed, once a request has
@@ -16,13 +17,14 @@ pub record Place : Type 0 where
   pub bank : Option KeptBank
 
 -- what one node keeps of one object: the node's number, of how many finalized versions its banks keep pieces besides
--- the newest (None: of all), the position at which its calls begin, the positions that it has heard of, each once, and
--- the calls that it carries out
+-- the newest (None: of all), the position at which its calls begin, the positions that it has heard of, each once, what
+-- members told its calls with replies to their current phases, and the calls that it carries out
 pub record LocalObject : Type 0 where
   pub node : ℕ
   pub delta : Option ℕ
   pub start : ℕ
   pub places : List Place
+  pub reports : List Report
   pub calls : List NodeCall
 
 -- what a node keeps of an object that it has not heard of: the layout of position 0, which its cluster file gives
@@ -32,6 +34,7 @@ new_local node delta first = record {
   delta = delta;
   start = 0;
   places = record { position = 0; layout = first; bank = None } ∷ [];
+  reports = [];
   calls = [];
 }
 

@@ -17,6 +17,7 @@ use Rattle.open_calls.specs.OpenCalls.{NodeCall, open_call, due_phase, stage_rea
 use Rattle.letter.specs.declared.letter.Letter.{Letter}
 use Rattle.local_object.specs.KeptBanks.{closing}
 use Rattle.local_object.specs.Local.{LocalObject, bank_in, heard_place, layout_here}
+use Rattle.local_object.specs.Early.{EndsAtOnceHere, EndsHeldHere}
 use Rattle.local_object.specs.Starting.{IsReadingHere}
 use Rattle.local_object.specs.Events.{LocalEvent, done_here}
 use Rattle.local_object.specs.Outcomes.{learnt_from}
@@ -90,6 +91,9 @@ MayHappenHere fragment local (LocalEvent.BeginAnew id) =
     (call : NodeCall) × IsCarriedOut local id call × IsLacking call × (stage_reached call ≡ ReadBegin)
     × IsSome (layout_here local local.start)
 MayHappenHere fragment local (LocalEvent.Raise position) = IsMemberBefore local position
+MayHappenHere fragment local (LocalEvent.EndEarly id value) =
+    (call : NodeCall) × IsCarriedOut local id call
+    × (EndsHeldHere fragment local call value ⊎ EndsAtOnceHere fragment local call value)
 
 -- these events may happen here one after another
 abbrev pub MayAllHappen : Code → LocalObject → List LocalEvent → Type 0

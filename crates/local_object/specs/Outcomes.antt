@@ -1,6 +1,6 @@
 -- What comes of a thing that a node does with one object: what it keeps of the object then, and the letters that it
 -- sends.
-use Rattle.std.specs.Prelude.{ℕ, suc, List, [], ◌∷◌, ◌++◌, map, Option, None, Some}
+use Rattle.std.specs.Prelude.{ℕ, suc, Bool, true, false, List, [], ◌∷◌, ◌++◌, map, Option, None, Some}
 use Rattle.layout.specs.Layout.{Layout}
 use Rattle.piece.specs.declared.piece.Piece.{Piece}
 use Rattle.bank.specs.Bank.{empty_piece}
@@ -15,6 +15,7 @@ use Rattle.mail.specs.declared.message.Body.{Body}
 use Rattle.mail.specs.declared.message.Body.TheVariants as body
 use Rattle.mail.specs.declared.message.Message.{Message}
 use Rattle.record.specs.declared.call.CallKind.{CallKind}
+use Rattle.record.specs.declared.call.CallKind.TheVariants.{Read}
 use Rattle.record.specs.declared.stage.Stage.{Stage}
 use Rattle.record.specs.Sending.{requests}
 use Rattle.record.specs.Steps.{new_phase}
@@ -55,12 +56,14 @@ next_in_body (body.Request asked) layout = next_in_request asked layout
 next_in_body (body.Reply kind made) layout = next_in_answer made.answer layout
 
 -- a message as a letter: with the layout of its position, that of the next one if the message says there is one, and
--- the node's start
-abbrev pub letter_of : LocalObject → Layout → Message → Letter
-letter_of local layout message = record {
+-- the node's start; it may ask for a piece, and tells nothing
+abbrev pub letter_of : LocalObject → (asks : Bool) → Layout → Message → Letter
+letter_of local asks layout message = record {
   layout = layout;
   next = next_in_body message.body (layout_here local (suc message.position));
   start = told_start local;
+  asks_piece = asks;
+  told = None;
   message = message;
 }
 
@@ -73,15 +76,21 @@ layouts_learnt local letter =
 abbrev pub learnt_from : LocalObject → Letter → LocalObject
 learnt_from local letter = heard_start_if (layouts_learnt local letter) letter.start
 
--- the letters that a call sends as it begins a phase at a position with this layout
-abbrev pub phase_letters : LocalObject → (call number : ℕ) → Kind → (position : ℕ) → Layout → (ℕ → Piece) → List Letter
-phase_letters local call number kind position layout piece =
-    map (letter_of local layout) (requests call number kind position layout.members 0 piece)
+-- the letters that a call sends as it begins a phase at a position with this layout; they may ask for pieces
+abbrev pub phase_letters : LocalObject → (asks : Bool) → (call number : ℕ) → Kind → (position : ℕ) → Layout →
+    (ℕ → Piece) → List Letter
+phase_letters local asks call number kind position layout piece =
+    map (letter_of local asks layout) (requests call number kind position layout.members 0 piece)
 
 -- after a change that needs the call, if the node carries it out
 abbrev pub on_open_call : LocalObject → Option NodeCall → (NodeCall → Outcome) → Outcome
 on_open_call local None change = silent local
 on_open_call local (Some call) change = change call
+
+-- whether this is a read: its first phase asks for the members' pieces, too
+abbrev pub is_read : CallKind → Bool
+is_read Read = true
+is_read _ = false
 
 -- after the node begins a call with a first phase of this kind and number, at a position with this layout
 abbrev pub begun_here : LocalObject → (id : ℕ) → CallKind → Stage → Kind → (number position : ℕ) → Option Layout →
@@ -98,5 +107,5 @@ begun_here local id call_kind stage kind number position (Some layout) = record 
       phase = new_phase id number kind position layout 0;
     } ∷ [];
   };
-  sent = phase_letters local id number kind position layout empty_piece;
+  sent = phase_letters local (is_read call_kind) id number kind position layout empty_piece;
 }

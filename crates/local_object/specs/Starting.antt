@@ -9,7 +9,7 @@ use Rattle.record.specs.declared.stage.Stage.TheVariants.{ReadNext}
 use Rattle.record.specs.Steps.{new_phase}
 use Rattle.open_calls.specs.OpenCalls.{NodeCall, with_open}
 use Rattle.local_object.specs.Local.{LocalObject, layout_here}
-use Rattle.local_object.specs.Outcomes.{Outcome, begun_here, phase_letters, silent}
+use Rattle.local_object.specs.Outcomes.{Outcome, begun_here, is_read, phase_letters, silent}
 
 -- the number of the phase in which a call that begins at a start reads there: if it began at position 0, it would have
 -- two phases at each position before
@@ -41,7 +41,7 @@ abbrev pub reads_at : LocalObject → NodeCall → (number start : ℕ) → Opti
 reads_at local call number start None = silent local
 reads_at local call number start (Some layout) = record {
   local = record local { calls = with_open (reading_call call number start layout) local.calls };
-  sent = phase_letters local call.id number Next start layout empty_piece;
+  sent = phase_letters local (is_read call.kind) call.id number Next start layout empty_piece;
 }
 
 -- after a call reads at the node's start in a phase with this number

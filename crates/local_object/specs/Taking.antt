@@ -152,19 +152,3 @@ pub record SettlesFetched (old : LocalObject) (id : ℕ) (new : LocalObject) : T
   pub events : List LocalEvent
   pub settles : AreSettling old id events
   pub done : IsOutcomeWithAnswers old events new [] []
-
--- after a reply was taken, the call settles what it fetched, if it can; the start grows by the call, if it can; and
--- then the call goes on; it begins anew only if it had recorded a reply of that member before
-pub record GoesOn (old : LocalObject) (letter : Letter) (new : LocalObject) (letters : List Letter)
-    (ended : List Ended) : Type 0 where
-  pub settling : List LocalEvent
-  pub settles : AreSettling (all_done fragment old (LocalEvent.Take letter ∷ [])).local letter.message.call settling
-  pub leads : IsOutcomeWithAnswers old (LocalEvent.Take letter ∷ settling
-      ++ going_events (repeats old letter) (all_done fragment old (LocalEvent.Take letter ∷ settling)).local
-      letter.message.call)
-      new letters ended
-
--- what comes of a letter that may be a reply to a call that is open here: if it is one, the call takes it and goes on
-abbrev pub IsReplyOutcome : Bool → LocalObject → Letter → LocalObject → List Letter → List Ended → Type 0
-IsReplyOutcome false old letter new letters ended = IsOutcomeWithAnswers old [] new letters ended
-IsReplyOutcome true old letter new letters ended = GoesOn old letter new letters ended

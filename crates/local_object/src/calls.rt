@@ -12,6 +12,7 @@ ghost use Rattle.call.specs.Steps.{entered, phase_next, taken_call};
 ghost use Rattle.local_object.specs.Distinct.{HaveOtherIds, HaveDistinctIds, IsCallAt};
 ghost use Rattle.local_object.specs.Anew.{reading_machine};
 ghost use Rattle.local_object.specs.Leaving.{if_final, is_at};
+ghost use Rattle.local_object.specs.Outcomes.{is_read};
 
 use bank::{Kind, Status};
 use bytes::Bytes;
@@ -178,6 +179,16 @@ pub(crate) fn is_move(call: &Call) -> bool
     match call.operation() {
         Operation::Move => true,
         Operation::Read | Operation::Write => false,
+    }
+}
+
+/// Returns whether the call is a read.
+pub(crate) fn is_read(call: &Call) -> bool
+    ensures { result ≡ is_read call.now.kind }
+{
+    match call.operation() {
+        Operation::Read => true,
+        Operation::Write | Operation::Move => false,
     }
 }
 

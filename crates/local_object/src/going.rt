@@ -131,7 +131,7 @@ pub(crate) fn advance(
         kind,
     };
     let messages = coded_requests(alloc, ask, call, layout.layout())?;
-    let letters = letters_of(alloc, places, start, layout, messages)?;
+    let letters = letters_of(alloc, places, start, false, layout, messages)?;
     calls.begin_next(index, kind, position, layout.layout())?;
     Ok(letters)
 }
@@ -172,8 +172,10 @@ pub(crate) fn fetched(alloc: Global, places: &Places, call: &Call) -> Result<Opt
     decoded(alloc, layout.k(), pieces)
 }
 
-// The only value that is decoded from these k pieces. None where they do not decode.
-fn decoded(alloc: Global, k: u8, pieces: Vec<Piece>) -> Result<Option<Bytes>, Refusal>
+/// The only value that is decoded from these k pieces. None where they do not decode.
+///
+/// `NoMemory` is the only refusal.
+pub(crate) fn decoded(alloc: Global, k: u8, pieces: Vec<Piece>) -> Result<Option<Bytes>, Refusal>
     ensures value { IfOk result (λ value. MatchOption value
         ((v : List ℕ) → IsDecoded (record { k = k; pieces = pieces.items; value = v }) → ⊥)
         (IsOnlyValue k pieces.items)) }

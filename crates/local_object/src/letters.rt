@@ -9,7 +9,7 @@ ghost use Rattle.mail.specs.Message.{names_next, status_names_next};
 
 use crate::places::Places;
 use bank::{Answer, Kind, Request, Status};
-use letter::{Letter, SharedLayout, Start};
+use letter::{Letter, SharedLayout, Start, Telling};
 use mail::{Body, Message};
 use std::alloc::Global;
 use tag::Refusal;
@@ -33,33 +33,39 @@ fn is_known_after(places: &Places, position: u32) -> bool
 }
 
 /// Returns a letter for each message to or from members of a position with this layout, from a node with this start.
+/// The letters ask for the members' pieces, too, if `asks_piece` is true.
+///
 /// `NoMemory` is the only refusal.
 pub(crate) fn letters_of(
     alloc: Global,
     places: &Places,
     start: u32,
+    asks_piece: bool,
     layout: &SharedLayout,
     messages: Vec<Message>,
 ) -> Result<Vec<Letter>, Refusal>
-    ensures letters { IfOk result (λ ls. ls.items ≡ map (letter_in places.now start layout.now) messages.items) }
+    ensures letters { IfOk result (λ ls. ls.items ≡ map (letter_in places.now start asks_piece layout.now) messages.items) }
     ensures refused { IfErr result (λ e. e ≡ NoMemory) }
 {
     let mut letters = Vec::with_capacity(alloc, messages.len())?;
     for message in messages {
-        letters.push(letter_of(places, start, layout.clone()?, message)?)?;
+        letters.push(letter_of(places, start, asks_piece, layout.clone()?, message)?)?;
     }
     Ok(letters)
 }
 
 /// The message as a letter: with the layout of its position, that of the next position if the message says that there
-/// is one, and the node's start. `NoMemory` is the only refusal.
+/// is one, and the node's start. It asks for the member's piece, too, if `asks_piece` is true, and tells nothing.
+///
+/// `NoMemory` is the only refusal.
 pub(crate) fn letter_of(
     places: &Places,
     start: u32,
+    asks_piece: bool,
     layout: SharedLayout,
     message: Message,
 ) -> Result<Letter, Refusal>
-    ensures letter { IfOk result (λ l. l ≡ letter_in places.now start layout message) }
+    ensures letter { IfOk result (λ l. l ≡ letter_in places.now start asks_piece layout message) }
     ensures refused { IfErr result (λ e. e ≡ NoMemory) }
 {
     let next = if names_next(&message.body) {
@@ -71,8 +77,17 @@ pub(crate) fn letter_of(
         layout,
         next,
         start: told_start(places, start)?,
+        asks_piece,
+        told: None,
         message,
     })
+}
+
+/// The letter, as one that tells this.
+pub(crate) fn with_told(letter: Letter, told: Option<Telling>) -> Letter
+    ensures { result ≡ record letter { told = told } }
+{
+    Letter { told, ..letter }
 }
 
 /// The start of which a node tells others: this one with its layout, unless it is position 0. `NoMemory` is the only

@@ -6,8 +6,9 @@ ghost use Rattle.local_object.specs.Outcomes.{learnt_from};
 ghost use Rattle.local_object.specs.Doing.{IsOutcome, can_close, close_events, has_member, is_served, serve_events};
 
 use crate::calls::Calls;
-use crate::letters::letter_of;
+use crate::letters::{letter_of, with_told};
 use crate::places::Places;
+use crate::reports::Reports;
 use layout::Layout;
 use letter::{Letter, SharedLayout};
 use mail::{Body, Message};
@@ -17,6 +18,7 @@ use tag::Refusal;
 
 mod agreement;
 mod begin;
+mod early;
 mod go_on;
 mod hear;
 mod passed;
@@ -40,6 +42,8 @@ pub struct LocalObject {
     // The position at which calls begin: at each position before it, the pointer is final at a quorum.
     start: u32,
     places: Places,
+    // What members told the current phases of the calls.
+    reports: Reports,
     calls: Calls,
     alloc: Global,
 }
@@ -51,6 +55,7 @@ impl Drop for LocalObject {
             delta: _,
             start: _,
             places: _,
+            reports: _,
             calls: _,
             alloc: _,
         } = self;
@@ -66,13 +71,14 @@ impl Model for LocalObject {
 
     ghost Value = { Local };
 
-    ghost coded = { local_code heard.the_row.coded (Prim.hlevel codes) };
+    ghost coded = { local_code heard.the_row.coded (Prim.hlevel codes) (Prim.hlevel codes) };
 
     ghost view = { λ o. record {
       node = o.node;
       delta = o.delta;
       start = o.start;
       places = o.places;
+      reports = o.reports;
       calls = carried o.node o.calls;
     } };
 
@@ -98,6 +104,7 @@ impl LocalObject {
             delta,
             start: 0,
             places: Places::new(alloc, first)?,
+            reports: Reports::new(alloc),
             calls: Calls::new(alloc),
             alloc,
         })
@@ -191,6 +198,8 @@ impl LocalObject {
             layout,
             next: _,
             start: _,
+            asks_piece,
+            told: _,
             message,
         } = letter;
         let Message {
@@ -216,7 +225,9 @@ impl LocalObject {
                 reply,
             },
         };
-        Ok(Some(letter_of(&self.places, self.start, layout, answer)?))
+        let told = self.places.tell(position, member, self.delta, asks_piece)?;
+        let letter = letter_of(&self.places, self.start, false, layout, answer)?;
+        Ok(Some(with_told(letter, told)))
     }
 }
 

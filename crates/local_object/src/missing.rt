@@ -5,6 +5,7 @@ ghost use Rattle.tag.specs.declared.refusal.Refusal.TheVariants.{NoMemory};
 ghost use Rattle.local_object.specs.Coding.{is_sendable};
 ghost use Rattle.local_object.specs.Sent.{missing_letters, unanswered};
 
+use crate::early::asks_piece;
 use crate::going::{begins_anew, coded_requests};
 use crate::letters::letters_of;
 use crate::places::Places;
@@ -30,7 +31,7 @@ pub(crate) fn missing(
     ensures refused { IfErr result (λ e. e ≡ NoMemory) }
 {
     let messages = coded_requests(alloc, call.ask(), call, layout.layout())?;
-    let mut letters = letters_of(alloc, places, start, layout, messages)?;
+    let mut letters = letters_of(alloc, places, start, asks_piece(call), layout, messages)?;
     if begins_anew(call) {
         return Ok(letters);
     }

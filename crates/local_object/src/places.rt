@@ -10,12 +10,14 @@ ghost use Rattle.local_object.specs.KeptBanks.{after_closing, closing, kept_repl
 ghost use Rattle.local_object.specs.Changing.{place_bytes};
 ghost use Rattle.local_object.specs.Distinct.{IsBankInOrderIfOpen, IsPlaceAt, KnowsStart};
 ghost use Rattle.local_object.specs.New.{are_new_places};
+ghost use Rattle.local_object.specs.Reports.{told_by};
 
 use crate::kept_bank::KeptBank;
 use crate::place::Place;
+use crate::tellings::{opened_telling, told_of};
 use bank::{Reply, Request};
 use layout::Layout;
-use letter::SharedLayout;
+use letter::{SharedLayout, Telling};
 use std::alloc::Global;
 use std::marker::Model;
 use tag::Refusal;
@@ -121,9 +123,8 @@ impl Places {
         last_of(&self.places)
     }
 
-    /// The node hears of a position and its layout. Nothing changes if it had heard of the position before.
-    ///
-    /// `NoMemory` is the only refusal.
+    /// The node hears of a position and its layout. Nothing changes if it had heard of the position before. `NoMemory` is
+    /// the only refusal.
     pub(crate) fn learn(&mut self, position: u32, layout: &SharedLayout) -> Result<(), Refusal>
         ensures places { OnOk result
             (self.new ≡ added_place self.old (heard_place self.old position) position layout.now) }
@@ -166,6 +167,26 @@ impl Places {
         };
         let alloc = *self.places.allocator();
         self.places[index].serve(alloc, member, delta, request)
+    }
+
+    /// What the node tells of its bank of a position as this member, with the piece if it is asked for. A bank that is
+    /// not there counts as a newly opened one. `NoMemory` is the only refusal.
+    pub(crate) fn tell(
+        &self,
+        position: u32,
+        member: u8,
+        delta: Option<u32>,
+        asks_piece: bool,
+    ) -> Result<Option<Telling>, Refusal>
+        ensures told { IfOk result (λ t. t
+            ≡ told_by (bank_or_opened (bank_in (heard_place self.now position)) member delta) asks_piece) }
+
+        ensures refused { IfErr result (λ e. e ≡ NoMemory) }
+    {
+        match self.bank_of(position) {
+            Some(bank) => told_of(bank, asks_piece),
+            None => Ok(Some(opened_telling(member, delta, asks_piece))),
+        }
     }
 
     /// The node closes its bank for a position, which is open and has a final pointer.

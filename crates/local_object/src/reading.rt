@@ -12,7 +12,7 @@ ghost use Rattle.local_object.specs.ReadingOn.{has_quorum, is_next, is_reading, 
 ghost use Rattle.local_object.specs.Starting.{first_number};
 ghost use Rattle.local_object.specs.Taking.{is_read_begin};
 
-use crate::calls::{Calls, is_move};
+use crate::calls::{Calls, is_move, is_read};
 use crate::going::advance;
 use crate::letters::letters_of;
 use crate::places::Places;
@@ -112,7 +112,7 @@ pub(crate) fn read_at(
         kind: Kind::Next,
     };
     let messages = requests(alloc, ask, layout.layout().n(), None)?;
-    let letters = letters_of(alloc, places, position, layout, messages)?;
+    let letters = letters_of(alloc, places, position, is_read(call), layout, messages)?;
     calls.read_at(index, ask, layout.layout())?;
     Ok(letters)
 }

@@ -1,13 +1,16 @@
 -- The contracts that docs/trusted.md lists do not depend on this file; other contracts and proofs do.
 -- The laws: what nodes do by themselves are events of a world, so what each world promises holds for all nodes.
-use Rattle.std.specs.Prelude.{◌≡◌, ℕ, suc, false, List, [], ◌∷◌, Some, IsSome}
+use Rattle.std.specs.Prelude.{◌≡◌, ℕ, suc, false, List, [], ◌∷◌, Option, Some, IsSome}
 use Rattle.record.specs.declared.call.CallKind.TheVariants.{Read}
 use Rattle.record.specs.Fragments.{Code, IsCode}
 use Rattle.atomicity.specs.Atomic.{IsAtomic}
-use Rattle.network.specs.Worlds.{World}
+use Rattle.network.specs.Worlds.{World, opened_world}
 use Rattle.open_calls.specs.OpenCalls.{NodeCall, open_call}
 use Rattle.network.specs.Events.{world_after}
-use Rattle.network.specs.Laws.{IsReached}
+use Rattle.network.specs.Premises.{IsOneFile, MayHappenInTurn}
+use Rattle.layout.specs.Layout.{IsLawful}
+use Rattle.told_replies.specs.EarlyAnswers.{EarlyAnswer}
+use Rattle.told_replies.specs.Tellings.{Run}
 use Rattle.letter.specs.declared.letter.Letter.{Letter}
 use Rattle.local_object.specs.Local.{LocalObject}
 use Rattle.local_object.specs.Events.{LocalEvent, all_done, done_here}
@@ -17,12 +20,12 @@ use Rattle.local_object.specs.Resent.{IsResent}
 use Rattle.refinement.specs.Parts.{IsPartOf, WasSentAs}
 use Rattle.refinement.specs.WellFormed.{IsWellFormed}
 use Rattle.local_object.specs.Restarts.{IsKeptHere}
-use Rattle.refinement.specs.Refined.{IsPremisedHere, IsRefined, history_after}
+use Rattle.refinement.specs.Refined.{IsPremisedHere, IsRefined, history_after, world_history}
 use Rattle.refinement.specs.Starting.{HasEvents, event_count, is_known_by_count}
 use Rattle.refinement.specs.Refined.{restart_event, world_events}
-use Rattle.refinement.specs.Systems.{ArePremisedIn, IsDoneIn, IsReachedSystem, IsWorldOf, System, SystemEvent}
+use Rattle.refinement.specs.Systems.{ArePremisedIn, IsDoneIn, IsReachedSystem, IsRunOf, System, SystemEvent}
 use Rattle.refinement.specs.Systems.{system_after}
-use Rattle.refinement.specs.SystemValues.{HasAnswer, KeepsValuesIn}
+use Rattle.refinement.specs.SystemValues.{HasAnswer, HasEarlyAnswer, KeepsValuesIn}
 
 -- what a node does is what the events of `world_events` do in the world, and the history is the same
 abbrev pub IsPlainEventOfWorld : LocalEvent → Type 0
@@ -41,7 +44,7 @@ PlainEventsAreWorldEvents = (event : LocalEvent) → is_known_by_count event ≡
 abbrev pub IsEventOfWorld : LocalEvent → Type 0
 IsEventOfWorld event = (fragment : Code) (world : World) (local : LocalObject) → IsWellFormed fragment world →
     IsPartOf world local → MayHappenHere fragment local event → IsPremisedHere world local event →
-    HasEvents fragment world (done_here fragment local event) (history_after local event (suc world.now) world.history)
+    HasEvents fragment world (done_here fragment local event) (world_history local event (suc world.now) world.history)
     (event_count local event)
 
 -- whatever a node does is what some events of the world do
@@ -60,10 +63,16 @@ abbrev pub ResentLettersWereSent : Type 0
 ResentLettersWereSent = (fragment : Code) (world : World) (local : LocalObject) (letter : Letter) →
     IsWellFormed fragment world → IsPartOf world local → IsResent fragment local letter → WasSentAs world letter
 
--- all nodes have a world that is reached
+-- a run from an opened world, whose nodes have one lawful cluster file, by events that may happen and meet the premises
+pub record IsReachedBy (fragment : Code) (run : Run) : Type 0 where
+  pub one : IsOneFile run.files
+  pub lawful : IsLawful (run.files 0).first
+  pub may : MayHappenInTurn fragment run.events (opened_world run.files)
+
+-- all nodes have a world that is reached by a run, in which their early answers were given
 abbrev pub SystemsHaveWorlds : Type 0
 SystemsHaveWorlds = (fragment : Code) (system : System) → IsReachedSystem fragment system →
-    (world : World) × IsReached fragment world × IsWorldOf world system
+    (run : Run) × (answers : List EarlyAnswer) × IsReachedBy fragment run × IsRunOf fragment run answers system
 
 -- the history of the calls of all nodes is atomic
 abbrev pub SystemsAreAtomic : Type 0
@@ -86,6 +95,13 @@ abbrev pub AnswersAreInHistory : Type 0
 AnswersAreInHistory = (fragment : Code) (system : System) (node id : ℕ) (call : NodeCall) →
     IsReachedSystem fragment system → open_call (system.objects node).calls id ≡ Some call →
     HasAnswer (system_after fragment system (SystemEvent.Acts node (LocalEvent.Answer id))).history call
+    (suc system.now)
+
+-- after a call ends early, the history has its answer, with the value that the client is told
+abbrev pub EarlyAnswersAreInHistory : Type 0
+EarlyAnswersAreInHistory = (fragment : Code) (system : System) (node id : ℕ) (call : NodeCall)
+    (value : Option (List ℕ)) → IsReachedSystem fragment system → open_call (system.objects node).calls id ≡ Some call →
+    HasEarlyAnswer (system_after fragment system (SystemEvent.Acts node (LocalEvent.EndEarly id value))).history call value
     (suc system.now)
 
 -- several things that a node does in a row are events of all nodes

@@ -1,5 +1,6 @@
 pub mod Parts
 pub mod WellFormed
+pub mod ToldLetters
 pub mod Refined
 pub mod Systems
 pub mod SystemValues

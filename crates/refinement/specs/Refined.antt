@@ -1,6 +1,7 @@
 -- The contracts that docs/trusted.md lists do not depend on this file; other contracts and proofs do.
 -- Which events of the world an event at a node is, and when the world after them agrees with what all nodes keep.
 use Rattle.std.specs.Prelude.{◌≡◌, ◌≢◌, ◌+◌, ℕ, suc, List, [], ◌∷◌, ◌++◌, length, map, Option, None, Some, slice_get}
+use Rattle.std.specs.Prelude.{◌==◌, if◌then◌else◌}
 use Rattle.std.specs.List.{AllByRecursion}
 use Rattle.layout.specs.Layout.{Layout}
 use Rattle.bank.specs.declared.reply.Reply.{Reply}
@@ -19,6 +20,7 @@ use Rattle.starts.specs.Starts.{IsStart, WasAskedToRaise}
 use Rattle.letter.specs.declared.letter.Letter.{Letter}
 use Rattle.local_object.specs.KeptBanks.{kept_reply}
 use Rattle.local_object.specs.Local.{LocalObject, bank_here, layout_here}
+use Rattle.local_object.specs.Ended.{early_value_of}
 use Rattle.local_object.specs.Events.{LocalEvent}
 use Rattle.local_object.specs.Outcomes.{Outcome}
 use Rattle.refinement.specs.Parts.{IsPartOf, WasSentAs}
@@ -93,13 +95,31 @@ abbrev pub with_answer : Option NodeCall → (now : ℕ) → List Entry → List
 with_answer None now history = history
 with_answer (Some call) now history = map (answered_entry call now) history
 
+-- the entry of a call that ends early, which is answered with this value
+abbrev pub early_entry : NodeCall → (value : Option (List ℕ)) → (now : ℕ) → Entry → Entry
+early_entry call value now entry =
+    if entry.call == call.id
+    then record entry { answered = Some now; value = early_value_of call.kind value } else entry
+
+-- the history with the answer of a call that ends early, if there is one
+abbrev pub with_early_answer : Option NodeCall → (value : Option (List ℕ)) → (now : ℕ) → List Entry → List Entry
+with_early_answer None value now history = history
+with_early_answer (Some call) value now history = map (early_entry call value now) history
+
 -- the history after an event at a node
 abbrev pub history_after : LocalObject → LocalEvent → (now : ℕ) → List Entry → List Entry
 history_after local (LocalEvent.BeginRead id) now history = history ++ begun_entry id Read now ∷ []
 history_after local (LocalEvent.BeginWrite id value) now history = history ++ begun_entry id (Write value) now ∷ []
 history_after local (LocalEvent.BeginMove id layout) now history = history ++ begun_entry id Move now ∷ []
 history_after local (LocalEvent.Answer id) now history = with_answer (open_call local.calls id) now history
+history_after local (LocalEvent.EndEarly id value) now history =
+    with_early_answer (open_call local.calls id) value now history
 history_after local _ now history = history
+
+-- the history of the world after an event at a node: an early answer is not in it
+abbrev pub world_history : LocalObject → LocalEvent → (now : ℕ) → List Entry → List Entry
+world_history local (LocalEvent.EndEarly id value) now history = history
+world_history local event now history = history_after local event now history
 
 -- Refinement
 

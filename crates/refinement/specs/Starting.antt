@@ -21,13 +21,14 @@ use Rattle.refinement.specs.WellFormed.{IsWellFormed}
 
 -- whether what the node keeps only says how many events of the world this is, and not which: a call begins or goes on
 -- at the node's start, for which the world may need many events; or the node raises a pointer to final, and the world
--- serves a request of some call to do so
+-- serves a request of some call to do so; or a call ends early, where the world waits first
 abbrev pub is_known_by_count : LocalEvent → Bool
 is_known_by_count (LocalEvent.BeginRead id) = true
 is_known_by_count (LocalEvent.BeginWrite id value) = true
 is_known_by_count (LocalEvent.ReadOn id) = true
 is_known_by_count (LocalEvent.BeginAnew id) = true
 is_known_by_count (LocalEvent.Raise position) = true
+is_known_by_count (LocalEvent.EndEarly id value) = true
 is_known_by_count _ = false
 
 -- how many positions a call leaves behind as it goes on at a start
@@ -37,13 +38,15 @@ left_behind (Some call) start = start - call.phase.position
 
 -- how many events of the world an event at a node is: at the start, for each position that the call leaves behind as
 -- many as this may take at most, and one more if the call begins, for the first time or anew; one if the node raises a
--- pointer
+-- pointer; a call that ends early is given up in the world, and before that the world waits for one event, after which
+-- the client is answered
 abbrev pub event_count : LocalObject → LocalEvent → ℕ
 event_count local (LocalEvent.BeginRead id) = suc (local.start * most_events)
 event_count local (LocalEvent.BeginWrite id value) = suc (local.start * most_events)
 event_count local (LocalEvent.ReadOn id) = left_behind (open_call local.calls id) local.start * most_events
 event_count local (LocalEvent.BeginAnew id) = suc (local.start * most_events)
 event_count local (LocalEvent.Raise position) = 1
+event_count local (LocalEvent.EndEarly id value) = 2
 event_count local event = length (world_events local event)
 
 -- this many events may happen in the world, after which it agrees with what all nodes keep, and has this history

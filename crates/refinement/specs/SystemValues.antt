@@ -12,8 +12,10 @@ use Rattle.record.specs.Fragments.{Code, IsFragment, body_piece, body_tag}
 use Rattle.record.specs.Journals.{entry_value, operation_of}
 use Rattle.open_calls.specs.OpenCalls.{NodeCall}
 use Rattle.letter.specs.declared.letter.Letter.{Letter}
+use Rattle.letter.specs.declared.telling.Telling.{Telling}
 use Rattle.local_object.specs.declared.kept_bank.KeptBank.{KeptBank}
 use Rattle.local_object.specs.declared.kept_bank.KeptBank.TheVariants as kept
+use Rattle.local_object.specs.Ended.{early_value_of}
 use Rattle.local_object.specs.Local.{bank_here, layout_here}
 use Rattle.refinement.specs.Systems.{System, WasPosted}
 
@@ -42,8 +44,8 @@ abbrev pub kept_piece : KeptBank → Tag → Option Piece
 kept_piece (kept.Open bank) tag = piece_of bank tag
 kept_piece (kept.Closed closed) tag = None
 
--- a tag has one value; each piece in a bank that a node keeps, and each piece in a letter ever sent, is its member's
--- fragment of its tag's value; and each answered read of the history returned the value of a tag
+-- a tag has one value; each piece in a bank that a node keeps, and each piece in a letter ever sent or told by one, is its
+-- member's fragment of its tag's value; and each answered read of the history returned the value of a tag
 pub record KeepsValuesIn (fragment : Code) (system : System) : Type 0 where
   pub unique : (tag : Tag) (v w : List ℕ) → IsValueIn system.history tag v → IsValueIn system.history tag w → v ≡ w
   pub banks : (node position member : ℕ) (layout : Layout) (tag : Tag) (piece : Piece) →
@@ -53,6 +55,9 @@ pub record KeepsValuesIn (fragment : Code) (system : System) : Type 0 where
   pub letters : (letter : Letter) (tag : Tag) (piece : Piece) → WasPosted system letter →
       body_tag letter.message.body ≡ Some tag → body_piece letter.message.body ≡ Some piece →
       IsPieceIn fragment system.history letter.layout letter.message.member tag piece
+  pub told : (letter : Letter) (telling : Telling) (piece : Piece) → WasPosted system letter →
+      letter.told ≡ Some telling → telling.piece ≡ Some piece →
+      IsPieceIn fragment system.history letter.layout letter.message.member telling.greatest piece
   pub reads : (place : ℕ) (entry : Entry) → slice_get system.history place ≡ Some entry →
       entry.kind ≡ operation.Read → IsSome entry.answered →
       (tag : Tag) × (value : List ℕ) × (entry.value ≡ Some value) × IsValueIn system.history tag value
@@ -73,3 +78,16 @@ pub record HasAnswer (history : List Entry) (call : NodeCall) (now : ℕ) : Type
   pub value : entry.value ≡ told_value call
   pub each : AllByRecursion
       (λ other. other.call ≡ call.id → (other.answered ≡ Some now) × (other.value ≡ told_value call)) history
+
+-- the history has this early answer of the call at this event, with what the client is told; and each entry with its id
+-- has this answer
+pub record HasEarlyAnswer (history : List Entry) (call : NodeCall) (value : Option (List ℕ)) (now : ℕ) : Type 0 where
+  pub place : ℕ
+  pub entry : Entry
+  pub at : slice_get history place ≡ Some entry
+  pub same_id : entry.call ≡ call.id
+  pub kind : entry.kind ≡ operation_of call.kind
+  pub answered : entry.answered ≡ Some now
+  pub value : entry.value ≡ early_value_of call.kind value
+  pub each : AllByRecursion
+      (λ other. other.call ≡ call.id → (other.answered ≡ Some now) × (other.value ≡ early_value_of call.kind value)) history

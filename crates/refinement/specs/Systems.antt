@@ -1,12 +1,12 @@
 -- All nodes of a cluster for one object, each with what it keeps itself, and what may happen to them.
-use Rattle.std.specs.Prelude.{◌≡◌, ◌≢◌, ◌+◌, ℕ, suc, ◌==◌, if◌then◌else◌, Some}
+use Rattle.std.specs.Prelude.{◌≡◌, ◌≢◌, ◌+◌, ℕ, suc, ◌==◌, if◌then◌else◌, None, Some}
 use Rattle.std.specs.Prelude.{List, [], ◌∷◌, ◌++◌, map, slice_get}
 use Rattle.std.specs.List.{AllByRecursion}
 use Rattle.layout.specs.Layout.{IsLawful}
 use Rattle.record.specs.declared.call.Entry.{Entry}
 use Rattle.record.specs.Fragments.{Code}
 use Rattle.network.specs.Worlds.{ClusterFile, World}
-use Rattle.network.specs.Premises.{IsOneFile}
+use Rattle.network.specs.Premises.{IsOneFile, IsUnused}
 use Rattle.letter.specs.declared.letter.Letter.{Letter}
 use Rattle.local_object.specs.Local.{LocalObject, new_local}
 use Rattle.local_object.specs.Events.{LocalEvent, done_here}
@@ -17,6 +17,9 @@ use Rattle.refinement.specs.Parts.{IsPartOf, WasSentAs}
 use Rattle.local_object.specs.Restarts.{IsKeptHere}
 use Rattle.refinement.specs.Refined.{history_after}
 use Rattle.refinement.specs.Starting.{event_count}
+use Rattle.refinement.specs.ToldLetters.{AreApart, IsTrueReport, TellsTruth}
+use Rattle.told_replies.specs.EarlyAnswers.{EarlyAnswer, IsEarly, early_answer_to, early_history}
+use Rattle.told_replies.specs.Tellings.{Run, world_of}
 
 -- all nodes: the cluster file that each runs with, what each keeps of the object, and all letters ever sent; and as
 -- history the entries of the calls, and how many events there were
@@ -114,14 +117,35 @@ pub record IsReachedSystem (fragment : Code) (system : System) : Type 0 where
   pub may : MayRunIn fragment events (opened_system files)
   pub result : system_run fragment events (opened_system files) ≡ system
 
--- the world is that of all nodes: what each keeps is its part, the letters were sent in it, and the history is the same
-pub record IsWorldOf (world : World) (system : System) : Type 0 where
+-- a world is that of all nodes: what each keeps is its part, and the letters were sent in it
+pub record HasPartsOf (world : World) (system : System) : Type 0 where
   pub files : world.files ≡ system.files
   pub nodes : (node : ℕ) → (system.objects node).node ≡ node
   pub parts : (node : ℕ) → IsPartOf world (system.objects node)
   pub letters : AllByRecursion (WasSentAs world) system.letters
-  pub history : world.history ≡ system.history
   pub now : world.now ≡ system.now
+
+-- what all nodes were told is true in the run, and a member told each phase of a call once
+pub record IsToldTruth (fragment : Code) (run : Run) (system : System) : Type 0 where
+  pub letters : AllByRecursion (TellsTruth fragment run) system.letters
+  pub reports : (node : ℕ) → AllByRecursion (IsTrueReport fragment run) (system.objects node).reports
+  pub apart : (node : ℕ) → AreApart (system.objects node).reports
+
+-- the answers were given early in the run, to calls of the history that are open no more; with them, the history is
+-- that of all nodes
+pub record AreEarlyAnswers (fragment : Code) (run : Run) (answers : List EarlyAnswer) (history : List Entry)
+    : Type 0 where
+  pub early : AllByRecursion (IsEarly fragment run) answers
+  pub ended : AllByRecursion (λ call. early_answer_to answers call.id ≡ None) (world_of fragment run).calls
+  pub used : (id : ℕ) → IsUnused (world_of fragment run) id → early_answer_to answers id ≡ None
+  pub same : early_history answers (world_of fragment run).history ≡ history
+
+-- the run leads to the world of all nodes: what each keeps is its part, the letters were sent in it, what they tell is
+-- true, and the history is the same, with these early answers
+pub record IsRunOf (fragment : Code) (run : Run) (answers : List EarlyAnswer) (system : System) : Type 0 where
+  pub parts : HasPartsOf (world_of fragment run) system
+  pub told : IsToldTruth fragment run system
+  pub answers : AreEarlyAnswers fragment run answers system.history
 
 -- What a node does in a row
 

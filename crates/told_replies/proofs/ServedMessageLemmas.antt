@@ -26,7 +26,8 @@ use Rattle.network.specs.Following.{last_step_after}
 use Rattle.network.specs.Unstamped.{unstamped_body, unstamped_message}
 use Rattle.network.specs.Worlds.{World, member_bank}
 use Rattle.network.proofs.StepLemmas.{get_end, message_there}
-use Rattle.told_replies.specs.Tellings.{Telling, telling_of}
+use Rattle.letter.specs.Tellings.{telling_of}
+use Rattle.letter.specs.declared.telling.Telling.{Telling}
 use Rattle.told_replies.specs.EarlyAnswers.{Finalizes}
 use Rattle.told_replies.proofs.GrownPhaseLemmas.{IsLaterOf, grown_at}
 use Rattle.told_replies.proofs.KeptPastLemmas.{IsStillAt}

@@ -23,7 +23,8 @@ use Rattle.network.specs.Premises.{MayHappenInTurn}
 use Rattle.network.proofs.OneFileLemmas.{layouts_known}
 use Rattle.early_ends.specs.Held.{HasHeld, IsHeld}
 use Rattle.early_ends.specs.Told.{HasNoGreater, HasToldPiece, HasToldPieces, IsGreatestTold}
-use Rattle.told_replies.specs.Tellings.{HasTold, Run, Telling}
+use Rattle.letter.specs.declared.telling.Telling.{Telling}
+use Rattle.told_replies.specs.Tellings.{HasTold, Run}
 use Rattle.told_replies.specs.EarlyAnswers.{Finalizes, IsToldGreatest, IsToldHeld, IsToldValue, TellsHeld, TellsNoGreater, TellsPiece}
 use Rattle.told_replies.proofs.CarriedCallLemmas.{IsCarried, carried_there, get_middle}
 use Rattle.told_replies.proofs.GrownPhaseLemmas.{append_twice}

@@ -20,7 +20,8 @@ use Rattle.open_calls.specs.OpenCalls.{NodeCall}
 use Rattle.network.specs.Worlds.{World, known_layout, parts_of}
 use Rattle.network.specs.Events.{Event, IsOpen}
 use Rattle.early_ends.specs.Told.{last_of}
-use Rattle.told_replies.specs.Tellings.{HaveTold, Run, Telling, run_until, world_of}
+use Rattle.letter.specs.declared.telling.Telling.{Telling}
+use Rattle.told_replies.specs.Tellings.{HaveTold, Run, run_until, world_of}
 
 -- What a call was told
 

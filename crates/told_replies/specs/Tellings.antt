@@ -1,33 +1,14 @@
 -- The contracts that docs/trusted.md lists do not depend on this file; other contracts and proofs do.
 -- What members tell with their replies, and what a call was told in its current phase.
-use Rattle.std.specs.Prelude.{◌≡◌, ℕ, nat_eq, List, ◌∷◌, ◌++◌, Option}
+use Rattle.std.specs.Prelude.{◌≡◌, ℕ, nat_eq, List, ◌∷◌, ◌++◌}
 use Rattle.std.specs.List.{AllByRecursion, IsDistinct}
-use Rattle.tag.specs.declared.tag.Tag.{Tag}
-use Rattle.piece.specs.declared.piece.Piece.{Piece}
-use Rattle.bank.specs.Bank.{Bank, piece_of}
-use Rattle.bank.specs.Pointer.{status_of}
-use Rattle.bank.specs.Serve.{greatest_final}
-use Rattle.bank.specs.declared.status.Status.{Status}
 use Rattle.mail.specs.declared.message.Message.{Message}
 use Rattle.record.specs.Fragments.{Code}
+use Rattle.letter.specs.Tellings.{telling_of}
+use Rattle.letter.specs.declared.telling.Telling.{Telling}
 use Rattle.open_calls.specs.OpenCalls.{NodeCall}
 use Rattle.network.specs.Worlds.{ClusterFile, World, member_bank, opened_world}
 use Rattle.network.specs.Events.{Event, happens, world_after}
-
--- what a reply tells besides its answer: the status of its member's pointer, the member's greatest finalized tag, and
--- the piece of this tag that the member keeps, all just after it served the request
-pub record Telling : Type 0 where
-  pub status : Status
-  pub greatest : Tag
-  pub piece : Option Piece
-
--- what a bank tells
-abbrev pub telling_of : Bank → Telling
-telling_of bank = record {
-  status = status_of bank.pointer;
-  greatest = greatest_final bank;
-  piece = piece_of bank (greatest_final bank);
-}
 
 -- a run of separate nodes: the cluster files that they run with, and the events, from an opened world on
 pub record Run : Type 0 where

@@ -10,7 +10,7 @@ ghost use Rattle.call.specs.Pieces.{HavePieces};
 ghost use Rattle.open_calls.specs.OpenCalls.{open_call};
 ghost use Rattle.local_object.specs.Local.{last_position, layout_here};
 ghost use Rattle.local_object.specs.Events.{LocalEvent, called_here};
-ghost use Rattle.local_object.specs.Outcomes.{begun_here};
+ghost use Rattle.local_object.specs.Outcomes.{begun_here, is_read};
 ghost use Rattle.local_object.specs.Doing.{IsOutcome, is_moving, move_refusal, read_refusal, unless_open};
 ghost use Rattle.local_object.specs.Doing.{write_refusal};
 
@@ -160,10 +160,28 @@ impl LocalObject {
             unreachable!();
         };
         let messages = requests(self.alloc, ask, layout.layout().n(), None)?;
-        let letters = letters_of(self.alloc, &self.places, self.start, layout, messages)?;
+        let asks_piece = is_read(&kind);
+        let letters = letters_of(
+            self.alloc,
+            &self.places,
+            self.start,
+            asks_piece,
+            layout,
+            messages,
+        )?;
         let call = Call::begin(self.alloc, ask, kind, stage, layout.layout(), 0)?;
         self.calls.add(call)?;
         Ok(letters)
+    }
+}
+
+// Whether this is a read.
+fn is_read(kind: &CallKind) -> bool
+    ensures { result ≡ is_read kind.now }
+{
+    match kind {
+        CallKind::Read => true,
+        CallKind::Write(_) | CallKind::Move => false,
     }
 }
 

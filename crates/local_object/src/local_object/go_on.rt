@@ -94,6 +94,7 @@ impl LocalObject {
             }
             Next::Answer => {
                 let call = self.calls.remove(index);
+                self.reports.forget(id);
                 Ok(Progress::answered(self.alloc, ended(&call)?))
             }
         }

@@ -48,12 +48,16 @@ impl LocalObject {
             layout,
             next,
             start: _,
+            asks_piece,
+            told,
             message,
         } = letter;
         Ok(Letter {
             layout,
             next,
             start: told_start(&self.places, self.start)?,
+            asks_piece,
+            told,
             message,
         })
     }

@@ -53,6 +53,7 @@ impl LocalObject {
             return false;
         }
         self.calls.remove(index);
+        self.reports.forget(id);
         true
     }
 }

@@ -5,17 +5,21 @@ ghost use Rattle.tag.specs.declared.refusal.Refusal.TheVariants.{NoMemory};
 ghost use Rattle.local_object.specs.Doing.{is_taken};
 ghost use Rattle.local_object.specs.Events.{LocalEvent};
 ghost use Rattle.local_object.specs.Going.{IsSomeOutcome, taken_here};
-ghost use Rattle.local_object.specs.Taking.{IsOutcomeWithAnswers, IsReplyOutcome, is_repeat_in, repeats};
+ghost use Rattle.local_object.specs.Replies.{IsReplyOutcome};
+ghost use Rattle.local_object.specs.Reports.{told_to};
+ghost use Rattle.local_object.specs.Taking.{IsOutcomeWithAnswers, is_repeat_in, repeats};
 
 use super::has_next;
+use crate::calls::is_move;
 use crate::{LocalObject, Progress};
 use call::Call;
-use letter::Letter;
+use letter::{Letter, Telling};
 use mail::{Body, Message};
 use tag::Refusal;
 
 impl LocalObject {
-    /// A call of the node takes a reply and goes on as far as it can: it settles the value that it fetched, and begins
+    /// A call of the node takes a reply, and ends early if what members told its current phase is enough. Otherwise it
+    /// goes on as far as it can: it settles the value that it fetched, and begins
     /// its next phase or is answered. If it has raised the pointer of the object's start to final at a quorum, the
     /// start grows by one. Nothing changes if the letter is no reply to a call that is open here, or if there is no
     /// number in 32 bits for the next position.
@@ -44,6 +48,9 @@ impl LocalObject {
         let id = letter.message.call;
         let again = self.repeats(&letter);
         self.take_reply(letter)?;
+        if let Some(ended) = self.end_early(id)? {
+            return Ok(Progress::answered(self.alloc, ended));
+        }
         self.settle(id)?;
         self.grow(id);
         self.lead(id, again)
@@ -86,21 +93,35 @@ impl LocalObject {
             layout: _,
             next: _,
             start: _,
+            asks_piece: _,
+            told,
             message,
         } = letter;
-        self.take_message(message);
-        Ok(())
+        self.take_message(message, told)
     }
 
-    // The call that a message names takes it, if the call is open here.
-    fn take_message(&mut self, message: Message)
-        ensures { self.new ≡ (taken_here self.old message).local }
+    // The call that a message names takes it, if the call is open here, and what its member told with it is kept.
+    fn take_message(&mut self, message: Message, told: Option<Telling>) -> Result<(), Refusal>
+        ensures taken { OnOk result (self.new ≡ (taken_here self.old message told).local) }
+        ensures refused { IfErr result (λ e. e ≡ NoMemory) }
     {
-        match self.calls.index_of(message.call) {
-            Some(index) => self.calls.take(index, message),
-            None => (),
-        }
+        let Some(index) = self.calls.index_of(message.call) else {
+            return Ok(());
+        };
+        let call = self.calls.at(index);
+        let number = call.phase().number();
+        let told = told_to(call, told);
+        self.reports.heed(number, &message, told)?;
+        self.calls.take(index, message);
+        Ok(())
     }
+}
+
+// What a call is told: a move need not be told anything.
+fn told_to(call: &Call, told: Option<Telling>) -> Option<Telling>
+    ensures { result ≡ told_to call.now.kind told }
+{
+    if is_move(call) { None } else { told }
 }
 
 // Whether a message repeats a reply that the current phase of a call has recorded.

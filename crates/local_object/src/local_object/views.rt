@@ -63,8 +63,8 @@ impl LocalObject {
         self.is_made_of(node, delta, first)
     }
 
-    // Whether the object has this node, this `delta`, the start 0, no open call, and no place but position 0 with this
-    // layout and without a bank.
+    // Whether the object has this node, this `delta`, the start 0, no open call, no report, and no place but position 0
+    // with this layout and without a bank.
     fn is_made_of(&self, node: u8, delta: Option<u32>, first: &Layout) -> bool
         ensures { result ≡ is_new self.now node delta first.now }
     {
@@ -72,6 +72,7 @@ impl LocalObject {
             && self.delta == delta
             && self.start == 0
             && self.open_calls() == 0
+            && self.reports.is_empty()
             && self.places.are_new(first)
     }
 

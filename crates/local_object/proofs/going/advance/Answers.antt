@@ -1,4 +1,4 @@
-use Rattle.std.proofs.Common.{◌≡◌, suc, ◌+◌, ◌^◌, map, slice_set, refl, sym, subst, ap, ◌∙◌, arith}
+use Rattle.std.proofs.Common.{◌≡◌, suc, false, ◌+◌, ◌^◌, map, slice_set, refl, sym, subst, ap, ◌∙◌, arith}
 use Rattle.std.proofs.lemmas.Bool.{lt-ltb}
 use Rattle.encoder.specs.Fragment.{fragment}
 use Rattle.layout.specs.Layout.{Layout}
@@ -87,7 +87,7 @@ returns-clause-advanced c = λ call at.
       calls = c.in_ok-begin_next.ensures.begun read c.at-call.ensures
           ∙ ap (λ (l : Layout). slice_set calls c.args.index (entered read (phase_next read kind position l 0))) c.layout-2.ensures;
       sent = c.in_ok-letters.ensures.letters
-          ∙ ap (map (letter_in places c.args.start layout))
+          ∙ ap (map (letter_in places c.args.start false layout))
           (c.in_ok-messages.ensures.requests
           ∙ ap (λ (l : Layout). requests c.id.result (c.number-number.result + 1) kind position l.members 0
           (fragment_piece fragment l (call_value read))) c.layout.ensures

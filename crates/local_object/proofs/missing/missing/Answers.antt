@@ -6,7 +6,7 @@ use Rattle.mail.specs.declared.phase.Ask.{Ask}
 use Rattle.record.specs.Sending.{fragment_piece, requests}
 use Rattle.local_object.specs.Coding.{call_value}
 use Rattle.local_object.specs.Letters.{letter_in}
-use Rattle.local_object.specs.Sent.{sent_letters, unanswered}
+use Rattle.local_object.specs.Sent.{asks_piece, sent_letters, unanswered}
 use Rattle.local_object.proofs.ResentLemmas.{all_again, some_again}
 use Rattle.local_object.proofs.missing.missing.Goals as goal
 
@@ -19,7 +19,8 @@ returns-then-begins_anew-clause-letters c =
     let sent = λ (a : Ask). requests a.call a.number a.kind a.position layout.members 0
     (fragment_piece fragment layout (call_value call)) in
     c.in_ok-letters.ensures.letters
-    ∙ ap (λ (ms : List Message). map (letter_in c.args.places.now c.args.start layout) ms)
+    ∙ ap (λ b. map (letter_in c.args.places.now c.args.start b layout) c.in_ok-messages.messages.items) c.asks_piece.ensures
+    ∙ ap (λ (ms : List Message). map (letter_in c.args.places.now c.args.start (asks_piece call.kind call.stage) layout) ms)
     (c.in_ok-messages.ensures.requests ∙ ap (λ (l : Layout). of l c.ask.result) c.layout.ensures ∙ ap sent c.ask.ensures)
     ∙ sym (all_again call (sent_letters c.args.places.now c.args.start call layout) (sym c.begins_anew.ensures ∙ c.if-begins_anew.true))
 
@@ -34,6 +35,7 @@ returns-clause-letters c =
     c.keep_unanswered.ensures
     ∙ ap (unanswered call.phase.replies)
     (c.in_ok-letters.ensures.letters
-    ∙ ap (λ (ms : List Message). map (letter_in c.args.places.now c.args.start layout) ms)
+    ∙ ap (λ b. map (letter_in c.args.places.now c.args.start b layout) c.in_ok-messages.messages.items) c.asks_piece.ensures
+    ∙ ap (λ (ms : List Message). map (letter_in c.args.places.now c.args.start (asks_piece call.kind call.stage) layout) ms)
     (c.in_ok-messages.ensures.requests ∙ ap (λ (l : Layout). of l c.ask.result) c.layout.ensures ∙ ap sent c.ask.ensures))
     ∙ sym (some_again call (sent_letters c.args.places.now c.args.start call layout) (sym c.begins_anew.ensures ∙ c.if-begins_anew.false))

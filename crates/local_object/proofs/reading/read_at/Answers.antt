@@ -8,6 +8,7 @@ use Rattle.record.specs.Sending.{requests}
 use Rattle.call.specs.Call.{OpenCall as Machine}
 use Rattle.local_object.specs.Anew.{IsReadAtIf, IsReadLater, reading_machine}
 use Rattle.local_object.specs.Letters.{letter_in}
+use Rattle.local_object.specs.Outcomes.{is_read}
 use Rattle.local_object.specs.Local.{layout_in, heard_place}
 use Rattle.local_object.proofs.CarriedCallLemmas.{same_call}
 use Rattle.local_object.proofs.reading.read_at.Goals as goal
@@ -49,7 +50,8 @@ returns-clause-read c = λ call at.
           c.layout-2.ensures
           ∙ ap (λ n. slice_set calls c.args.index (reading_machine read n c.args.position layout)) later;
       sent = c.in_ok-letters.ensures.letters
-          ∙ ap (map (letter_in places c.args.position layout))
+          ∙ ap (λ b. map (letter_in places c.args.position b layout) c.in_ok-messages.messages.items) c.is_read.ensures
+          ∙ ap (map (letter_in places c.args.position (is_read read.kind) layout))
           (c.in_ok-messages.ensures.requests layout.members servers
           ∙ ap (λ id. requests id (c.number-number.result + c.args.more) Next c.args.position layout.members 0 empty_piece) c.id.ensures
           ∙ ap (λ n. requests read.id n Next c.args.position layout.members 0 empty_piece) later);

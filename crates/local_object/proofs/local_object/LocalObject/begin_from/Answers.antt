@@ -16,7 +16,7 @@ pub returns-clause-done : goal.returns-clause-done
 returns-clause-done c =
     let o = c.self.inside in
     let local : LocalObject =
-    record { node = o.node; delta = o.delta; start = o.start; places = o.places; calls = carried o.node o.calls } in
+    record { node = o.node; delta = o.delta; start = o.start; places = o.places; reports = o.reports; calls = carried o.node o.calls } in
     ok_both c.begin.result c.begin.ensures.local c.begin.ensures.letters
     (λ letters is sent. move_done {o = local} c.self.view_is c.args.id c.args.layout.now c.requires.last c.in_ok-learn.ensures.places
     (subst (λ (l : Layout). IsLawful l) c.layout.ensures c.k.ensures.lawful) c.requires.still c.begin.new.self letters.items is sent)

@@ -16,7 +16,7 @@ pub returns-clause-heard : goal.returns-clause-heard
 returns-clause-heard c =
     let o = c.self.inside in
     let local : LocalObject =
-    record { node = o.node; delta = o.delta; start = o.start; places = o.places; calls = carried o.node o.calls } in
+    record { node = o.node; delta = o.delta; start = o.start; places = o.places; reports = o.reports; calls = carried o.node o.calls } in
     heard_by local c.args.self.now c.self.view_is c.args.start.now c.in-Some.start (sym c.in-Some.is) true
     (sym c.is_later_start-is_later.ensures ∙ c.if-not-is_later.false) c.learn.new.self c.in_ok-learn.ensures.places
 
@@ -24,6 +24,6 @@ pub returns-then-not-is_later-clause-heard : goal.returns-then-not-is_later-clau
 returns-then-not-is_later-clause-heard c =
     let o = c.self.inside in
     let local : LocalObject =
-    record { node = o.node; delta = o.delta; start = o.start; places = o.places; calls = carried o.node o.calls } in
+    record { node = o.node; delta = o.delta; start = o.start; places = o.places; reports = o.reports; calls = carried o.node o.calls } in
     heard_by local c.args.self.now c.self.view_is c.args.start.now c.in-Some.start (sym c.in-Some.is) false
     (sym c.is_later_start-is_later.ensures ∙ c.if-not-is_later.true) c.learn.new.self c.in_ok-learn.ensures.places

@@ -18,7 +18,7 @@ pub returns-then-changes-clause-changed : goal.returns-then-changes-clause-chang
 returns-then-changes-clause-changed c =
     let o = c.self.inside in
     let letter = c.args.letter.now in
-    changed_is (record { node = o.node; delta = o.delta; start = o.start; places = o.places; calls = carried o.node o.calls })
+    changed_is (record { node = o.node; delta = o.delta; start = o.start; places = o.places; reports = o.reports; calls = carried o.node o.calls })
     c.args.self.now c.self.view_is letter c.changes.result (sym c.is_served.ensures ∙ c.if-not-is_served.false)
     (c.if-changes.true
     ∙ sym (ap (λ b. b || is_later_start_if c.args.self.now letter.start)
@@ -38,7 +38,7 @@ pub returns-else-changes-clause-changed : goal.returns-else-changes-clause-chang
 returns-else-changes-clause-changed c =
     let o = c.self.inside in
     let letter = c.args.letter.now in
-    changed_is (record { node = o.node; delta = o.delta; start = o.start; places = o.places; calls = carried o.node o.calls })
+    changed_is (record { node = o.node; delta = o.delta; start = o.start; places = o.places; reports = o.reports; calls = carried o.node o.calls })
     c.args.self.now c.self.view_is letter c.is_later_start_if.result (sym c.is_served.ensures ∙ c.if-not-is_served.false)
     (c.is_later_start_if.ensures
     ∙ sym (ap (λ b. b || is_later_start_if c.args.self.now letter.start)

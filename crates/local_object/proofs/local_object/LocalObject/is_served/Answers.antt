@@ -13,7 +13,7 @@ returns-in-Some c =
     let letter = c.args.letter.now in
     let position = letter.message.position in
     let local : LocalObject =
-    record { node = o.node; delta = o.delta; start = o.start; places = o.places; calls = carried o.node o.calls } in
+    record { node = o.node; delta = o.delta; start = o.start; places = o.places; reports = o.reports; calls = carried o.node o.calls } in
     served_is local letter c.in-Request.field-0 c.has_member.result c.in-Request.is (sym c.has_next.ensures ∙ c.if-not-has_next.false)
     (c.has_member.ensures
     ∙ ap (λ (l : Layout). has_member l letter.message.member o.node)
@@ -27,7 +27,7 @@ returns-in-None c =
     let letter = c.args.letter.now in
     let position = letter.message.position in
     let local : LocalObject =
-    record { node = o.node; delta = o.delta; start = o.start; places = o.places; calls = carried o.node o.calls } in
+    record { node = o.node; delta = o.delta; start = o.start; places = o.places; reports = o.reports; calls = carried o.node o.calls } in
     served_is local letter c.in-Request.field-0 c.has_member-in-None.result c.in-Request.is
     (sym c.has_next.ensures ∙ c.if-not-has_next.false)
     (c.has_member-in-None.ensures

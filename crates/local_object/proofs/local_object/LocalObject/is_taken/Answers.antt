@@ -11,7 +11,7 @@ pub returns-in-Some : goal.returns-in-Some
 returns-in-Some c =
     let o = c.self.inside in
     let letter = c.args.letter.now in
-    taken_by (object o.node o.delta o.start o.places o.calls) letter c.in-Reply.kind c.in-Reply.reply _ c.in-Reply.is
+    taken_by (object o.node o.delta o.start o.reports o.places o.calls) letter c.in-Reply.kind c.in-Reply.reply _ c.in-Reply.is
     (sym c.has_next.ensures ∙ c.if-not-has_next.false)
     (sym (ap is_some (open_found o.node o.calls letter.message.call c.in-Some.field-0 c.in-Some.ensures.distinct c.in-Some.ensures.index)))
     ∙ ap (λ (l : LocalObject). is_taken l letter) c.self.view_is
@@ -20,7 +20,7 @@ pub returns-in-None : goal.returns-in-None
 returns-in-None c =
     let o = c.self.inside in
     let letter = c.args.letter.now in
-    taken_by (object o.node o.delta o.start o.places o.calls) letter c.in-Reply.kind c.in-Reply.reply _ c.in-Reply.is
+    taken_by (object o.node o.delta o.start o.reports o.places o.calls) letter c.in-Reply.kind c.in-Reply.reply _ c.in-Reply.is
     (sym c.has_next.ensures ∙ c.if-not-has_next.false)
     (sym (ap is_some (open_none o.node o.calls letter.message.call c.in-None.ensures.index)))
     ∙ ap (λ (l : LocalObject). is_taken l letter) c.self.view_is

@@ -10,7 +10,7 @@ pub returns-clause-done : goal.returns-clause-done
 returns-clause-done c =
     let o = c.self.inside in
     let local : LocalObject =
-    record { node = o.node; delta = o.delta; start = o.start; places = o.places; calls = carried o.node o.calls } in
+    record { node = o.node; delta = o.delta; start = o.start; places = o.places; reports = o.reports; calls = carried o.node o.calls } in
     subst (λ (l : LocalObject). can_raise l c.args.position ≡ true
     → IsOutcome l (raise_events l c.args.position) (record local { places = c.serve.new.self }) [])
     c.self.view_is

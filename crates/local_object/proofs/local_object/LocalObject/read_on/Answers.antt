@@ -13,8 +13,8 @@ use Rattle.local_object.proofs.local_object.LocalObject.read_on.Goals as goal
 pub returns-in_default-clause-done : goal.returns-in_default-clause-done
 returns-in_default-clause-done c =
     let o = c.self.inside in
-    nothing_read o.node o.delta o.start o.places o.calls c.args.id c.args.self.now c.self.view_is
-    (reads_none o.node o.delta o.start o.places o.calls c.args.id c.in_default.ensures.index) c.new.result.items c.new.ensures.items
+    nothing_read o.node o.delta o.start o.reports o.places o.calls c.args.id c.args.self.now c.self.view_is
+    (reads_none o.node o.delta o.start o.reports o.places o.calls c.args.id c.in_default.ensures.index) c.new.result.items c.new.ensures.items
 
 pub at-call-requires : goal.at-call-requires
 at-call-requires c =
@@ -23,8 +23,8 @@ at-call-requires c =
 pub returns-then-not-is_reading-clause-done : goal.returns-then-not-is_reading-clause-done
 returns-then-not-is_reading-clause-done c =
     let o = c.self.inside in
-    nothing_read o.node o.delta o.start o.places o.calls c.args.id c.args.self.now c.self.view_is
-    (not_reading o.node o.delta o.start o.places c.in-Some.ensures.distinct c.in-Some.ensures.index c.at-call.result.now c.at-call.ensures
+    nothing_read o.node o.delta o.start o.reports o.places o.calls c.args.id c.args.self.now c.self.view_is
+    (not_reading o.node o.delta o.start o.reports o.places c.in-Some.ensures.distinct c.in-Some.ensures.index c.at-call.result.now c.at-call.ensures
     (sym c.is_reading.ensures.value ∙ c.if-not-is_reading.true))
     c.new-then-not-is_reading.result.items c.new-then-not-is_reading.ensures.items
 
@@ -33,8 +33,8 @@ returns-then-position-self-clause-done c =
     let o = c.self.inside in
     let call = c.at-call.result.now in
     let position = c.position-position.ensures ∙ ap (λ (p : Phase). p.position) c.phase.ensures.value in
-    nothing_read o.node o.delta o.start o.places o.calls c.args.id c.args.self.now c.self.view_is
-    (not_before o.node o.delta o.start o.places c.in-Some.ensures.distinct c.in-Some.ensures.index call c.at-call.ensures
+    nothing_read o.node o.delta o.start o.reports o.places o.calls c.args.id c.args.self.now c.self.view_is
+    (not_before o.node o.delta o.start o.reports o.places c.in-Some.ensures.distinct c.in-Some.ensures.index call c.at-call.ensures
     (sym c.is_reading.ensures.value ∙ c.if-not-is_reading.false)
     (le-ltb call.phase.position o.start (omega (arith, position, c.if-position-self.true))))
     c.new-then-position-self.result.items c.new-then-position-self.ensures.items
@@ -50,9 +50,9 @@ returns-clause-done c =
     let new = c.read_at.new.calls in
     let letters = c.in_ok-letters.letters.items in
     let position = c.position-position.ensures ∙ ap (λ (p : Phase). p.position) c.phase.ensures.value in
-    subst (λ (l : LocalObject). IsOutcome l (read_on_events l c.args.id) (object o.node o.delta o.start o.places new) letters)
+    subst (λ (l : LocalObject). IsOutcome l (read_on_events l c.args.id) (object o.node o.delta o.start o.reports o.places new) letters)
     c.self.view_is
-    (reads_on_by o.node o.delta o.start o.places c.in-Some.ensures.distinct c.in-Some.ensures.index call c.at-call.ensures
+    (reads_on_by o.node o.delta o.start o.reports o.places c.in-Some.ensures.distinct c.in-Some.ensures.index call c.at-call.ensures
     c.self.invariant new letters (sym c.is_reading.ensures.value ∙ c.if-not-is_reading.false) c.is_reading.ensures.named
     c.is_reading.ensures.waiting (lt-ltb call.phase.position o.start (omega (arith, position, c.if-position-self.false)))
     (subst (λ n. IsReadLater o.places o.calls call c.in-Some.index (2 * (o.start - n)) o.start new letters) position

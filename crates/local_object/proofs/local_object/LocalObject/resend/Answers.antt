@@ -18,7 +18,7 @@ returns-in_default-clause-letters c =
     let o = c.self.inside in
     subst (λ (l : LocalObject). c.new.result.items ≡ letters_again fragment l c.args.id) c.self.view_is
     (c.new.ensures.items
-    ∙ sym (ap (letters_again_of fragment (object o.node o.delta o.start o.places o.calls))
+    ∙ sym (ap (letters_again_of fragment (object o.node o.delta o.start o.reports o.places o.calls))
     (open_none o.node o.calls c.args.id c.in_default.ensures.index)))
 
 pub at-call-requires : goal.at-call-requires
@@ -30,7 +30,7 @@ returns-in_default-shared_layout_of-clause-letters c =
     let o = c.self.inside in
     subst (λ (l : LocalObject). c.new-in_default-shared_layout_of.result.items ≡ letters_again fragment l c.args.id) c.self.view_is
     (c.new-in_default-shared_layout_of.ensures.items
-    ∙ sym (unknown_again o.node o.delta o.start o.places c.in-Some.ensures.distinct c.in-Some.ensures.index c.at-call.result.now
+    ∙ sym (unknown_again o.node o.delta o.start o.reports o.places c.in-Some.ensures.distinct c.in-Some.ensures.index c.at-call.result.now
     c.at-call.ensures
     (sym (c.in_default-shared_layout_of.ensures
     ∙ ap (λ n. layout_in (heard_place o.places n))
@@ -43,7 +43,7 @@ returns-then-not-is_sendable-clause-letters c =
     let kind = c.kind.ensures ∙ ap (λ (p : Phase). p.kind) c.phase-phase.ensures.value in
     subst (λ (l : LocalObject). c.new-then-not-is_sendable.result.items ≡ letters_again fragment l c.args.id) c.self.view_is
     (c.new-then-not-is_sendable.ensures.items
-    ∙ sym (unsendable_again o.node o.delta o.start o.places c.in-Some.ensures.distinct c.in-Some.ensures.index call c.at-call.ensures
+    ∙ sym (unsendable_again o.node o.delta o.start o.reports o.places c.in-Some.ensures.distinct c.in-Some.ensures.index call c.at-call.ensures
     c.in-Some-shared_layout_of.layout.now
     (sym (c.in-Some-shared_layout_of.ensures
     ∙ ap (λ n. layout_in (heard_place o.places n))
@@ -55,7 +55,7 @@ returns-clause-letters c =
     let o = c.self.inside in
     let call = c.at-call.result.now in
     let kind = c.kind.ensures ∙ ap (λ (p : Phase). p.kind) c.phase-phase.ensures.value in
-    let again = sent_again o.node o.delta o.start o.places c.in-Some.ensures.distinct c.in-Some.ensures.index call c.at-call.ensures
+    let again = sent_again o.node o.delta o.start o.reports o.places c.in-Some.ensures.distinct c.in-Some.ensures.index call c.at-call.ensures
     c.in-Some-shared_layout_of.layout.now
     (sym (c.in-Some-shared_layout_of.ensures
     ∙ ap (λ n. layout_in (heard_place o.places n))

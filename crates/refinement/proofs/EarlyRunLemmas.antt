@@ -1,0 +1,58 @@
+-- What was told and answered in a run lasts as the run goes on.
+use Rattle.std.proofs.Common.{◌≡◌, ℕ, List, ◌∷◌, ◌++◌, append_assoc, sym, ap, ◌∙◌}
+use Rattle.std.specs.List.{AllByRecursion}
+use Rattle.mail.specs.declared.message.Message.{Message}
+use Rattle.record.specs.Fragments.{Code}
+use Rattle.soundness.proofs.ListLemmas.{all_weaker}
+use Rattle.letter.specs.declared.letter.Letter.{Letter}
+use Rattle.letter.specs.declared.telling.Telling.{Telling}
+use Rattle.local_object.specs.declared.report.Report.{Report}
+use Rattle.network.specs.Events.{Event}
+use Rattle.told_replies.specs.EarlyAnswers.{EarlyAnswer, IsEarly}
+use Rattle.told_replies.specs.Tellings.{Run, WasTold}
+use Rattle.refinement.specs.ToldLetters.{IsTrueReport, IsTrueTelling, TellsTruth}
+
+module _ (fragment : Code) (run : Run) (more : List Event) where
+  -- the run with more events
+  abbrev pub longer : Run
+  longer = record { files = run.files; events = run.events ++ more }
+
+  told_later : (request : Message) (telling : Telling) → WasTold fragment run request telling →
+      WasTold fragment longer request telling
+  told_later request telling told = record {
+    before = told.before;
+    after = told.after ++ more;
+    served = ap (λ events. events ++ more) told.served
+        ∙ append_assoc told.before (Event.Serve request ∷ told.after) more;
+    tells = told.tells;
+  }
+
+  pub true_later : (call phase member : ℕ) (telling : Telling) → IsTrueTelling fragment run call phase member telling →
+      IsTrueTelling fragment longer call phase member telling
+  true_later call phase member telling is = record {
+    request = is.request;
+    whole = is.whole;
+    told = told_later is.request is.whole is.told;
+    less = is.less;
+    same_call = is.same_call;
+    same_phase = is.same_phase;
+    same_member = is.same_member;
+  }
+
+  pub letter_later : (letter : Letter) → TellsTruth fragment run letter → TellsTruth fragment longer letter
+  letter_later letter tells telling told =
+      true_later letter.message.call letter.message.phase letter.message.member telling (tells telling told)
+
+  pub report_later : (report : Report) → IsTrueReport fragment run report → IsTrueReport fragment longer report
+  report_later report is = true_later report.call report.phase report.member report.telling is
+
+  pub early_later : (answer : EarlyAnswer) → IsEarly fragment run answer → IsEarly fragment longer answer
+  early_later answer early = record {
+    before = early.before;
+    after = early.after ++ more;
+    until = ap (λ events. events ++ more) early.until ∙ append_assoc early.before early.after more;
+    now = early.now;
+    call = early.call;
+    carried = early.carried;
+    ends = early.ends;
+  }
