@@ -183,6 +183,8 @@ class WholeBanks:
             bank = self.bank(node, asked)
             is_late = bank.forgets(asked)
             expected = bank.reply_to(asked, self.layouts.get((asked.name, asked.position + 1), b""))
+            if (node, asked.name, asked.position) not in self.closed:
+                expected.told = bank.telling_after(asked)
         if log is not None:
             self.read_log(node, log)
         if self.compare_messages(node, came[0], asked, sent, expected):
