@@ -9,6 +9,7 @@ pub mod ChangedCallLemmas
 pub mod ClosedPlaceLemmas
 pub mod ClusterLemmas
 pub mod DeedLemmas
+pub mod EarlyRunLemmas
 pub mod EventCountLemmas
 pub mod EventLemmas
 pub mod EventRowLemmas
@@ -30,6 +31,7 @@ pub mod PlainEventLemmas
 pub mod RaisedPointerLemmas
 pub mod ReadOnLemmas
 pub mod RefinedEventLemmas
+pub mod ReportLemmas
 pub mod ResentLetterLemmas
 pub mod RestartedNodeLemmas
 pub mod SeenAnswerLemmas
@@ -47,5 +49,7 @@ pub mod SystemRunLemmas
 pub mod SystemValueLemmas
 pub mod TakenLetterLemmas
 pub mod TimedLemmas
+pub mod ToldCallLemmas
 pub mod ToldLemmas
+pub mod ToldLetterLemmas
 pub mod WaitingLemmas

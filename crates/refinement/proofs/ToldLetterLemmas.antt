@@ -1,0 +1,1 @@
+-- The letters that a node sends tell the truth.
