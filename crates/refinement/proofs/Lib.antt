@@ -10,6 +10,7 @@ pub mod ClosedPlaceLemmas
 pub mod ClusterLemmas
 pub mod DeedLemmas
 pub mod EarlyRunLemmas
+pub mod EndedEarlyLemmas
 pub mod EventCountLemmas
 pub mod EventLemmas
 pub mod EventRowLemmas
