@@ -32,6 +32,7 @@ pub mod PlainEventLemmas
 pub mod RaisedPointerLemmas
 pub mod ReadOnLemmas
 pub mod RefinedEventLemmas
+pub mod ReportLemmas
 pub mod ResentLetterLemmas
 pub mod RestartedNodeLemmas
 pub mod SeenAnswerLemmas
