@@ -9,6 +9,7 @@ pub mod ChangedCallLemmas
 pub mod ClosedPlaceLemmas
 pub mod ClusterLemmas
 pub mod DeedLemmas
+pub mod EndedEarlyLemmas
 pub mod EventCountLemmas
 pub mod EventLemmas
 pub mod EventRowLemmas
@@ -35,6 +36,7 @@ pub mod RestartedNodeLemmas
 pub mod SeenAnswerLemmas
 pub mod SeenHistoryLemmas
 pub mod ServedLetterLemmas
+pub mod ServedRequestLemmas
 pub mod SettledValueLemmas
 pub mod StartLemmas
 pub mod StartedCallLemmas
@@ -47,5 +49,6 @@ pub mod SystemRunLemmas
 pub mod SystemValueLemmas
 pub mod TakenLetterLemmas
 pub mod TimedLemmas
+pub mod ToldEntryLemmas
 pub mod ToldLemmas
 pub mod WaitingLemmas
