@@ -9,16 +9,16 @@ use Rattle.letter.specs.declared.telling.Telling.{Telling}
 use Rattle.local_object.specs.declared.report.Report.{Report}
 use Rattle.network.specs.Events.{Event}
 use Rattle.told_replies.specs.EarlyAnswers.{EarlyAnswer, IsEarly}
-use Rattle.told_replies.specs.Tellings.{Run, WasTold}
+use Rattle.told_replies.specs.Tellings.{Run, WasTold, run_until}
 use Rattle.refinement.specs.ToldLetters.{IsTrueReport, IsTrueTelling, TellsTruth}
 
-module _ (fragment : Code) (run : Run) (more : List Event) where
-  -- the run with more events
-  abbrev pub longer : Run
-  longer = record { files = run.files; events = run.events ++ more }
+-- the run with more events
+abbrev pub longer : Run → List Event → Run
+longer run more = run_until run (run.events ++ more)
 
+module _ (fragment : Code) (run : Run) (more : List Event) where
   told_later : (request : Message) (telling : Telling) → WasTold fragment run request telling →
-      WasTold fragment longer request telling
+      WasTold fragment (longer run more) request telling
   told_later request telling told = record {
     before = told.before;
     after = told.after ++ more;
@@ -28,7 +28,7 @@ module _ (fragment : Code) (run : Run) (more : List Event) where
   }
 
   pub true_later : (call phase member : ℕ) (telling : Telling) → IsTrueTelling fragment run call phase member telling →
-      IsTrueTelling fragment longer call phase member telling
+      IsTrueTelling fragment (longer run more) call phase member telling
   true_later call phase member telling is = record {
     request = is.request;
     whole = is.whole;
@@ -39,14 +39,15 @@ module _ (fragment : Code) (run : Run) (more : List Event) where
     same_member = is.same_member;
   }
 
-  pub letter_later : (letter : Letter) → TellsTruth fragment run letter → TellsTruth fragment longer letter
+  pub letter_later : (letter : Letter) → TellsTruth fragment run letter → TellsTruth fragment (longer run more) letter
   letter_later letter tells telling told =
-      true_later letter.message.call letter.message.phase letter.message.member telling (tells telling told)
+      let truth = tells telling told in
+      (true_later letter.message.call letter.message.phase letter.message.member telling truth.0, truth.1)
 
-  pub report_later : (report : Report) → IsTrueReport fragment run report → IsTrueReport fragment longer report
+  pub report_later : (report : Report) → IsTrueReport fragment run report → IsTrueReport fragment (longer run more) report
   report_later report is = true_later report.call report.phase report.member report.telling is
 
-  pub early_later : (answer : EarlyAnswer) → IsEarly fragment run answer → IsEarly fragment longer answer
+  pub early_later : (answer : EarlyAnswer) → IsEarly fragment run answer → IsEarly fragment (longer run more) answer
   early_later answer early = record {
     before = early.before;
     after = early.after ++ more;

@@ -9,6 +9,7 @@ pub mod ChangedCallLemmas
 pub mod ClosedPlaceLemmas
 pub mod ClusterLemmas
 pub mod DeedLemmas
+pub mod EarlyRunLemmas
 pub mod EndedEarlyLemmas
 pub mod EventCountLemmas
 pub mod EventLemmas
@@ -49,6 +50,8 @@ pub mod SystemRunLemmas
 pub mod SystemValueLemmas
 pub mod TakenLetterLemmas
 pub mod TimedLemmas
+pub mod ToldCallLemmas
 pub mod ToldEntryLemmas
 pub mod ToldLemmas
+pub mod ToldLetterLemmas
 pub mod WaitingLemmas

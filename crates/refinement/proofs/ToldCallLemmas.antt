@@ -188,3 +188,16 @@ module _ (fragment : Code) (run : Run) (local : LocalObject) (call : NodeCall) (
               (subst (λ n. length layout.members < layout.k + n)
               (sym (count_is fragment run call test Says of_call says local.reports)) enough);
         }
+
+-- what the node knows to be enough for an early answer is enough in the run
+pub held_there : (fragment : Code) (run : Run) (local : LocalObject) (call : NodeCall) (value : Option (List ℕ)) →
+    IsPartOf (world_of fragment run) local → call.node ≡ local.node →
+    AllByRecursion (IsTrueReport fragment run) local.reports → AreApart local.reports →
+    EndsHeldHere fragment local call value → EndsHeld fragment run call value
+held_there fragment run local call value part own are apart here = ?
+
+pub at_once_there : (fragment : Code) (run : Run) (local : LocalObject) (call : NodeCall) (value : Option (List ℕ)) →
+    IsPartOf (world_of fragment run) local → call.node ≡ local.node →
+    AllByRecursion (IsTrueReport fragment run) local.reports → AreApart local.reports →
+    EndsAtOnceHere fragment local call value → EndsAtOnce fragment run call value
+at_once_there fragment run local call value part own are apart here = ?
