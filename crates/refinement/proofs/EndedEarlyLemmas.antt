@@ -1,6 +1,6 @@
 -- A call ends early. In the world it is given up, after the world has waited for one event.
 use Rattle.std.proofs.Common.{◌≡◌, ◌⊎◌, inl, inr, ℕ, true, false, List, [], ◌∷◌, Option, refl, sym, ap, ◌∙◌}
-use Rattle.record.specs.declared.call.CallKind.TheVariants.{Move}
+use Rattle.record.specs.declared.call.CallKind.TheVariants.{Move, Read}
 use Rattle.record.specs.Fragments.{Code}
 use Rattle.record.specs.Legal.{is_move}
 use Rattle.open_calls.specs.OpenCalls.{NodeCall}
@@ -34,7 +34,7 @@ no_move : (fragment : Code) (local : LocalObject) (call : NodeCall) (value : Opt
     EndsHeldHere fragment local call value ⊎ EndsAtOnceHere fragment local call value → call.kind ≡ Move → ⊥
 no_move fragment local call value (inl held) move =
     absurd (let wrong : true ≡ false = ap is_move (sym move) ∙ held.client in cc)
-no_move fragment local call value (inr at_once) move = absurd (let wrong = sym at_once.reads ∙ move in cc)
+no_move fragment local call value (inr at_once) move = absurd (let wrong : Read ≡ Move = sym at_once.reads ∙ move in cc)
 
 pub ends_in_two : (id : ℕ) (value : Option (List ℕ)) (fragment : Code) (world : World) (local : LocalObject) →
     IsWellFormed fragment world → IsPartOf world local → MayHappenHere fragment local (LocalEvent.EndEarly id value) →

@@ -83,6 +83,17 @@ module _ (fragment : Code) (name : List ℕ) (system : System) (ids : ℕ → Ca
       subst (λ xs. IsHistoryAt name xs system.history later) (sym (append-nil notices))
       (history_later name notices system.history system.now later more follows.history)
 
+  quietly : (event : LocalEvent) → MayHappenHere fragment local event → IsPremisedIn system number event → IsGiven mine None now →
+      (after event).history ≡ system.history →
+      Leads fragment name system number (done_here fragment local event).local (with_ids ids number now)
+      (letters ++ with_names name (done_here fragment local event).sent) (notices ++ [])
+  quietly event may premised given same =
+      leads event [] may premised
+      (subst (AllByRecursion (λ entry. IsUsed (with_ids ids number now) entry.call)) (sym same)
+      (still_used (given_later mine now None within given)))
+      (subst (λ history. IsHistoryAt name (notices ++ []) history (after event).now) (sym same)
+      (quiet (after event).now (not_less system.now (event_count local event))))
+
   -- a call begins
   begun_used : (id : ℕ) (entry : Entry) → entry.call ≡ id → IsNextId mine id now →
       AllByRecursion (λ entry. IsUsed (with_ids ids number now) entry.call) (system.history ++ entry ∷ [])
@@ -205,42 +216,18 @@ module _ (fragment : Code) (name : List ℕ) (system : System) (ids : ℕ → Ca
       ((names_decided name name).1 refl) (omega arith) within follows.history (begun_told id entry refl given)
       (not_told (Notice.Moves name id layout) (λ ended e. absurd (cc)) (system.history ++ entry ∷ []))
       (begins id (Notice.Moves name id layout) entry later refl given (refl, refl, refl) refl refl within))
-  acted (LocalEvent.Advance id) may fed allowed given =
-      leads (LocalEvent.Advance id) [] may tt (still_used (given_later mine now None within given))
-      (quiet (after (LocalEvent.Advance id)).now (not_less system.now (event_count local (LocalEvent.Advance id))))
-  acted (LocalEvent.Serve letter) may fed allowed given =
-      leads (LocalEvent.Serve letter) [] may (follows.posted letter fed) (still_used (given_later mine now None within given))
-      (quiet (after (LocalEvent.Serve letter)).now (not_less system.now (event_count local (LocalEvent.Serve letter))))
-  acted (LocalEvent.Take letter) may fed allowed given =
-      leads (LocalEvent.Take letter) [] may (follows.posted letter fed) (still_used (given_later mine now None within given))
-      (quiet (after (LocalEvent.Take letter)).now (not_less system.now (event_count local (LocalEvent.Take letter))))
-  acted (LocalEvent.Settle id value) may fed allowed given =
-      leads (LocalEvent.Settle id value) [] may tt (still_used (given_later mine now None within given))
-      (quiet (after (LocalEvent.Settle id value)).now (not_less system.now (event_count local (LocalEvent.Settle id value))))
-  acted (LocalEvent.GiveUp id) may fed allowed given =
-      leads (LocalEvent.GiveUp id) [] may tt (still_used (given_later mine now None within given))
-      (quiet (after (LocalEvent.GiveUp id)).now (not_less system.now (event_count local (LocalEvent.GiveUp id))))
-  acted (LocalEvent.Close position) may fed allowed given =
-      leads (LocalEvent.Close position) [] may tt (still_used (given_later mine now None within given))
-      (quiet (after (LocalEvent.Close position)).now (not_less system.now (event_count local (LocalEvent.Close position))))
-  acted (LocalEvent.Grow id) may fed allowed given =
-      leads (LocalEvent.Grow id) [] may tt (still_used (given_later mine now None within given))
-      (quiet (after (LocalEvent.Grow id)).now (not_less system.now (event_count local (LocalEvent.Grow id))))
-  acted (LocalEvent.ReadOn id) may fed allowed given =
-      leads (LocalEvent.ReadOn id) [] may tt (still_used (given_later mine now None within given))
-      (quiet (after (LocalEvent.ReadOn id)).now (not_less system.now (event_count local (LocalEvent.ReadOn id))))
-  acted (LocalEvent.BeginAnew id) may fed allowed given =
-      leads (LocalEvent.BeginAnew id) [] may tt (still_used (given_later mine now None within given))
-      (quiet (after (LocalEvent.BeginAnew id)).now (not_less system.now (event_count local (LocalEvent.BeginAnew id))))
-  acted (LocalEvent.Raise position) may fed allowed given =
-      leads (LocalEvent.Raise position) [] may tt (still_used (given_later mine now None within given))
-      (quiet (after (LocalEvent.Raise position)).now (not_less system.now (event_count local (LocalEvent.Raise position))))
-  acted (LocalEvent.Hear letter) may fed allowed given =
-      leads (LocalEvent.Hear letter) [] may (follows.posted letter fed) (still_used (given_later mine now None within given))
-      (quiet (after (LocalEvent.Hear letter)).now (not_less system.now (event_count local (LocalEvent.Hear letter))))
-  acted (LocalEvent.Redirect letter) may fed allowed given =
-      leads (LocalEvent.Redirect letter) [] may (follows.posted letter fed) (still_used (given_later mine now None within given))
-      (quiet (after (LocalEvent.Redirect letter)).now (not_less system.now (event_count local (LocalEvent.Redirect letter))))
+  acted (LocalEvent.Advance id) may fed allowed given = quietly (LocalEvent.Advance id) may tt given refl
+  acted (LocalEvent.Serve letter) may fed allowed given = quietly (LocalEvent.Serve letter) may (follows.posted letter fed) given refl
+  acted (LocalEvent.Take letter) may fed allowed given = quietly (LocalEvent.Take letter) may (follows.posted letter fed) given refl
+  acted (LocalEvent.Settle id value) may fed allowed given = quietly (LocalEvent.Settle id value) may tt given refl
+  acted (LocalEvent.GiveUp id) may fed allowed given = quietly (LocalEvent.GiveUp id) may tt given refl
+  acted (LocalEvent.Close position) may fed allowed given = quietly (LocalEvent.Close position) may tt given refl
+  acted (LocalEvent.Grow id) may fed allowed given = quietly (LocalEvent.Grow id) may tt given refl
+  acted (LocalEvent.ReadOn id) may fed allowed given = quietly (LocalEvent.ReadOn id) may tt given refl
+  acted (LocalEvent.BeginAnew id) may fed allowed given = quietly (LocalEvent.BeginAnew id) may tt given refl
+  acted (LocalEvent.Raise position) may fed allowed given = quietly (LocalEvent.Raise position) may tt given refl
+  acted (LocalEvent.Hear letter) may fed allowed given = quietly (LocalEvent.Hear letter) may (follows.posted letter fed) given refl
+  acted (LocalEvent.Redirect letter) may fed allowed given = quietly (LocalEvent.Redirect letter) may (follows.posted letter fed) given refl
   acted (LocalEvent.Answer id) may fed allowed given =
       let on = answered id (open_call local.calls id) refl (still_used (given_later mine now None within given)) in
       leads (LocalEvent.Answer id) (map (Notice.Tells name) (told_if (open_call local.calls id))) may tt on.0 on.1

@@ -28,7 +28,7 @@ use Rattle.refinement.proofs.PartLemmas.{refined, sent_still}
 use Rattle.refinement.proofs.TakenLetterLemmas.{still_kept}
 
 -- what is so of each call that is left
-all_left : (P Q : NodeCall → Type 0) (id : ℕ) → ((other : NodeCall) → (other.id ≡ id → ⊥) → P other → Q other) →
+pub all_left : (P Q : NodeCall → Type 0) (id : ℕ) → ((other : NodeCall) → (other.id ≡ id → ⊥) → P other → Q other) →
     (calls : List NodeCall) → AllByRecursion P calls → AllByRecursion Q (without_call id calls)
 all_left P Q id there [] all = tt
 all_left P Q id there (first ∷ calls) all = go (eqb first.id id) refl (all_left P Q id there calls all.1)
