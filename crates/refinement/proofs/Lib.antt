@@ -38,6 +38,7 @@ pub mod RestartedNodeLemmas
 pub mod SeenAnswerLemmas
 pub mod SeenHistoryLemmas
 pub mod ServedLetterLemmas
+pub mod ServedRequestLemmas
 pub mod SettledValueLemmas
 pub mod StartLemmas
 pub mod StartedCallLemmas
@@ -51,6 +52,7 @@ pub mod SystemValueLemmas
 pub mod TakenLetterLemmas
 pub mod TimedLemmas
 pub mod ToldCallLemmas
+pub mod ToldEntryLemmas
 pub mod ToldLemmas
 pub mod ToldLetterLemmas
 pub mod WaitingLemmas
