@@ -9,6 +9,8 @@ pub mod ChangedCallLemmas
 pub mod ClosedPlaceLemmas
 pub mod ClusterLemmas
 pub mod DeedLemmas
+pub mod EarlyEventLemmas
+pub mod EarlyHistoryLemmas
 pub mod EarlyRunLemmas
 pub mod EndedEarlyLemmas
 pub mod EventCountLemmas
@@ -39,6 +41,7 @@ pub mod SeenAnswerLemmas
 pub mod SeenHistoryLemmas
 pub mod ServedLetterLemmas
 pub mod ServedRequestLemmas
+pub mod ServedTellingLemmas
 pub mod SettledValueLemmas
 pub mod StartLemmas
 pub mod StartedCallLemmas
@@ -55,4 +58,6 @@ pub mod ToldCallLemmas
 pub mod ToldEntryLemmas
 pub mod ToldLemmas
 pub mod ToldLetterLemmas
+pub mod ToldReportLemmas
 pub mod WaitingLemmas
+pub mod WorldIdLemmas
