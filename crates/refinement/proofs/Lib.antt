@@ -9,6 +9,8 @@ pub mod ChangedCallLemmas
 pub mod ClosedPlaceLemmas
 pub mod ClusterLemmas
 pub mod DeedLemmas
+pub mod EarlyEventLemmas
+pub mod EarlyHistoryLemmas
 pub mod EarlyRunLemmas
 pub mod EndedEarlyLemmas
 pub mod EventCountLemmas
@@ -55,4 +57,6 @@ pub mod ToldCallLemmas
 pub mod ToldEntryLemmas
 pub mod ToldLemmas
 pub mod ToldLetterLemmas
+pub mod ToldValueLemmas
 pub mod WaitingLemmas
+pub mod WorldIdLemmas
