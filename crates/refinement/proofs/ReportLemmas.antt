@@ -229,4 +229,4 @@ pub true_done : (fragment : Code) (run : Run) (local : LocalObject) (event : Loc
 true_done fragment run local event tells are =
     reports_done (AllByRecursion (IsTrueReport fragment run)) (all_left (IsTrueReport fragment run)) fragment local are event
     (λ letter telling is told. all_with (IsTrueReport fragment run) (report_of letter.message telling) local.reports
-    (tells letter is telling told) are)
+    (tells letter is telling told).0 are)
