@@ -31,7 +31,7 @@ reached_longer fragment run more reached may = record {
   may = may_append fragment run.events more (opened_world run.files) reached.may may;
 }
 
-pub is_reached : (fragment : Code) (run : Run) → IsReachedBy fragment run → IsReached fragment (world_of fragment run)
+abbrev pub is_reached : (fragment : Code) (run : Run) → IsReachedBy fragment run → IsReached fragment (world_of fragment run)
 is_reached fragment run reached = record {
   files = run.files;
   one = reached.one;
@@ -67,6 +67,7 @@ module _ (fragment : Code) (run : Run) (more : List Event) where
   }
 
   pub letter_later : (letter : Letter) → TellsTruth fragment run letter → TellsTruth fragment (longer run more) letter
+  unfolding true_later
   letter_later letter tells telling told =
       let truth = tells telling told in
       (true_later letter.message.call letter.message.phase letter.message.member telling truth.0, truth.1)

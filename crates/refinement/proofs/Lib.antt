@@ -59,5 +59,6 @@ pub mod ToldEntryLemmas
 pub mod ToldLemmas
 pub mod ToldLetterLemmas
 pub mod ToldReportLemmas
+pub mod ToldValueLemmas
 pub mod WaitingLemmas
 pub mod WorldIdLemmas
