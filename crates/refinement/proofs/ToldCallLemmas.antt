@@ -7,7 +7,6 @@ use Rattle.tag.specs.declared.tag.Tag.{Tag}
 use Rattle.tag.specs.Tag.{tag_eq, tag_lt}
 use Rattle.tag.proofs.TagOrderLemmas.{tag_eq-true}
 use Rattle.layout.specs.Layout.{Layout, quorum_of}
-use Rattle.piece.specs.declared.piece.Piece.{Piece}
 use Rattle.bank.specs.declared.kind.Kind.{Kind}
 use Rattle.bank.specs.declared.kind.Kind.TheVariants as kind
 use Rattle.bank.specs.declared.status.Status.{Status}
@@ -20,7 +19,7 @@ use Rattle.soundness.proofs.ListLemmas.{all_get, all_weaker}
 use Rattle.early_ends.specs.Told.{last_of}
 use Rattle.letter.specs.Tellings.{SaysNoMore}
 use Rattle.letter.specs.declared.telling.Telling.{Telling}
-use Rattle.network.specs.Worlds.{World, known_layout, known_layouts, parts_of}
+use Rattle.network.specs.Worlds.{known_layout, known_layouts, parts_of}
 use Rattle.open_calls.specs.OpenCalls.{NodeCall}
 use Rattle.local_object.specs.declared.report.Report.{Report}
 use Rattle.local_object.specs.Early.{EndsAtOnceHere, EndsHeldHere, HasToldPieceHere, HasValueHere, HaveToldValueHere}
@@ -65,8 +64,10 @@ not_true false e = refl
 -- the call with what its node keeps
 module _ (fragment : Code) (run : Run) (local : LocalObject) (call : NodeCall) (part : IsPartOf (world_of fragment run) local)
     (own : call.node ≡ local.node) (are : AllByRecursion (IsTrueReport fragment run) local.reports) (apart : AreApart local.reports) where
-  asked_is : (layout : Layout) → layout_here local call.phase.position ≡ Some layout →
-      asked_layout (world_of fragment run) call ≡ layout
+  abbrev asked : Layout
+  asked = asked_layout (world_of fragment run) call
+
+  asked_is : (layout : Layout) → layout_here local call.phase.position ≡ Some layout → asked ≡ layout
   asked_is layout known =
       ap (λ node. known_layout (world_of fragment run) node call.phase.position) own
       ∙ get_or_from_slice_get (known_layouts (world_of fragment run) local.node) call.phase.position layout no_layout
@@ -151,11 +152,8 @@ module _ (fragment : Code) (run : Run) (local : LocalObject) (call : NodeCall) (
             go (inl none) = absurd (let wrong : None ≡ Some has.piece = sym none ∙ has.told in none-some has.piece wrong)
             go (inr same) = sym same ∙ has.told
 
-        abbrev Layouts : Layout
-        Layouts = asked_layout (world_of fragment run) call
-
         piece_there : (telling : Telling) × HasTold fragment run call member telling
-            × TellsPiece fragment Layouts tag value member telling
+            × TellsPiece fragment asked tag value member telling
         piece_there =
             let told = told_by_report fragment run call has.report
             (all_get (IsTrueReport fragment run) local.reports has.place has.report are has.at)
@@ -174,19 +172,18 @@ module _ (fragment : Code) (run : Run) (local : LocalObject) (call : NodeCall) (
             )
 
       told_value : (value : List ℕ) → HaveToldValueHere fragment local call layout tag value → IsToldValue fragment run call tag value
-      told_value value here =
-          let asked = asked_layout (world_of fragment run) call in record {
-            members = here.members;
-            told = record {
-              distinct = here.distinct;
-              each = all_weaker (HasToldPieceHere fragment local call layout tag value)
-                  (λ member. (telling : Telling) × HasTold fragment run call member telling
-                  × TellsPiece fragment asked tag value member telling)
-                  (λ member has. piece_there value member has) here.members here.each;
-            };
-            enough = subst (λ (l : Layout). l.k ≤ length here.members) (sym (asked_is layout known)) here.enough;
-            is_value = here.is_value;
-          }
+      told_value value here = record {
+        members = here.members;
+        told = record {
+          distinct = here.distinct;
+          each = all_weaker (HasToldPieceHere fragment local call layout tag value)
+              (λ member. (telling : Telling) × HasTold fragment run call member telling
+              × TellsPiece fragment asked tag value member telling)
+              (λ member has. piece_there value member has) here.members here.each;
+        };
+        enough = subst (λ (l : Layout). l.k ≤ length here.members) (sym (asked_is layout known)) here.enough;
+        is_value = here.is_value;
+      }
 
     has_value : (value : List ℕ) → HasValueHere fragment call layout value → HasValue fragment (world_of fragment run) call value
     has_value value (inl settled) = inl settled
