@@ -9,6 +9,10 @@ pub mod ChangedCallLemmas
 pub mod ClosedPlaceLemmas
 pub mod ClusterLemmas
 pub mod DeedLemmas
+pub mod EarlyEventLemmas
+pub mod EarlyHistoryLemmas
+pub mod EarlyRunLemmas
+pub mod EndedEarlyLemmas
 pub mod EventCountLemmas
 pub mod EventLemmas
 pub mod EventRowLemmas
@@ -30,11 +34,14 @@ pub mod PlainEventLemmas
 pub mod RaisedPointerLemmas
 pub mod ReadOnLemmas
 pub mod RefinedEventLemmas
+pub mod ReportLemmas
 pub mod ResentLetterLemmas
 pub mod RestartedNodeLemmas
 pub mod SeenAnswerLemmas
 pub mod SeenHistoryLemmas
 pub mod ServedLetterLemmas
+pub mod ServedRequestLemmas
+pub mod ServedTellingLemmas
 pub mod SettledValueLemmas
 pub mod StartLemmas
 pub mod StartedCallLemmas
@@ -47,5 +54,11 @@ pub mod SystemRunLemmas
 pub mod SystemValueLemmas
 pub mod TakenLetterLemmas
 pub mod TimedLemmas
+pub mod ToldCallLemmas
+pub mod ToldEntryLemmas
 pub mod ToldLemmas
+pub mod ToldLetterLemmas
+pub mod ToldReportLemmas
+pub mod ToldValueLemmas
 pub mod WaitingLemmas
+pub mod WorldIdLemmas

@@ -35,8 +35,8 @@ IsPlainEventOfWorld event = (fragment : Code) (world : World) (local : LocalObje
     × ((world_after fragment (world_events local event) world).history
     ≡ history_after local event (suc world.now) world.history)
 
--- unless a call begins or goes on at the node's start, or the node raises a pointer, what a node does is what the
--- events of `world_events` do
+-- unless a call begins or goes on at the node's start, or ends early, or the node raises a pointer, what a node does is
+-- what the events of `world_events` do
 abbrev pub PlainEventsAreWorldEvents : Type 0
 PlainEventsAreWorldEvents = (event : LocalEvent) → is_known_by_count event ≡ false → IsPlainEventOfWorld event
 
