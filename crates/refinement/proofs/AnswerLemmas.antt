@@ -11,6 +11,7 @@ use Rattle.network.specs.Laws.{KeepsValues}
 use Rattle.open_calls.proofs.OpenCallLemmas.{found}
 use Rattle.network.proofs.WorldLawLemmas.{values_kept}
 use Rattle.local_object.specs.Ended.{told_early, told_of}
+use Rattle.told_replies.specs.Tellings.{world_of}
 use Rattle.refinement.specs.Laws.{AnsweredReadsHaveValues, AnswersAreInHistory, EarlyAnswersAreInHistory}
 use Rattle.refinement.specs.Refined.{early_entry, with_answer, with_early_answer}
 use Rattle.refinement.specs.SystemValues.{HasAnswer, HasEarlyAnswer, told_value}
@@ -18,6 +19,7 @@ use Rattle.refinement.specs.WellFormed.{HasEntry}
 use Rattle.refinement.proofs.ChangedCallLemmas.{carried}
 use Rattle.refinement.proofs.LeftCallLemmas.{answer_refined}
 use Rattle.refinement.proofs.SystemLawLemmas.{reached_with}
+use Rattle.refinement.proofs.EarlyRunLemmas.{is_reached}
 use Rattle.refinement.proofs.EventRunLemmas.{reached_later}
 use Rattle.refinement.proofs.SystemRunLemmas.{open_entry}
 use Rattle.refinement.proofs.ToldEntryLemmas.{answer_of, early_of, told_answer, told_there}
@@ -82,11 +84,11 @@ read_settled fragment world call now keeps answer kind =
 
 pub answered_values : AnsweredReadsHaveValues
 answered_values fragment system node id call code reached may open_here kind =
-    let with_world = reached_with fragment system reached in
-    let world = with_world.world in
+    let with_run = reached_with fragment system reached in
+    let world = world_of fragment with_run.run in
     let local = system.objects node in
-    let part = with_world.is.parts node in
-    let formed = with_world.formed in
+    let part = with_run.is.parts.parts node in
+    let formed = with_run.formed in
     let led = answer_refined id fragment world local formed part may tt in
     let carries = carried fragment world local id call formed part open_here in
     let has = (found (HasEntry world.history) world.calls id call formed.entries carries.open_there).0 in
@@ -95,4 +97,5 @@ answered_values fragment system node id call code reached may open_here kind =
     subst (λ history. HasAnswer history call (suc world.now))
     (sym (led.1 ∙ ap (λ o. with_answer o (suc world.now) world.history) open_here)) (answer_there world.history call (suc world.now) has) in
     read_settled fragment later call (suc world.now)
-    (values_kept fragment later code (reached_later fragment world (Event.Answer id ∷ []) with_world.reached led.0.may)) answer kind
+    (values_kept fragment later code
+    (reached_later fragment world (Event.Answer id ∷ []) (is_reached fragment with_run.run with_run.reached) led.0.may)) answer kind

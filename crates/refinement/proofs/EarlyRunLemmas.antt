@@ -1,20 +1,47 @@
 -- What was told and answered in a run lasts as the run goes on.
-use Rattle.std.proofs.Common.{◌≡◌, ℕ, List, ◌∷◌, ◌++◌, append_assoc, sym, ap, ◌∙◌}
-use Rattle.std.specs.List.{AllByRecursion}
+use Rattle.std.proofs.Common.{◌≡◌, ℕ, List, ◌∷◌, ◌++◌, append_assoc, refl, sym, ap, ◌∙◌}
 use Rattle.mail.specs.declared.message.Message.{Message}
 use Rattle.record.specs.Fragments.{Code}
-use Rattle.soundness.proofs.ListLemmas.{all_weaker}
 use Rattle.letter.specs.declared.letter.Letter.{Letter}
 use Rattle.letter.specs.declared.telling.Telling.{Telling}
 use Rattle.local_object.specs.declared.report.Report.{Report}
-use Rattle.network.specs.Events.{Event}
+use Rattle.network.specs.Worlds.{opened_world}
+use Rattle.network.specs.Events.{Event, world_after}
+use Rattle.network.specs.Laws.{IsReached}
+use Rattle.network.specs.Premises.{MayHappenInTurn}
 use Rattle.told_replies.specs.EarlyAnswers.{EarlyAnswer, IsEarly}
-use Rattle.told_replies.specs.Tellings.{Run, WasTold, run_until}
+use Rattle.told_replies.specs.Tellings.{Run, WasTold, run_until, world_of}
+use Rattle.refinement.specs.Laws.{IsReachedBy}
 use Rattle.refinement.specs.ToldLetters.{IsTrueReport, IsTrueTelling, TellsTruth}
+use Rattle.refinement.proofs.EventRunLemmas.{may_append, run_append}
 
 -- the run with more events
 abbrev pub longer : Run → List Event → Run
 longer run more = run_until run (run.events ++ more)
+
+pub world_longer : (fragment : Code) (run : Run) (more : List Event) →
+    world_of fragment (longer run more) ≡ world_after fragment more (world_of fragment run)
+world_longer fragment run more = run_append fragment run.events more (opened_world run.files)
+
+pub reached_longer : (fragment : Code) (run : Run) (more : List Event) → IsReachedBy fragment run →
+    MayHappenInTurn fragment more (world_of fragment run) → IsReachedBy fragment (longer run more)
+reached_longer fragment run more reached may = record {
+  one = reached.one;
+  lawful = reached.lawful;
+  may = may_append fragment run.events more (opened_world run.files) reached.may may;
+}
+
+abbrev pub is_reached : (fragment : Code) (run : Run) → IsReachedBy fragment run → IsReached fragment (world_of fragment run)
+is_reached fragment run reached = record {
+  files = run.files;
+  one = reached.one;
+  lawful = reached.lawful;
+  events = run.events;
+  may = reached.may;
+  result = refl;
+}
+
+-- What was told
 
 module _ (fragment : Code) (run : Run) (more : List Event) where
   told_later : (request : Message) (telling : Telling) → WasTold fragment run request telling →
@@ -40,6 +67,7 @@ module _ (fragment : Code) (run : Run) (more : List Event) where
   }
 
   pub letter_later : (letter : Letter) → TellsTruth fragment run letter → TellsTruth fragment (longer run more) letter
+  unfolding true_later
   letter_later letter tells telling told =
       let truth = tells telling told in
       (true_later letter.message.call letter.message.phase letter.message.member telling truth.0, truth.1)

@@ -9,6 +9,8 @@ pub mod ChangedCallLemmas
 pub mod ClosedPlaceLemmas
 pub mod ClusterLemmas
 pub mod DeedLemmas
+pub mod EarlyEventLemmas
+pub mod EarlyHistoryLemmas
 pub mod EarlyRunLemmas
 pub mod EndedEarlyLemmas
 pub mod EventCountLemmas
@@ -32,6 +34,7 @@ pub mod PlainEventLemmas
 pub mod RaisedPointerLemmas
 pub mod ReadOnLemmas
 pub mod RefinedEventLemmas
+pub mod ReportLemmas
 pub mod ResentLetterLemmas
 pub mod RestartedNodeLemmas
 pub mod SeenAnswerLemmas
@@ -54,4 +57,6 @@ pub mod ToldCallLemmas
 pub mod ToldEntryLemmas
 pub mod ToldLemmas
 pub mod ToldLetterLemmas
+pub mod ToldValueLemmas
 pub mod WaitingLemmas
+pub mod WorldIdLemmas
