@@ -105,7 +105,7 @@ module _ (fragment : Code) (world : World) (local : LocalObject) (id : ℕ) (for
       numbers = omega arith
 
   -- at position 0, a read also asks for pieces
-  asking_too : Outcome
+  abbrev asking_too : Outcome
   asking_too = record {
     local = between.local;
     sent = phase_letters local (is_read call.kind) call.id (suc call.phase.number) Next 0 first (pieces_here fragment first call);
