@@ -239,7 +239,8 @@ class OtherClusters(unittest.TestCase):
         self.assertEqual(self.value(info, b"frames_dropped"), b"2")
 
     def test_messages_of_forms_before(self):
-        """The node drops messages of forms 3 and 4, and those of form 2, also where their first byte is that of today's form."""
+        """The node drops messages of forms 4 and 3, and those of form 2, also where their first byte is that of today's
+        form."""
         own = bytes.fromhex(self.own.decode())
         messages = [old_strings(Message(digest, b"a", b"next")) for digest in (own, bytes([FORM]) + b"x" * 15)]
         messages += [Message(own, b"a", b"next").strings(form) for form in FORMS_BEFORE]
