@@ -69,7 +69,7 @@ module _ (fragment : Code) (code : IsCode fragment) (run : Run) (reached : IsRea
 
   -- an early answer to a call whose entry is a read
   module _ (answer : EarlyAnswer) (early : IsEarly fragment run answer) where
-    told : Told
+    abbrev told : Told
     told = told_answer fragment run.files run.events reached.may traced answer early
 
     may_be_told : (may : IsTold fragment traced.last told) × (may.call.id ≡ answer.id) × (may.call.kind ≡ early.call.kind)
