@@ -242,8 +242,6 @@ module _ (fragment : Code) (run : Run) (answers : List EarlyAnswer) (history : L
   acted_here (LocalEvent.BeginMove id layout) may premised are apart =
       goes_on (LocalEvent.BeginMove id layout) (each (LocalEvent.BeginMove id layout) may premised) tt
       (begins id (begun_entry id Move (suc world.now)) refl premised.0)
-  acted_here (LocalEvent.Advance id) may premised are apart =
-      goes_on (LocalEvent.Advance id) (each (LocalEvent.Advance id) may premised) tt is.same
   acted_here (LocalEvent.Serve letter) may premised are apart =
       let done = each_plain (LocalEvent.Serve letter) refl fragment world local formed part may premised in
       goes_on (LocalEvent.Serve letter) (record {
@@ -252,27 +250,8 @@ module _ (fragment : Code) (run : Run) (answers : List EarlyAnswer) (history : L
         refined = done.0;
         entries = done.1;
       }) refl is.same
-  acted_here (LocalEvent.Take letter) may premised are apart =
-      goes_on (LocalEvent.Take letter) (each (LocalEvent.Take letter) may premised) tt is.same
-  acted_here (LocalEvent.Settle id value) may premised are apart =
-      goes_on (LocalEvent.Settle id value) (each (LocalEvent.Settle id value) may premised) tt is.same
   acted_here (LocalEvent.Answer id) may premised are apart =
       goes_on (LocalEvent.Answer id) (each (LocalEvent.Answer id) may premised) tt
       (answers_one id (suc world.now) (open_call local.calls id) refl)
-  acted_here (LocalEvent.GiveUp id) may premised are apart =
-      goes_on (LocalEvent.GiveUp id) (each (LocalEvent.GiveUp id) may premised) tt is.same
-  acted_here (LocalEvent.Close position) may premised are apart =
-      goes_on (LocalEvent.Close position) (each (LocalEvent.Close position) may premised) tt is.same
-  acted_here (LocalEvent.Grow id) may premised are apart =
-      goes_on (LocalEvent.Grow id) (each (LocalEvent.Grow id) may premised) tt is.same
-  acted_here (LocalEvent.Hear letter) may premised are apart =
-      goes_on (LocalEvent.Hear letter) (each (LocalEvent.Hear letter) may premised) tt is.same
-  acted_here (LocalEvent.Redirect letter) may premised are apart =
-      goes_on (LocalEvent.Redirect letter) (each (LocalEvent.Redirect letter) may premised) tt is.same
-  acted_here (LocalEvent.ReadOn id) may premised are apart =
-      goes_on (LocalEvent.ReadOn id) (each (LocalEvent.ReadOn id) may premised) tt is.same
-  acted_here (LocalEvent.BeginAnew id) may premised are apart =
-      goes_on (LocalEvent.BeginAnew id) (each (LocalEvent.BeginAnew id) may premised) tt is.same
-  acted_here (LocalEvent.Raise position) may premised are apart =
-      goes_on (LocalEvent.Raise position) (each (LocalEvent.Raise position) may premised) tt is.same
   acted_here (LocalEvent.EndEarly id returned) may premised are apart = ended_early id returned may are apart
+  acted_here event may premised are apart = goes_on event (each event may premised) tt is.same

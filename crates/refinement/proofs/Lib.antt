@@ -41,6 +41,7 @@ pub mod SeenAnswerLemmas
 pub mod SeenHistoryLemmas
 pub mod ServedLetterLemmas
 pub mod ServedRequestLemmas
+pub mod ServedTellingLemmas
 pub mod SettledValueLemmas
 pub mod StartLemmas
 pub mod StartedCallLemmas
@@ -57,6 +58,7 @@ pub mod ToldCallLemmas
 pub mod ToldEntryLemmas
 pub mod ToldLemmas
 pub mod ToldLetterLemmas
+pub mod ToldReportLemmas
 pub mod ToldValueLemmas
 pub mod WaitingLemmas
 pub mod WorldIdLemmas

@@ -1,21 +1,11 @@
 -- What the letters tell that a node sends is true in the run.
-use Rattle.std.proofs.Common.{◌≡◌, ◌⊎◌, ℕ, suc, Bool, true, false, cond, inl, inr, List, [], ◌∷◌, map, Option, None, Some, slice_get}
-use Rattle.std.proofs.Common.{refl, sym, subst, ap, ◌∙◌}
+use Rattle.std.proofs.Common.{◌≡◌, ℕ, suc, Bool, false, List, [], ◌∷◌, map, Option, None, Some, sym, subst}
 use Rattle.std.specs.List.{AllByRecursion}
-use Rattle.std.proofs.lemmas.Option.{same_Some}
 use Rattle.layout.specs.Layout.{Layout}
-use Rattle.piece.specs.declared.piece.Piece.{Piece}
-use Rattle.bank.specs.Bank.{Bank, empty_piece, piece_of}
-use Rattle.bank.specs.Floor.{is_forgotten, remembered}
-use Rattle.bank.specs.Serve.{greatest_final}
+use Rattle.bank.specs.Bank.{empty_piece}
 use Rattle.bank.specs.declared.kind.Kind.{Kind}
 use Rattle.bank.specs.declared.kind.Kind.TheVariants.{Next, Spread}
-use Rattle.bank.specs.declared.reply.Reply.{Reply}
-use Rattle.bank.specs.declared.request.Request.{Request}
 use Rattle.bank.specs.declared.status.Status.TheVariants.{Pending}
-use Rattle.bank.proofs.RememberedReplyLemmas.{greatest-remembered, piece_of-remembered}
-use Rattle.mail.specs.declared.message.Body.{Body}
-use Rattle.mail.specs.declared.message.Body.TheVariants as body
 use Rattle.mail.specs.declared.message.Message.{Message}
 use Rattle.record.specs.declared.call.CallKind.{CallKind}
 use Rattle.record.specs.declared.call.CallKind.TheVariants.{Read, Write, Move}
@@ -26,33 +16,22 @@ use Rattle.record.specs.Legal.{first_stage}
 use Rattle.record.specs.Sending.{requests}
 use Rattle.soundness.proofs.ListLemmas.{all_get}
 use Rattle.open_calls.specs.OpenCalls.{NodeCall, due_phase, open_call, with_open}
-use Rattle.letter.specs.Tellings.{SaysNoMore, telling_of}
 use Rattle.letter.specs.declared.letter.Letter.{Letter}
-use Rattle.letter.specs.declared.telling.Telling.{Telling}
-use Rattle.network.specs.Events.{Event, happens, world_after}
-use Rattle.network.specs.Worlds.{member_bank}
-use Rattle.local_object.specs.declared.kept_bank.KeptBank.{KeptBank}
-use Rattle.local_object.specs.declared.kept_bank.KeptBank.TheVariants as kept
-use Rattle.local_object.specs.ChangedBanks.{kept_bank}
-use Rattle.local_object.specs.Events.{LocalEvent, advanced_at, advanced_here, done_here, handled_here, pieces_here, reply_letters}
-use Rattle.local_object.specs.Events.{served_here, taking_here}
-use Rattle.local_object.specs.KeptBanks.{kept_reply}
-use Rattle.local_object.specs.Local.{LocalObject, bank_here, bank_in, heard_place, last_position, layout_here, with_heard}
+use Rattle.network.specs.Events.{Event}
+use Rattle.local_object.specs.Events.{LocalEvent, advanced_at, advanced_here, done_here, pieces_here, taking_here}
+use Rattle.local_object.specs.Local.{LocalObject, last_position, layout_here, with_heard}
 use Rattle.local_object.specs.May.{MayHappenHere}
 use Rattle.local_object.specs.Outcomes.{Outcome, begun_here, is_read, learnt_from, letter_of, on_open_call, silent}
-use Rattle.local_object.specs.Reports.{piece_if, telling_if, told_by}
 use Rattle.local_object.specs.Resent.{IsResent, current_letters}
 use Rattle.local_object.specs.Sent.{asks_piece}
 use Rattle.local_object.specs.Starting.{anew_number, first_number, number_at, reads_at, reads_here}
-use Rattle.local_object.proofs.HeardLayoutLemmas.{bank_here_heard}
-use Rattle.local_object.proofs.HeardPlaceLemmas.{layout_with}
 use Rattle.told_replies.specs.Tellings.{Run, world_of}
-use Rattle.refinement.specs.Parts.{IsKeptOf, IsPartOf, WasSentAs}
-use Rattle.refinement.specs.Refined.{if_replied, served_events, world_events}
+use Rattle.refinement.specs.Parts.{IsPartOf, WasSentAs}
+use Rattle.refinement.specs.Refined.{world_events}
 use Rattle.refinement.specs.ToldLetters.{TellsTruth}
 use Rattle.refinement.specs.WellFormed.{IsWellFormed}
 use Rattle.refinement.proofs.EarlyRunLemmas.{letter_later, longer}
-use Rattle.refinement.proofs.ServedLetterLemmas.{serve_refined}
+use Rattle.refinement.proofs.ServedTellingLemmas.{served_tell}
 
 -- a letter that is served was sent, and one that is taken or sent back tells the truth
 abbrev pub HearsTruth : Code → Run → LocalEvent → Type 0
@@ -65,105 +44,6 @@ HearsTruth fragment run _ = Unit {0}
 abbrev pub AreServedBy : LocalObject → LocalEvent → List Event → Type 0
 AreServedBy local (LocalEvent.Serve letter) events = events ≡ world_events local (LocalEvent.Serve letter)
 AreServedBy local _ events = Unit {0}
-
--- What a node tells of a bank
-
--- the piece of a tag that a bank remembers is the one that it had, or none
-left_piece : (whole : Bank) (asks : Bool) →
-    (piece_if asks (remembered whole) ≡ None) ⊎ (piece_if asks (remembered whole) ≡ piece_of whole (greatest_final whole))
-left_piece whole false = inl refl
-left_piece whole true =
-    let tag = greatest_final whole in
-    let same = ap (piece_of (remembered whole)) (greatest-remembered whole) ∙ piece_of-remembered whole tag in
-    go (is_forgotten whole tag) same
-  where
-    go : (forgotten : Bool) → piece_if true (remembered whole) ≡ cond forgotten None (piece_of whole (greatest_final whole)) →
-        (piece_if true (remembered whole) ≡ None) ⊎ (piece_if true (remembered whole) ≡ piece_of whole (greatest_final whole))
-    go true e = inl e
-    go false e = inr e
-
--- what is told of a bank that is kept says no more than what the whole bank tells
-kept_tells : (whole : Bank) (bank : KeptBank) (asks : Bool) (telling : Telling) → IsKeptOf whole bank →
-    told_by bank asks ≡ Some telling → SaysNoMore telling (telling_of whole)
-kept_tells whole (kept.Closed closed) asks telling is told = absurd (cc)
-kept_tells whole (kept.Open bank) asks telling is told =
-    subst (λ t. SaysNoMore t (telling_of whole)) (same_Some (telling_if asks bank) telling told)
-    (subst (λ (b : Bank). SaysNoMore (telling_if asks b) (telling_of whole)) is
-    (record { status = refl; greatest = greatest-remembered whole; piece = left_piece whole asks }))
-
--- A node serves a letter
-
-module _ (fragment : Code) (run : Run) (local : LocalObject) (letter : Letter) (formed : IsWellFormed fragment (world_of fragment run))
-    (part : IsPartOf (world_of fragment run) local) (may : MayHappenHere fragment local (LocalEvent.Serve letter))
-    (was : WasSentAs (world_of fragment run) letter) where
-  abbrev next : LocalObject
-  next = learnt_from local letter
-
-  abbrev asked : Request
-  asked = may.0.0
-
-  abbrev position : ℕ
-  position = letter.message.position
-
-  abbrev member : ℕ
-  member = letter.message.member
-
-  abbrev after : LocalObject
-  after = (handled_here next letter asked).local
-
-  -- what the node keeps then is its part of the world after these events
-  abbrev IsPartAfter : List Event → LocalObject → Type 0
-  IsPartAfter events then = IsPartOf (world_after fragment events (world_of fragment run)) then
-
-  part_after : (reply : Reply) → kept_reply (bank_here next position member) asked ≡ Some reply →
-      IsPartAfter (Event.Serve letter.message ∷ []) after
-  part_after reply answers =
-      let served = serve_refined letter fragment (world_of fragment run) local formed part may was in
-      subst (λ o. IsPartAfter (if_replied o (Event.Serve letter.message)) after)
-      (ap (λ bank. kept_reply bank asked) (sym (bank_here_heard local letter position member)) ∙ answers)
-      (subst (λ b. IsPartAfter (served_events local letter b) (served_here next letter b).local) may.0.1 served.0.part)
-
-  -- so it keeps its bank as the world has it then
-  kept_then : (reply : Reply) → kept_reply (bank_here next position member) asked ≡ Some reply →
-      IsKeptOf (member_bank (happens fragment (world_of fragment run) (Event.Serve letter.message)) position member)
-      (bank_here after position member)
-  kept_then reply answers =
-      let is = part_after reply answers in
-      let bank = kept_bank (bank_in (heard_place next.places position)) member next.delta asked in
-      is.banks position member may.1.0 (is.layouts position may.1.0 (layout_with next position bank position ∙ may.1.1)) may.1.2
-
-  abbrev Tell : List Event → List Letter → Type 0
-  Tell more letters = AllByRecursion (TellsTruth fragment (longer run more)) letters
-
-  replies_tell : (o : Option Reply) → kept_reply (bank_here next position member) asked ≡ o →
-      Tell (if_replied o (Event.Serve letter.message))
-      (reply_letters next letter (told_by (bank_here after position member) letter.asks_piece) o)
-  replies_tell None e = tt
-  replies_tell (Some reply) e = (
-    λ telling told. (
-      record {
-        request = letter.message;
-        whole = telling_of
-            (member_bank (happens fragment (world_of fragment run) (Event.Serve letter.message)) position member);
-        told = record { before = run.events; after = []; served = refl; tells = refl };
-        less = kept_tells (member_bank (happens fragment (world_of fragment run) (Event.Serve letter.message)) position member)
-            (bank_here after position member) letter.asks_piece telling (kept_then reply e) told;
-        same_call = refl;
-        same_phase = refl;
-        same_member = refl;
-      },
-      refl,
-    ),
-    tt,
-  )
-
-  served_tell : Tell (world_events local (LocalEvent.Serve letter)) (done_here fragment local (LocalEvent.Serve letter)).sent
-  served_tell =
-      subst (λ b. Tell (served_events local letter b) (served_here next letter b).sent) (sym may.0.1)
-      (subst (λ bank. Tell (if_replied (kept_reply bank asked) (Event.Serve letter.message)) (handled_here next letter asked).sent)
-      (bank_here_heard local letter position member) (replies_tell (kept_reply (bank_here next position member) asked) refl))
-
--- All other events
 
 -- letters of messages tell nothing
 none_told : (fragment : Code) (run : Run) (local : LocalObject) (asks : Bool) (layout : Layout) (messages : List Message) →
