@@ -26,7 +26,7 @@ use Rattle.told_replies.proofs.EarlyValueLemmas.{early_reads}
 use Rattle.refinement.specs.Laws.{SystemsKeepValues}
 use Rattle.refinement.specs.Parts.{WasSentAs}
 use Rattle.refinement.specs.Systems.{HasPartsOf, System, WasPosted}
-use Rattle.refinement.specs.SystemValues.{IsPieceIn, IsValueIn, IsWriteIn, KeepsValuesIn}
+use Rattle.refinement.specs.SystemValues.{IsPieceIn, IsValueIn, KeepsValuesIn}
 use Rattle.refinement.specs.ToldLetters.{TellsTruth}
 use Rattle.refinement.proofs.EarlyHistoryLemmas.{as_seen, entry_back, entry_seen, seen_id, seen_kind}
 use Rattle.refinement.proofs.EarlyRunLemmas.{is_reached}
