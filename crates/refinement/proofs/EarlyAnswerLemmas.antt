@@ -100,18 +100,15 @@ module _ (fragment : Code) (run : Run) (answers : List EarlyAnswer) (history : L
         carried fragment (world_of fragment waited) local id call (subst (IsWellFormed fragment) (sym there) two.between.formed) part_there
         may.1
 
+    reports : AllByRecursion (IsTrueReport fragment waited) local.reports
+    reports =
+        all_weaker (IsTrueReport fragment run) (IsTrueReport fragment waited) (report_later fragment run (two.wait ∷ [])) local.reports
+        are
+
     ends : EndsHeldHere fragment local call returned ⊎ EndsAtOnceHere fragment local call returned →
         EndsHeld fragment waited call returned ⊎ EndsAtOnce fragment waited call returned
-    ends = λ here. go here
-      where
-        reports : AllByRecursion (IsTrueReport fragment waited) local.reports
-        reports =
-            all_weaker (IsTrueReport fragment run) (IsTrueReport fragment waited) (report_later fragment run (two.wait ∷ [])) local.reports are
-
-        go : EndsHeldHere fragment local call returned ⊎ EndsAtOnceHere fragment local call returned →
-            EndsHeld fragment waited call returned ⊎ EndsAtOnce fragment waited call returned
-        go (inl here) = inl (held_there fragment waited local call returned part_there is_carried.node reports apart here)
-        go (inr here) = inr (at_once_there fragment waited local call returned part_there is_carried.node reports apart here)
+    ends (inl here) = inl (held_there fragment waited local call returned part_there is_carried.node reports apart here)
+    ends (inr here) = inr (at_once_there fragment waited local call returned part_there is_carried.node reports apart here)
 
     none : early_answer_to answers call.id ≡ None
     none = no_answer id call may.1

@@ -20,6 +20,7 @@ use Rattle.refinement.specs.Starting.{HasEvents, event_count}
 use Rattle.refinement.specs.Systems.{AreEarlyAnswers}
 use Rattle.refinement.specs.ToldLetters.{AreApart, IsTrueReport}
 use Rattle.refinement.specs.WellFormed.{IsWellFormed}
+use Rattle.refinement.proofs.EarlyAnswerLemmas.{HasActed, answers_later, ended_early, no_answer}
 use Rattle.refinement.proofs.EarlyHistoryLemmas.{seen_answered, seen_push}
 use Rattle.refinement.proofs.LocalEventLemmas.{each_refined}
 use Rattle.refinement.proofs.PlainEventLemmas.{each_plain}
@@ -46,7 +47,8 @@ module _ (fragment : Code) (run : Run) (answers : List EarlyAnswer) (history : L
     refined = led.refined;
     served = served;
     answers = answers;
-    early = answers_later fragment run led.events answers history (after event) is led.refined.may (ap (early_history answers) led.entries ∙ same);
+    early = answers_later fragment run led.events answers history (after event) is led.refined.may
+        (ap (early_history answers) led.entries ∙ same);
   }
 
   begins : (id : ℕ) (entry : Entry) → entry.call ≡ id → IsUnused world id →

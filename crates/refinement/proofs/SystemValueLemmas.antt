@@ -53,14 +53,17 @@ value_in : (answers : List EarlyAnswer) (world : World) (tag : Tag) (value : Lis
 value_in answers world tag value (inl opening) = inl opening
 value_in answers world tag value (inr written) =
     let w = written.1 in
-    let o = early_answer_to answers w.entry.call in inr (written.0, record {
-      place = w.place;
-      entry = as_seen answers w.entry;
-      at = entry_seen answers world.history w.place w.entry w.at;
-      same_id = seen_id o w.entry ∙ w.same_id;
-      kind = seen_kind o w.entry ∙ w.kind;
-      writes = write_seen o w.entry w.kind ∙ w.writes;
-    })
+    let o = early_answer_to answers w.entry.call in inr (
+      written.0,
+      record {
+        place = w.place;
+        entry = as_seen answers w.entry;
+        at = entry_seen answers world.history w.place w.entry w.at;
+        same_id = seen_id o w.entry ∙ w.same_id;
+        kind = seen_kind o w.entry ∙ w.kind;
+        writes = write_seen o w.entry w.kind ∙ w.writes;
+      },
+    )
 
 value_of : (answers : List EarlyAnswer) (world : World) (tag : Tag) (value : List ℕ) →
     IsValueIn (early_history answers world.history) tag value → IsValueOf world tag value
@@ -69,14 +72,17 @@ value_of answers world tag value (inr written) =
     let w = written.1 in
     let back = entry_back answers world.history w.place w.entry w.at in
     let o = early_answer_to answers back.0.call in
-    let kind = sym (seen_kind o back.0) ∙ ap (λ (e : Entry). e.kind) back.2 ∙ w.kind in inr (written.0, record {
-      place = w.place;
-      entry = back.0;
-      at = back.1;
-      same_id = sym (seen_id o back.0) ∙ ap (λ (e : Entry). e.call) back.2 ∙ w.same_id;
-      kind = kind;
-      writes = sym (write_seen o back.0 kind) ∙ ap (λ (e : Entry). e.value) back.2 ∙ w.writes;
-    })
+    let kind = sym (seen_kind o back.0) ∙ ap (λ (e : Entry). e.kind) back.2 ∙ w.kind in inr (
+      written.0,
+      record {
+        place = w.place;
+        entry = back.0;
+        at = back.1;
+        same_id = sym (seen_id o back.0) ∙ ap (λ (e : Entry). e.call) back.2 ∙ w.same_id;
+        kind = kind;
+        writes = sym (write_seen o back.0 kind) ∙ ap (λ (e : Entry). e.value) back.2 ∙ w.writes;
+      },
+    )
 
 -- the answer that is found is one of these, and has the id
 answer_found : (P : EarlyAnswer → Type 0) (answers : List EarlyAnswer) (id : ℕ) (answer : EarlyAnswer) → AllByRecursion P answers →
@@ -105,7 +111,8 @@ module _ (fragment : Code) (code : IsCode fragment) (system : System) (has : Has
   keeps = values_kept fragment world code (is_reached fragment has.run has.reached)
 
   there : (tag : Tag) (value : List ℕ) → IsValueOf world tag value → IsValueIn system.history tag value
-  there tag value of_world = subst (λ history. IsValueIn history tag value) has.is.early.same (value_in has.answers world tag value of_world)
+  there tag value of_world =
+      subst (λ history. IsValueIn history tag value) has.is.early.same (value_in has.answers world tag value of_world)
 
   back : (tag : Tag) (value : List ℕ) → IsValueIn system.history tag value → IsValueOf world tag value
   back tag value inside =
