@@ -26,7 +26,7 @@ use Rattle.told_replies.proofs.EarlyValueLemmas.{early_reads}
 use Rattle.refinement.specs.Laws.{SystemsKeepValues}
 use Rattle.refinement.specs.Parts.{WasSentAs}
 use Rattle.refinement.specs.Systems.{HasPartsOf, System, WasPosted}
-use Rattle.refinement.specs.SystemValues.{IsPieceIn, IsValueIn, IsWriteIn, KeepsValuesIn}
+use Rattle.refinement.specs.SystemValues.{IsPieceIn, IsValueIn, KeepsValuesIn}
 use Rattle.refinement.specs.ToldLetters.{TellsTruth}
 use Rattle.refinement.proofs.EarlyHistoryLemmas.{as_seen, entry_back, entry_seen, seen_id, seen_kind}
 use Rattle.refinement.proofs.EarlyRunLemmas.{is_reached}
@@ -79,16 +79,18 @@ value_of answers world tag value (inr written) =
     })
 
 -- the answer that is found is one of these, and has the id
-answer_found : {P : EarlyAnswer → Type 0} (answers : List EarlyAnswer) (id : ℕ) (answer : EarlyAnswer) → AllByRecursion P answers →
+answer_found : (P : EarlyAnswer → Type 0) (answers : List EarlyAnswer) (id : ℕ) (answer : EarlyAnswer) → AllByRecursion P answers →
     early_answer_to answers id ≡ Some answer → P answer × (answer.id ≡ id)
-answer_found [] id answer all e = absurd (cc)
-answer_found {P = P} (first ∷ answers) id answer all e = go (eqb first.id id) refl e
+answer_found P [] id answer all e = absurd (cc)
+answer_found P (first ∷ answers) id answer all e =
+    go (eqb first.id id) refl e (λ rest. answer_found P answers id answer all.1 rest)
   where
-    go : (b : Bool) → eqb first.id id ≡ b → cond b (Some first) (early_answer_to answers id) ≡ Some answer → P answer × (answer.id ≡ id)
-    go true t is =
+    go : (b : Bool) → eqb first.id id ≡ b → cond b (Some first) (early_answer_to answers id) ≡ Some answer →
+        (early_answer_to answers id ≡ Some answer → P answer × (answer.id ≡ id)) → P answer × (answer.id ≡ id)
+    go true t is rest =
         let same = same_Some first answer is in
         (subst P same all.0, ap (λ (a : EarlyAnswer). a.id) (sym same) ∙ eqb-true first.id id t)
-    go false t is = answer_found answers id answer all.1 is
+    go false t is rest = rest is
 
 -- All nodes
 
@@ -155,7 +157,7 @@ module _ (fragment : Code) (code : IsCode fragment) (system : System) (has : Has
   read_there place entry at None found kind answered =
       let read = keeps.reads place entry at kind answered in (read.0, read.1, read.2, there read.0 read.1 read.3)
   read_there place entry at (Some answer) found kind answered =
-      let is_one = answer_found {P = IsEarly fragment has.run} has.answers entry.call answer has.is.early.early found in
+      let is_one = answer_found (IsEarly fragment has.run) has.answers entry.call answer has.is.early.early found in
       let read = early_reads fragment world code (is_reached fragment has.run has.reached) answer is_one.0
       (reads_early fragment code has.run has.reached answer is_one.0 place entry at is_one.1 kind) in (
         read.0,
