@@ -14,7 +14,7 @@ use Rattle.local_object.specs.Ended.{early_value_of}
 use Rattle.told_replies.specs.EarlyAnswers.{EarlyAnswer, as_answered, early_answer_to, early_history, early_value}
 use Rattle.refinement.specs.Refined.{early_entry}
 use Rattle.refinement.specs.WellFormed.{HasEntry}
-use Rattle.refinement.proofs.WorldIdLemmas.{HasNot, from_ids, ids_of, same_ids, to_ids}
+use Rattle.refinement.proofs.WorldIdLemmas.{HasNot, from_ids, same_ids, to_ids}
 
 -- Entries
 

@@ -1,5 +1,5 @@
 -- What was told and answered in a run lasts as the run goes on.
-use Rattle.std.proofs.Common.{◌≡◌, ℕ, List, ◌∷◌, ◌++◌, append_assoc, refl, sym, ap, ◌∙◌}
+use Rattle.std.proofs.Common.{◌≡◌, ℕ, List, ◌∷◌, ◌++◌, append_assoc, refl, ap, ◌∙◌}
 use Rattle.mail.specs.declared.message.Message.{Message}
 use Rattle.record.specs.Fragments.{Code}
 use Rattle.letter.specs.declared.letter.Letter.{Letter}

@@ -9,6 +9,7 @@ pub mod ChangedCallLemmas
 pub mod ClosedPlaceLemmas
 pub mod ClusterLemmas
 pub mod DeedLemmas
+pub mod EarlyAnswerLemmas
 pub mod EarlyEventLemmas
 pub mod EarlyHistoryLemmas
 pub mod EarlyRunLemmas

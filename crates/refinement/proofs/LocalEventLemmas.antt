@@ -15,8 +15,8 @@ use Rattle.refinement.proofs.StartedCallLemmas.{read_has_events, write_has_event
 
 exactly : (event : LocalEvent) → is_known_by_count event ≡ false →
     ((local : LocalObject) → length (world_events local event) ≡ event_count local event) →
-    ((local : LocalObject) (now : ℕ) (history : List Entry) → history_after local event now history ≡ world_history local event now history) →
-    IsEventOfWorld event
+    ((local : LocalObject) (now : ℕ) (history : List Entry) →
+    history_after local event now history ≡ world_history local event now history) → IsEventOfWorld event
 exactly event plain counted same fragment world local formed part may premised =
     let done = each_plain event plain fragment world local formed part may premised in record {
       events = world_events local event;

@@ -1,6 +1,6 @@
 -- The history is one of what clients saw, while calls are answered.
 use Rattle.std.proofs.Common.{◌≡◌, ◌<◌, ◌≤◌, ◌⊎◌, inl, inr, ℕ, Bool, true, false, eqb, eqb-true}
-use Rattle.std.proofs.Common.{List, [], ◌∷◌, ◌++◌, length, map, Option, None, Some, is_some, option_map, slice_get}
+use Rattle.std.proofs.Common.{List, [], ◌∷◌, ◌++◌, length, map, Option, Some, is_some, option_map, slice_get}
 use Rattle.std.proofs.Common.{refl, sym, subst, ap, ◌∙◌, arith}
 use Rattle.std.proofs.lemmas.Option.{same_Some, slice_get-map, slice_get_within}
 use Rattle.record.specs.declared.call.Entry.{Entry}
@@ -149,9 +149,9 @@ module _ (name : List ℕ) (notices : List Notice) (history : List Entry) (call 
             get_first notices (notice ∷ []) (old.begins index) there.0 there.1,
             subst (IsBegunAs name there.0) was.2 (begun_there index was.0 was.1 there.0 there.2),
           );
-      last = λ index time entry other seen at there by same. let was = get_mapped answer history index entry at in
-          last_there index time was.0 other seen was.1 by
-          (same ∙ ap (λ (e : Entry). e.call) (sym was.2) ∙ same_call ended time was.0) (get_pushed notices notice time seen there);
+      last = λ index times entry other seen at there by same. let was = get_mapped answer history index entry at in
+          last_there index times was.0 other seen was.1 by
+          (same ∙ ap (λ (e : Entry). e.call) (sym was.2) ∙ same_call ended time was.0) (get_pushed notices notice times seen there);
       distinct = λ one other first second a b same.
           let was = get_mapped answer history one first a in
           let then = get_mapped answer history other second b in

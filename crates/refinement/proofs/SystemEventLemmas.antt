@@ -21,7 +21,8 @@ use Rattle.refinement.specs.Systems.{AreEarlyAnswers, HasPartsOf, IsPremisedIn, 
 use Rattle.refinement.specs.Systems.{system_after, with_object_at}
 use Rattle.refinement.specs.ToldLetters.{AreApart, IsTrueReport, TellsTruth}
 use Rattle.refinement.specs.WellFormed.{IsWellFormed}
-use Rattle.refinement.proofs.EarlyEventLemmas.{HasActed, acted_here, answers_later}
+use Rattle.refinement.proofs.EarlyAnswerLemmas.{HasActed, answers_later}
+use Rattle.refinement.proofs.EarlyEventLemmas.{acted_here}
 use Rattle.refinement.proofs.EarlyRunLemmas.{letter_later, longer, reached_longer, report_later, world_longer}
 use Rattle.refinement.proofs.KeptNodeLemmas.{node_kept}
 use Rattle.refinement.proofs.ReportLemmas.{apart_done, true_done}

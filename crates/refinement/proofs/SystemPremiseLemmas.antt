@@ -63,7 +63,8 @@ module _ (fragment : Code) (system : System) (has : HasRun fragment system) wher
       let call = may.0 in
       let spread = may.2 in
       subst (λ n. IsStart world (suc n)) spread.at
-      (starts_are_grown fragment world (system.objects node) id call (is_reached fragment has.run has.reached) has.formed (is.parts node) may.1 spread.kind spread.complete
+      (starts_are_grown fragment world (system.objects node) id call (is_reached fragment has.run has.reached) has.formed
+      (is.parts node) may.1 spread.kind spread.complete
       (subst (IsStart world) (sym spread.at) (is.parts node).start))
 
   -- at a position before its start, a node was asked to raise the pointer

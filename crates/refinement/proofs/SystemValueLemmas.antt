@@ -26,7 +26,7 @@ use Rattle.told_replies.proofs.EarlyValueLemmas.{early_reads}
 use Rattle.refinement.specs.Laws.{SystemsKeepValues}
 use Rattle.refinement.specs.Parts.{WasSentAs}
 use Rattle.refinement.specs.Systems.{HasPartsOf, System, WasPosted}
-use Rattle.refinement.specs.SystemValues.{IsPieceIn, IsValueIn, IsWriteIn, KeepsValuesIn}
+use Rattle.refinement.specs.SystemValues.{IsPieceIn, IsValueIn, KeepsValuesIn}
 use Rattle.refinement.specs.ToldLetters.{TellsTruth}
 use Rattle.refinement.proofs.EarlyHistoryLemmas.{as_seen, entry_back, entry_seen, seen_id, seen_kind}
 use Rattle.refinement.proofs.EarlyRunLemmas.{is_reached}
@@ -53,14 +53,17 @@ value_in : (answers : List EarlyAnswer) (world : World) (tag : Tag) (value : Lis
 value_in answers world tag value (inl opening) = inl opening
 value_in answers world tag value (inr written) =
     let w = written.1 in
-    let o = early_answer_to answers w.entry.call in inr (written.0, record {
-      place = w.place;
-      entry = as_seen answers w.entry;
-      at = entry_seen answers world.history w.place w.entry w.at;
-      same_id = seen_id o w.entry ∙ w.same_id;
-      kind = seen_kind o w.entry ∙ w.kind;
-      writes = write_seen o w.entry w.kind ∙ w.writes;
-    })
+    let o = early_answer_to answers w.entry.call in inr (
+      written.0,
+      record {
+        place = w.place;
+        entry = as_seen answers w.entry;
+        at = entry_seen answers world.history w.place w.entry w.at;
+        same_id = seen_id o w.entry ∙ w.same_id;
+        kind = seen_kind o w.entry ∙ w.kind;
+        writes = write_seen o w.entry w.kind ∙ w.writes;
+      },
+    )
 
 value_of : (answers : List EarlyAnswer) (world : World) (tag : Tag) (value : List ℕ) →
     IsValueIn (early_history answers world.history) tag value → IsValueOf world tag value
@@ -69,26 +72,31 @@ value_of answers world tag value (inr written) =
     let w = written.1 in
     let back = entry_back answers world.history w.place w.entry w.at in
     let o = early_answer_to answers back.0.call in
-    let kind = sym (seen_kind o back.0) ∙ ap (λ (e : Entry). e.kind) back.2 ∙ w.kind in inr (written.0, record {
-      place = w.place;
-      entry = back.0;
-      at = back.1;
-      same_id = sym (seen_id o back.0) ∙ ap (λ (e : Entry). e.call) back.2 ∙ w.same_id;
-      kind = kind;
-      writes = sym (write_seen o back.0 kind) ∙ ap (λ (e : Entry). e.value) back.2 ∙ w.writes;
-    })
+    let kind = sym (seen_kind o back.0) ∙ ap (λ (e : Entry). e.kind) back.2 ∙ w.kind in inr (
+      written.0,
+      record {
+        place = w.place;
+        entry = back.0;
+        at = back.1;
+        same_id = sym (seen_id o back.0) ∙ ap (λ (e : Entry). e.call) back.2 ∙ w.same_id;
+        kind = kind;
+        writes = sym (write_seen o back.0 kind) ∙ ap (λ (e : Entry). e.value) back.2 ∙ w.writes;
+      },
+    )
 
 -- the answer that is found is one of these, and has the id
-answer_found : {P : EarlyAnswer → Type 0} (answers : List EarlyAnswer) (id : ℕ) (answer : EarlyAnswer) → AllByRecursion P answers →
+answer_found : (P : EarlyAnswer → Type 0) (answers : List EarlyAnswer) (id : ℕ) (answer : EarlyAnswer) → AllByRecursion P answers →
     early_answer_to answers id ≡ Some answer → P answer × (answer.id ≡ id)
-answer_found [] id answer all e = absurd (cc)
-answer_found {P = P} (first ∷ answers) id answer all e = go (eqb first.id id) refl e
+answer_found P [] id answer all e = absurd (cc)
+answer_found P (first ∷ answers) id answer all e =
+    go (eqb first.id id) refl e (λ rest. answer_found P answers id answer all.1 rest)
   where
-    go : (b : Bool) → eqb first.id id ≡ b → cond b (Some first) (early_answer_to answers id) ≡ Some answer → P answer × (answer.id ≡ id)
-    go true t is =
+    go : (b : Bool) → eqb first.id id ≡ b → cond b (Some first) (early_answer_to answers id) ≡ Some answer →
+        (early_answer_to answers id ≡ Some answer → P answer × (answer.id ≡ id)) → P answer × (answer.id ≡ id)
+    go true t is rest =
         let same = same_Some first answer is in
         (subst P same all.0, ap (λ (a : EarlyAnswer). a.id) (sym same) ∙ eqb-true first.id id t)
-    go false t is = answer_found answers id answer all.1 is
+    go false t is rest = rest is
 
 -- All nodes
 
@@ -103,7 +111,8 @@ module _ (fragment : Code) (code : IsCode fragment) (system : System) (has : Has
   keeps = values_kept fragment world code (is_reached fragment has.run has.reached)
 
   there : (tag : Tag) (value : List ℕ) → IsValueOf world tag value → IsValueIn system.history tag value
-  there tag value of_world = subst (λ history. IsValueIn history tag value) has.is.early.same (value_in has.answers world tag value of_world)
+  there tag value of_world =
+      subst (λ history. IsValueIn history tag value) has.is.early.same (value_in has.answers world tag value of_world)
 
   back : (tag : Tag) (value : List ℕ) → IsValueIn system.history tag value → IsValueOf world tag value
   back tag value inside =
@@ -155,7 +164,7 @@ module _ (fragment : Code) (code : IsCode fragment) (system : System) (has : Has
   read_there place entry at None found kind answered =
       let read = keeps.reads place entry at kind answered in (read.0, read.1, read.2, there read.0 read.1 read.3)
   read_there place entry at (Some answer) found kind answered =
-      let is_one = answer_found {P = IsEarly fragment has.run} has.answers entry.call answer has.is.early.early found in
+      let is_one = answer_found (IsEarly fragment has.run) has.answers entry.call answer has.is.early.early found in
       let read = early_reads fragment world code (is_reached fragment has.run has.reached) answer is_one.0
       (reads_early fragment code has.run has.reached answer is_one.0 place entry at is_one.1 kind) in (
         read.0,

@@ -2,7 +2,6 @@
 use Rattle.std.proofs.Common.{◌≡◌, ◌⊎◌, ℕ, List, [], ◌∷◌, ◌++◌, Some, inl, inr, append_assoc, get_or, slice_get}
 use Rattle.std.proofs.Common.{refl, sym, subst, ap, ◌∙◌}
 use Rattle.std.proofs.lemmas.Option.{same_Some}
-use Rattle.tag.specs.declared.tag.Tag.{Tag}
 use Rattle.layout.specs.Layout.{Layout}
 use Rattle.piece.specs.declared.piece.Piece.{Piece}
 use Rattle.mail.specs.declared.message.Message.{Message}
@@ -69,7 +68,7 @@ module _ (fragment : Code) (code : IsCode fragment) (run : Run) (reached : IsRea
 
   -- an early answer to a call whose entry is a read
   module _ (answer : EarlyAnswer) (early : IsEarly fragment run answer) where
-    told : Told
+    abbrev told : Told
     told = told_answer fragment run.files run.events reached.may traced answer early
 
     may_be_told : (may : IsTold fragment traced.last told) × (may.call.id ≡ answer.id) × (may.call.kind ≡ early.call.kind)

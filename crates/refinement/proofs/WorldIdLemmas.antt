@@ -16,7 +16,7 @@ use Rattle.soundness.proofs.ListLemmas.{all_push}
 use Rattle.open_calls.specs.OpenCalls.{NodeCall, due_phase, open_call, taking_open, with_open}
 use Rattle.open_calls.proofs.ListLemmas.{all_append}
 use Rattle.open_calls.proofs.OpenCallLemmas.{all_filter, all_with, found}
-use Rattle.network.specs.Worlds.{World, after_restart}
+use Rattle.network.specs.Worlds.{World}
 use Rattle.network.specs.Events.{Event, advanced_world, answered_entry, answered_world, happens, on_open, served_world, world_after}
 use Rattle.network.specs.Premises.{IsPremised, IsUnused, MayHappenInTurn}
 

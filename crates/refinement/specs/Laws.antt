@@ -101,8 +101,8 @@ AnswersAreInHistory = (fragment : Code) (system : System) (node id : ℕ) (call 
 abbrev pub EarlyAnswersAreInHistory : Type 0
 EarlyAnswersAreInHistory = (fragment : Code) (system : System) (node id : ℕ) (call : NodeCall)
     (value : Option (List ℕ)) → IsReachedSystem fragment system → open_call (system.objects node).calls id ≡ Some call →
-    HasEarlyAnswer (system_after fragment system (SystemEvent.Acts node (LocalEvent.EndEarly id value))).history call value
-    (suc system.now)
+    HasEarlyAnswer (system_after fragment system (SystemEvent.Acts node (LocalEvent.EndEarly id value))).history call
+    value (suc system.now)
 
 -- several things that a node does in a row are events of all nodes
 abbrev pub EventsInARowAreEvents : Type 0

@@ -44,8 +44,8 @@ abbrev pub kept_piece : KeptBank → Tag → Option Piece
 kept_piece (kept.Open bank) tag = piece_of bank tag
 kept_piece (kept.Closed closed) tag = None
 
--- a tag has one value; each piece in a bank that a node keeps, and each piece in a letter ever sent or told by one, is its
--- member's fragment of its tag's value; and each answered read of the history returned the value of a tag
+-- a tag has one value; each piece in a bank that a node keeps, and each piece in a letter ever sent or told by one, is
+-- its member's fragment of its tag's value; and each answered read of the history returned the value of a tag
 pub record KeepsValuesIn (fragment : Code) (system : System) : Type 0 where
   pub unique : (tag : Tag) (v w : List ℕ) → IsValueIn system.history tag v → IsValueIn system.history tag w → v ≡ w
   pub banks : (node position member : ℕ) (layout : Layout) (tag : Tag) (piece : Piece) →
