@@ -107,10 +107,9 @@ def start_in(it):
 
 
 def said(it):
-    """What a reply says, in words."""
-    answer = {b"next": f"{it.status.decode()} {list(it.next)}", b"query": f"the greatest tag is {it.tag}",
-              b"fetch": said_of_piece(it.piece)}.get(it.kind, f"done, for the tag {it.tag}")
-    return f"{answer}; {told(it.told)}"
+    """What a reply answers, in words."""
+    return {b"next": f"{it.status.decode()} {list(it.next)}", b"query": f"the greatest tag is {it.tag}",
+            b"fetch": said_of_piece(it.piece)}.get(it.kind, f"done, for the tag {it.tag}")
 
 
 def said_of_piece(piece):
@@ -120,5 +119,5 @@ def said_of_piece(piece):
 def told(telling):
     """What a reply tells besides, in words."""
     if telling is None:
-        return "nothing is told"
-    return f"told {telling.status.decode()}, the greatest tag {telling.greatest}, {said_of_piece(telling.piece)}"
+        return "nothing"
+    return f"{telling.status.decode()}, the greatest tag {telling.greatest}, {said_of_piece(telling.piece)}"
