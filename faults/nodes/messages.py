@@ -1,25 +1,31 @@
 """Messages between nodes, for tests: their strings, today and in forms before.
 
-Today a message is a head, the object's name, and the bytes of a piece if it has one. The head is the form, 4; the call,
-the phase, the position and the member (8, 4, 4 and 1 bytes); 0 for a request or 1 for a reply; the kind; the status; a
-tag (8 and 8 bytes); the step of a reply (8 bytes); whether there is a piece, its point, and the length of its value (1,
-1 and 4 bytes); the digest of the cluster file; the layouts, each as the number of its members, k and the members; and
-the start that the message tells, if it tells one: its position (4 bytes) and its layout. Numbers have their high byte
-first. What a message does not have is zero. In form 3, the form before, no message tells a start."""
+Today a message is a head, the object's name, the bytes of a piece if it has one, and those of the piece that it tells
+if it tells one. The head is the form, 5; the call, the phase, the position and the member (8, 4, 4 and 1 bytes); 0 for a
+request or 1 for a reply; the kind; the status; a tag (8 and 8 bytes); the step of a reply (8 bytes); whether there is a
+piece, its point, and the length of its value (1, 1 and 4 bytes); 1 if a request asks for the piece of the greatest tag, 2
+if a reply tells of its member, and 3 if it tells a piece, too; the status, the greatest tag (8 and 8 bytes), the point
+and the length (4 bytes) of what it tells; the digest of the cluster file; the layouts, each as the number of its
+members, k and the members; and the start that the message tells, if it tells one: its position (4 bytes) and its layout.
+Numbers have their high byte first. What a message does not have is zero. In form 4, no message asks for a piece or tells
+of its member, and the 23 bytes for this are missing; in form 3, no message tells a start, either."""
 from dataclasses import dataclass
 
-FORM, FORM_BEFORE = 4, 3
+FORM, FORMS_BEFORE = 5, (4, 3)
 KINDS = [b"next", b"spread", b"query", b"pre-write", b"finalize", b"fetch"]
 STATUSES = [b"unset", b"pending", b"final"]
 WIDTHS = {"form": 1, "call": 8, "phase": 4, "position": 4, "member": 1, "is_reply": 1, "kind": 1, "status": 1, "number": 8,
-          "tag_call": 8, "step": 8, "is_piece": 1, "point": 1, "len": 4}
+          "tag_call": 8, "step": 8, "is_piece": 1, "point": 1, "len": 4, "mark": 1, "told_status": 1, "greatest": 8,
+          "greatest_call": 8, "told_point": 1, "told_len": 4}
+NUMBERS_BEFORE = 51  # the length of the numbers in forms before
+ASKS, TELLS, TELLS_PIECE = 1, 2, 3
 DIGEST = 16
 
 
 @dataclass
 class Message:
     """What a message says. Layouts are k and the members, as bytes; a tag is two numbers; a start is its position and its
-    layout."""
+    layout; what is told is a status, a tag, and a piece or None."""
     digest: bytes
     name: bytes
     kind: bytes
@@ -35,20 +41,33 @@ class Message:
     member: int = 0
     next: bytes = b""
     start: tuple = None
+    asks_piece: bool = False
+    told: tuple = None
 
     def names_next(self):
         """Whether the message says that the pointer is pending or final, so that it has the next layout."""
         return self.status != b"unset" and self.kind == (b"next" if self.is_reply else b"spread")
 
+    def said_besides(self):
+        """What the head says of what is asked and told, and the bytes of the piece that is told."""
+        if self.told is None:
+            return [ASKS * self.asks_piece, 0, 0, 0, 0, 0], []
+        status, tag, piece = self.told
+        point, length, *last = piece or (0, 0)
+        return [TELLS if piece is None else TELLS_PIECE, STATUSES.index(status), *tag, point, length], last
+
     def strings(self, form=FORM):
         """The strings of the message: a piece is its point, the length of its value, and its bytes."""
         point, length, *last = self.piece or (0, 0)
+        besides, told = self.said_besides()
         said = (form, self.call, self.phase, self.position, self.member, self.is_reply, KINDS.index(self.kind),
-                STATUSES.index(self.status), *self.tag, self.step, self.piece is not None, point, length)
+                STATUSES.index(self.status), *self.tag, self.step, self.piece is not None, point, length, *besides)
         numbers = b"".join(it.to_bytes(width, "big") for it, width in zip(said, WIDTHS.values()))
+        if form in FORMS_BEFORE:
+            numbers, told = numbers[:NUMBERS_BEFORE], []
         layouts = b"".join(layout_bytes(it) for it in (self.layout, self.next) if it)
         start = self.start[0].to_bytes(4, "big") + layout_bytes(self.start[1]) if self.start else b""
-        return [numbers + self.digest + layouts + start, self.name, *last]
+        return [numbers + self.digest + layouts + start, self.name, *last, *told]
 
 
 def layout_bytes(layout):
@@ -71,21 +90,25 @@ def read(strings):
         said[word] = int.from_bytes(head[place:place + width], "big")
         place += width
     layout, rest = layout_in(head[place + DIGEST:])
+    last = iter(last)
     it = Message(head[place:place + DIGEST], name, KINDS[said["kind"]], layout, bool(said["is_reply"]),
                  STATUSES[said["status"]], (said["number"], said["tag_call"]), said["step"],
-                 (said["point"], said["len"], *last) if said["is_piece"] else None, said["call"], said["phase"],
-                 said["position"], said["member"])
+                 (said["point"], said["len"], next(last)) if said["is_piece"] else None, said["call"], said["phase"],
+                 said["position"], said["member"], asks_piece=said["mark"] == ASKS)
+    if said["mark"] in (TELLS, TELLS_PIECE):
+        piece = (said["told_point"], said["told_len"], next(last)) if said["mark"] == TELLS_PIECE else None
+        it.told = STATUSES[said["told_status"]], (said["greatest"], said["greatest_call"]), piece
     if it.names_next():
         it.next, rest = layout_in(rest)
     if rest:
         layout, behind = layout_in(rest[4:])
         it.start, rest = (int.from_bytes(rest[:4], "big"), layout), behind
-    assert said["form"] == FORM and not rest
+    assert said["form"] == FORM and not rest and next(last, None) is None
     return it
 
 
 def old_strings(it):
-    """The strings of a message in form 2, in which all numbers were strings of decimal digits, and no start was told."""
+    """The strings of a message in form 2, in which all numbers were strings of decimal digits, and nothing was told."""
     status = [it.status]
     tag = [b"%d" % number for number in it.tag]
     rest = {b"spread": status, b"pre-write": tag, b"finalize": tag, b"fetch": tag}.get(it.kind, [])
