@@ -39,11 +39,11 @@ telling_if (Some telling) fit = (fit.greatest, numbers telling.piece fit.piece)
     numbers (Some piece) fit = fit.numbers
 
 -- a piece that is told fits into a string
-told_short : (o : Option Telling) → IfSome o IsFitTelling → IfSome (told_piece o) (λ piece. length piece.bytes ≤ LONGEST_STRING)
+told_short : (o : Option Telling) → IfSome o IsFitTelling → IfSome (told_piece o) (λ (piece : Piece). length piece.bytes ≤ LONGEST_STRING)
 told_short None fit = tt
 told_short (Some telling) fit = short telling.piece fit.piece
   where
-    short : (o : Option Piece) → IfSome o IsFitPiece → IfSome o (λ piece. length piece.bytes ≤ LONGEST_STRING)
+    short : (o : Option Piece) → IfSome o IsFitPiece → IfSome o (λ (piece : Piece). length piece.bytes ≤ LONGEST_STRING)
     short None fit = tt
     short (Some piece) fit = fit.bytes
 

@@ -86,8 +86,7 @@ requests_lawful : (local : LocalObject) (asks : Bool) (layout : Layout) (call nu
     AllByRecursion HasLawfulLayouts (map (letter_of local asks layout) (requests call number kind position members member piece))
 requests_lawful local asks layout call number kind position [] member piece is lawful = tt
 requests_lawful local asks layout call number kind position (server ∷ servers) member piece is lawful =
-    let next = request_lawful (request_to kind (piece member)) (layout_here local (suc position)) (known_lawful local is (suc position)) in
-    (
+    let next = request_lawful (request_to kind (piece member)) (layout_here local (suc position)) (known_lawful local is (suc position)) in (
       (lawful, next, told_lawful local is),
       requests_lawful local asks layout call number kind position servers (suc member) piece is lawful,
     )
