@@ -77,7 +77,8 @@ with_set node (c ∷ cs) (suc i) old new distinct at same =
     (not_equal c.id new.id (λ e. other_at c.id cs i old distinct.0 at (sym same ∙ sym e)))
     ∙ ap (λ calls. at_node node c ∷ calls) (with_set node cs i old new distinct.1 at same)
 
-pub without_others : (node id : ℕ) (calls : List Machine) → HaveOtherIds id calls → without_call id (carried node calls) ≡ carried node calls
+pub without_others : (node id : ℕ) (calls : List Machine) → HaveOtherIds id calls →
+    without_call id (carried node calls) ≡ carried node calls
 without_others node id [] others = refl
 without_others node id (c ∷ cs) others =
     ap (λ b. cond (not b) (at_node node c ∷ without_call id (carried node cs)) (without_call id (carried node cs)))

@@ -117,8 +117,8 @@ module _ (places : List Place) (call : Machine) (value : List ℕ) (is : IsFetch
             (all_by _ pieces is.decoded.lawful.lens) (all_by _ pieces is.decoded.interpolated.fragments);
       }
 
-pub may_settle_here : (owner node : ℕ) (delta : Option ℕ) (start : ℕ) (reports : List Report) (places : List Place) (calls : List NodeCall) (call : Machine)
-    (value : List ℕ) → IsSettling call false → IsFetchedValue places call value
+pub may_settle_here : (owner node : ℕ) (delta : Option ℕ) (start : ℕ) (reports : List Report) (places : List Place) (calls : List NodeCall)
+    (call : Machine) (value : List ℕ) → IsSettling call false → IsFetchedValue places call value
     → IsFetchedHere fragment (record { node = owner; delta = delta; start = start; places = places; reports = reports; calls = calls })
     (at_node node call) value
 may_settle_here owner node delta start reports places calls call value settling is =

@@ -16,6 +16,7 @@ pub mod DoneLemmas
 pub mod NextLemmas
 pub mod FetchedLemmas
 pub mod OpenLemmas
+pub mod SettleLemmas
 pub mod TakeLemmas
 pub mod AdvanceLemmas
 pub mod UnchangedBankLemmas

@@ -2,7 +2,6 @@
 use Rattle.std.proofs.Common.{◌≡◌, ℕ, ◌⊎◌, Bool, true, false, cond, IsSome, List, [], ◌∷◌}
 use Rattle.std.proofs.Common.{set, slice_get, Option, Some, None, inl, inr, refl, sym, subst, ap, ◌∙◌}
 use Rattle.std.specs.List.{remove}
-use Rattle.std.proofs.lemmas.Option.{none-some, same_Some}
 use Rattle.bank.specs.declared.kind.Kind.{Kind}
 use Rattle.encoder.specs.Fragment.{fragment}
 use Rattle.layout.specs.Layout.{Layout}
@@ -22,9 +21,9 @@ use Rattle.local_object.specs.Distinct.{HaveOtherIds, HaveDistinctIds, IsCallAt}
 use Rattle.local_object.specs.Ended.{told_if, told_of}
 use Rattle.local_object.specs.Events.{LocalEvent, advanced_at, advanced_here, done_here, ended_here, taking_here}
 use Rattle.local_object.specs.Outcomes.{Outcome, on_open_call, silent}
-use Rattle.local_object.specs.Going.{IsAdvancedIf, IsAdvanced, IsFetchedValue, next_here, next_if, settled_here, taken_here}
-use Rattle.local_object.specs.Taking.{CanSettle, IsOutcomeWithAnswers, begin_anew_events, begin_events, call_events, can_begin}
-use Rattle.local_object.specs.Taking.{is_read_begin, lead_events, machine_of, step_events}
+use Rattle.local_object.specs.Going.{IsAdvancedIf, IsAdvanced, next_here, next_if, settled_here, taken_here}
+use Rattle.local_object.specs.Taking.{IsOutcomeWithAnswers, begin_anew_events, begin_events, call_events, can_begin}
+use Rattle.local_object.specs.Taking.{is_read_begin, lead_events, step_events}
 use Rattle.call.specs.declared.next.Next.{Next as Step}
 use Rattle.local_object.specs.Local.{LocalObject, Place, layout_in, heard_place}
 use Rattle.local_object.specs.May.{MayHappenHere}
@@ -34,9 +33,8 @@ use Rattle.local_object.specs.Sent.{missing_letters}
 use Rattle.local_object.proofs.BeginLemmas.{open_found}
 use Rattle.local_object.proofs.CarriedCallLemmas.{open_none, same_call, with_set, without_at}
 use Rattle.local_object.proofs.DoneLemmas.{by_none, by_one}
-use Rattle.local_object.proofs.FetchedLemmas.{may_settle_here}
 use Rattle.local_object.proofs.NextLemmas.{again_answer, again_begin, again_restart}
-use Rattle.local_object.proofs.NextLemmas.{answer_of, begin_of, due_begun, lacking_of, ready_of, restart_of, settle_of}
+use Rattle.local_object.proofs.NextLemmas.{answer_of, begin_of, due_begun, lacking_of, ready_of, restart_of}
 
 pub silent_sent : (local : LocalObject) (o : Option NodeCall) (f : NodeCall → LocalObject)
     → (on_open_call local o (λ call. silent (f call))).sent ≡ []
@@ -103,22 +101,6 @@ module _ (node : ℕ) (delta : Option ℕ) (start : ℕ) (reports : List Report)
           → lead_events again (object calls) id ≡ []
       lead_waits again (inl e) = lead_is again next.Wait e
       lead_waits again (inr e) = lead_is again next.Settle e
-
-      pub can_settle : (value : List ℕ) → next_here call ≡ next.Settle → IsFetchedValue places call value
-          → CanSettle (object calls) id value
-      can_settle value step fetched = record { call = at_node node call; carried = open_is; next = step; fetched = fetched }
-
-      call_is : (value : List ℕ) → (can : CanSettle (object calls) id value) → can.call ≡ at_node node call
-      call_is value can = same_Some can.call (at_node node call) (sym can.carried ∙ open_is)
-
-      pub cannot_settle : (next_here call ≡ next.Settle → ⊥) → (value : List ℕ) → CanSettle (object calls) id value → ⊥
-      cannot_settle other value can =
-          other (subst (λ (c : NodeCall). next_here (machine_of c) ≡ next.Settle) (call_is value can) can.next)
-
-      pub unfetched : ((value : List ℕ) → IsFetchedValue places call value → ⊥) → (value : List ℕ)
-          → CanSettle (object calls) id value → ⊥
-      unfetched none value can =
-          none value (subst (λ (c : NodeCall). IsFetchedValue places (machine_of c) value) (call_is value can) can.fetched)
 
       -- the letters that the call sends again
       again_is : letters_again fragment (object calls) id
@@ -236,10 +218,6 @@ module _ (node : ℕ) (delta : Option ℕ) (start : ℕ) (reports : List Report)
   pub lead_none : (again : Bool) (calls : List Machine) (id : ℕ) → HaveOtherIds id calls → lead_events again (object calls) id ≡ []
   lead_none again calls id others = ap (call_events again (object calls)) (open_none node calls id others)
 
-  pub none_to_settle : (calls : List Machine) (id : ℕ) → HaveOtherIds id calls → (value : List ℕ) → CanSettle (object calls) id value → ⊥
-  none_to_settle calls id others value can =
-      let e : None ≡ Some can.call = sym (open_none node calls id others) ∙ can.carried in none-some can.call e
-
   pub taken_none : (calls : List Machine) (message : Message) (told : Option Telling) → HaveOtherIds message.call calls
       → object calls ≡ (taken_here (object calls) message told).local
   taken_none calls message told others =
@@ -252,13 +230,3 @@ module _ (node : ℕ) (delta : Option ℕ) (start : ℕ) (reports : List Report)
       sym (ap (λ o. (on_open_call (object calls) o
       (λ call. silent (record (object calls) { calls = with_open (record call { settled = Some value }) (carried node calls) }))).local)
       (open_none node calls id others))
-
--- what may be settled
-pub settle_may : (local : LocalObject) (id : ℕ) (value : List ℕ) → CanSettle local id value
-    → MayHappenHere fragment local (LocalEvent.Settle id value)
-settle_may local id value can = (
-  can.call,
-  can.carried,
-  may_settle_here local.node can.call.node local.delta local.start local.reports local.places local.calls (machine_of can.call) value
-      (settle_of (machine_of can.call) can.next) can.fetched,
-)

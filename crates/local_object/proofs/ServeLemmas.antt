@@ -20,8 +20,8 @@ use Rattle.local_object.specs.Doing.{IsOutcome, has_member, is_askable, is_membe
 use Rattle.mail.specs.Message.{is_request}
 use Rattle.local_object.specs.Events.{LocalEvent, reply_letters, served_here}
 use Rattle.local_object.specs.Outcomes.{learnt_from, next_in_body}
-use Rattle.local_object.specs.Local.{LocalObject, Place, bank_here, bank_in, bank_or_opened, layout_here, layout_in, heard_place, start_at, told_start}
-use Rattle.local_object.specs.Local.{told_start_in, with_bank_here}
+use Rattle.local_object.specs.Local.{LocalObject, Place, bank_here, bank_in, bank_or_opened, layout_here, layout_in, heard_place}
+use Rattle.local_object.specs.Local.{start_at, told_start, told_start_in, with_bank_here}
 use Rattle.local_object.specs.May.{IsAddressed}
 use Rattle.local_object.proofs.HeardLayoutLemmas.{node_heard}
 use Rattle.local_object.proofs.LearntLemmas.{layout_learnt, layout_or}

@@ -29,7 +29,8 @@ opened_if member delta asks is bytes none =
     ap (λ bs. let piece : Piece = record { point = member; len = 0; bytes = bs } in Some piece) none
     ∙ sym (opened_piece member delta) ∙ sym (ap (λ b. piece_if b (opened_bank member delta 0)) is)
 
-pub opened_tells : (member : ℕ) (delta : Option ℕ) (asks : Bool) (piece : Option Piece) → piece ≡ piece_if asks (opened_bank member delta 0) →
+pub opened_tells : (member : ℕ) (delta : Option ℕ) (asks : Bool) (piece : Option Piece) →
+    piece ≡ piece_if asks (opened_bank member delta 0) →
     (let telling : Telling = record { status = Unset; greatest = opening_tag; piece = piece } in telling)
     ≡ telling_if asks (opened_bank member delta 0)
 opened_tells member delta asks piece is =

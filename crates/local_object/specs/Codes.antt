@@ -43,9 +43,17 @@ place_code layout bank =
 abbrev pub local_code : Coded Place → Coded Report → Coded NodeCall → Coded LocalObject
 local_code place report call =
     code_by (ℕ × (Option ℕ × (ℕ × (List Place × (List Report × List NodeCall)))))
-    (coded× coded_ℕ (coded× (coded_option coded_ℕ) (coded× coded_ℕ (coded× (coded_list place) (coded× (coded_list report) (coded_list call))))))
+    (coded× coded_ℕ (coded× (coded_option coded_ℕ) (coded× coded_ℕ (coded× (coded_list place)
+    (coded× (coded_list report) (coded_list call))))))
     (λ o. (o.node, (o.delta, (o.start, (o.places, (o.reports, o.calls))))))
-    (λ t. record { node = t.0; delta = t.1.0; start = t.1.1.0; places = t.1.1.1.0; reports = t.1.1.1.1.0; calls = t.1.1.1.1.1 }) (λ _. refl)
+    (λ t. record {
+      node = t.0;
+      delta = t.1.0;
+      start = t.1.1.0;
+      places = t.1.1.1.0;
+      reports = t.1.1.1.1.0;
+      calls = t.1.1.1.1.1;
+    }) (λ _. refl)
 
 -- a machine as a call of this node
 abbrev pub at_node : (node : ℕ) → Machine → NodeCall

@@ -61,8 +61,8 @@ is_held_by_quorum call layout reports tag =
     nat_le (quorum_of layout) (count_by (tells_no_greater tag call.id call.phase.number) reports)
     && exceeds_rest layout (count_by (tells_held tag call.id call.phase.number) reports)
 
--- whether a read may end at once: it asks for the pointers of the first position that counts, a quorum told its greatest
--- finalized tags, and more than n - k members that they hold the greatest of these
+-- whether a read may end at once: it asks for the pointers of the first position that counts, a quorum told their
+-- greatest finalized tags, and more than n - k members that they hold the greatest of these
 abbrev pub ends_at_once : Machine → Layout → List Report → Bool
 ends_at_once call layout reports =
     is_read call.kind && (is_first_counting call.stage

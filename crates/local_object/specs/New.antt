@@ -24,4 +24,5 @@ are_new_places first places = length places == 1 && is_new_if first (slice_get p
 abbrev pub is_new : LocalObject → (node : ℕ) → (delta : Option ℕ) → (first : Layout) → Bool
 is_new local node delta first =
     local.node == node && (option_eq nat_eq local.delta delta
-    && (local.start == 0 && (length local.calls == 0 && (length local.reports == 0 && are_new_places first local.places))))
+    && (local.start == 0 && (length local.calls == 0 && (length local.reports == 0
+    && are_new_places first local.places))))

@@ -15,8 +15,8 @@ use Rattle.local_object.specs.Taking.{machine_of}
 -- the letters of a call's current phase, at a position with this layout
 abbrev pub current_letters : Code → LocalObject → NodeCall → Layout → List Letter
 current_letters fragment local call layout =
-    phase_letters local (asks_piece call.kind call.stage) call.id call.phase.number call.phase.kind call.phase.position layout
-    (pieces_here fragment layout call)
+    phase_letters local (asks_piece call.kind call.stage) call.id call.phase.number call.phase.kind
+    call.phase.position layout (pieces_here fragment layout call)
 
 -- the letter may be sent again: it belongs to the current phase of a call that the node carries out, with the layout
 -- that the node has heard of for the phase's position

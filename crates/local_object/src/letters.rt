@@ -44,7 +44,9 @@ pub(crate) fn letters_of(
     layout: &SharedLayout,
     messages: Vec<Message>,
 ) -> Result<Vec<Letter>, Refusal>
-    ensures letters { IfOk result (λ ls. ls.items ≡ map (letter_in places.now start asks_piece layout.now) messages.items) }
+    ensures letters { IfOk result (λ ls.
+        ls.items ≡ map (letter_in places.now start asks_piece layout.now) messages.items) }
+
     ensures refused { IfErr result (λ e. e ≡ NoMemory) }
 {
     let mut letters = Vec::with_capacity(alloc, messages.len())?;

@@ -123,8 +123,8 @@ impl Places {
         last_of(&self.places)
     }
 
-    /// The node hears of a position and its layout. Nothing changes if it had heard of the position before. `NoMemory` is
-    /// the only refusal.
+    /// The node hears of a position and its layout. Nothing changes if it had heard of it before. `NoMemory` is the
+    /// only refusal.
     pub(crate) fn learn(&mut self, position: u32, layout: &SharedLayout) -> Result<(), Refusal>
         ensures places { OnOk result
             (self.new ≡ added_place self.old (heard_place self.old position) position layout.now) }

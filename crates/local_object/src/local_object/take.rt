@@ -19,10 +19,9 @@ use tag::Refusal;
 
 impl LocalObject {
     /// A call of the node takes a reply, and ends early if what members told its current phase is enough. Otherwise it
-    /// goes on as far as it can: it settles the value that it fetched, and begins
-    /// its next phase or is answered. If it has raised the pointer of the object's start to final at a quorum, the
-    /// start grows by one. Nothing changes if the letter is no reply to a call that is open here, or if there is no
-    /// number in 32 bits for the next position.
+    /// goes on as far as it can: it settles the value that it fetched, and begins its next phase or is answered. If it
+    /// has raised the pointer of the object's start to final at a quorum, the start grows by one. Nothing changes if
+    /// the letter is no reply to a call that is open here, or if there is no number in 32 bits for the next position.
     ///
     /// If its complete fetch lacks pieces, the call does not begin anew at once. It waits until its requests are sent
     /// again (`resend`), and begins anew when it takes a reply to this fetch from a member whose reply it had recorded.

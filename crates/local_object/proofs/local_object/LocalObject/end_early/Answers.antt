@@ -9,4 +9,5 @@ returns-in_ok-ended-in-Some-clause-done c =
     let id = c.args.id in
     let can = subst (λ o. MatchOption o ((r : Option (List ℕ)) → CanEndEarly old id r → ⊥) (CanEndEarly old id)) c.in-Some.is
     c.in_ok-returned.ensures.value in
-    ended_if old id c.in-Some.returned can c.end.new.self c.in_ok-ended-in-Some.ensures.local c.in_ok-ended-in-Some.ended c.in_ok-ended-in-Some.ensures.told
+    ended_if old id c.in-Some.returned can c.end.new.self c.in_ok-ended-in-Some.ensures.local c.in_ok-ended-in-Some.ended
+    c.in_ok-ended-in-Some.ensures.told

@@ -3,7 +3,7 @@ use Rattle.std.proofs.lemmas.Result.{IfOk-weaker}
 use Rattle.local_object.specs.Local.{LocalObject}
 use Rattle.local_object.specs.Taking.{CanSettle}
 use Rattle.local_object.proofs.FetchedLemmas.{match_weaker}
-use Rattle.local_object.proofs.OpenLemmas.{can_settle, cannot_settle, none_to_settle, unfetched}
+use Rattle.local_object.proofs.SettleLemmas.{can_settle, cannot_settle, none_to_settle, unfetched}
 use Rattle.local_object.proofs.local_object.LocalObject.fetched.Goals as goal
 
 pub returns-in_default-clause-value : goal.returns-in_default-clause-value

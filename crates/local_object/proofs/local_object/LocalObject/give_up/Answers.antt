@@ -42,7 +42,8 @@ returns-clause-done c =
     let same = same_call at.call c.at.result.now (sym at.there ∙ c.at.ensures) in
     let stays : is_move at.call.kind ≡ false =
     ap (λ (m : Machine). is_move m.kind) same ∙ sym c.is_move.ensures ∙ c.if-is_move.false in
-    give_up_done before c.args.self.now c.self.view_is c.args.id (record (object o.node o.delta o.start o.reports o.places c.remove.new.self) { reports = c.forget.new.self })
+    give_up_done before c.args.self.now c.self.view_is c.args.id
+    (record (object o.node o.delta o.start o.reports o.places c.remove.new.self) { reports = c.forget.new.self })
     (sym (ap is_client_call (open_found o.node o.calls c.args.id c.in-Some.index distinct at) ∙ ap not stays))
     (subst (λ n. AllByRecursion (λ (other : NodeCall). other.id ≡ n → other.kind ≢ Move) (carried o.node o.calls)) at.named
     (give_up_may o.node o.calls c.in-Some.index at.call distinct.distinct at.there stays))

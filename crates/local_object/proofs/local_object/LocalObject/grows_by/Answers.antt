@@ -12,7 +12,8 @@ use Rattle.local_object.proofs.local_object.LocalObject.grows_by.Goals as goal
 pub returns-in_default : goal.returns-in_default
 returns-in_default c =
     let o = c.self.inside in
-    sym (ap (grows_by (object o.node o.delta o.start o.reports o.places o.calls)) (open_none o.node o.calls c.args.id c.in_default.ensures.index))
+    sym (ap (grows_by (object o.node o.delta o.start o.reports o.places o.calls))
+    (open_none o.node o.calls c.args.id c.in_default.ensures.index))
     ∙ ap (λ (l : LocalObject). grows_by l (open_call l.calls c.args.id)) c.self.view_is
 
 pub at-requires : goal.at-requires

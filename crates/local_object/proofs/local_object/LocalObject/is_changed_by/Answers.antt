@@ -4,6 +4,7 @@ use Rattle.local_object.specs.Codes.{carried}
 use Rattle.local_object.specs.Distinct.{IsBankInOrderIfOpen}
 use Rattle.local_object.specs.Local.{LocalObject, bank_in, bank_or_opened, heard_place, is_later_start_if}
 use Rattle.local_object.proofs.ChangingLemmas.{changed_is, unchanged, unserved, unserved_is}
+use Rattle.local_object.proofs.OpenLemmas.{object}
 use Rattle.local_object.proofs.local_object.LocalObject.is_changed_by.Goals as goal
 
 pub returns-then-not-is_served-clause-changed : goal.returns-then-not-is_served-clause-changed
@@ -18,7 +19,7 @@ pub returns-then-changes-clause-changed : goal.returns-then-changes-clause-chang
 returns-then-changes-clause-changed c =
     let o = c.self.inside in
     let letter = c.args.letter.now in
-    changed_is (record { node = o.node; delta = o.delta; start = o.start; places = o.places; reports = o.reports; calls = carried o.node o.calls })
+    changed_is (object o.node o.delta o.start o.reports o.places o.calls)
     c.args.self.now c.self.view_is letter c.changes.result (sym c.is_served.ensures ∙ c.if-not-is_served.false)
     (c.if-changes.true
     ∙ sym (ap (λ b. b || is_later_start_if c.args.self.now letter.start)
@@ -38,7 +39,7 @@ pub returns-else-changes-clause-changed : goal.returns-else-changes-clause-chang
 returns-else-changes-clause-changed c =
     let o = c.self.inside in
     let letter = c.args.letter.now in
-    changed_is (record { node = o.node; delta = o.delta; start = o.start; places = o.places; reports = o.reports; calls = carried o.node o.calls })
+    changed_is (object o.node o.delta o.start o.reports o.places o.calls)
     c.args.self.now c.self.view_is letter c.is_later_start_if.result (sym c.is_served.ensures ∙ c.if-not-is_served.false)
     (c.is_later_start_if.ensures
     ∙ sym (ap (λ b. b || is_later_start_if c.args.self.now letter.start)

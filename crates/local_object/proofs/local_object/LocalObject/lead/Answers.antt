@@ -37,8 +37,8 @@ returns-in_ok-letters-in-Restart-clause-done c =
     (subst (λ (letters : List Letter). IsOutcomeWithAnswers c.args.self.now (lead_events c.args.again c.args.self.now c.args.id) new
     letters []) (sym c.sent.ensures.letters)
     (by_from (λ l. lead_events c.args.again l c.args.id) c.self.view_is
-    (begun_anew_by o.node o.delta o.start o.reports o.places c.in-Some.ensures.distinct c.in-Some.ensures.index call c.at.ensures c.self.invariant
-    c.begin_anew.new.calls c.in_ok-letters-in-Restart.letters.items c.args.again c.in-Restart.kind c.in-Restart.position
+    (begun_anew_by o.node o.delta o.start o.reports o.places c.in-Some.ensures.distinct c.in-Some.ensures.index call c.at.ensures
+    c.self.invariant c.begin_anew.new.calls c.in_ok-letters-in-Restart.letters.items c.args.again c.in-Restart.kind c.in-Restart.position
     (sym c.next_if.ensures.next ∙ c.in-Restart.is)
     (c.in_ok-letters-in-Restart.ensures.begun call c.at.ensures))))
 
@@ -55,8 +55,8 @@ returns-in_ok-letters-in-Begin-clause-done c =
     (subst (λ (letters : List Letter). IsOutcomeWithAnswers c.args.self.now (lead_events c.args.again c.args.self.now c.args.id) new
     letters []) (sym c.sent-in-Begin.ensures.letters)
     (by_from (λ l. lead_events c.args.again l c.args.id) c.self.view_is
-    (advanced_by o.node o.delta o.start o.reports o.places c.in-Some.ensures.distinct c.in-Some.ensures.index call c.at.ensures kind position
-    c.advance.new.calls c.in_ok-letters-in-Begin.letters.items c.args.again (sym c.next_if.ensures.next ∙ c.in-Begin.is)
+    (advanced_by o.node o.delta o.start o.reports o.places c.in-Some.ensures.distinct c.in-Some.ensures.index call c.at.ensures kind
+    position c.advance.new.calls c.in_ok-letters-in-Begin.letters.items c.args.again (sym c.next_if.ensures.next ∙ c.in-Begin.is)
     (c.in_ok-letters-in-Begin.ensures.advanced call c.at.ensures))))
 
 pub begin_anew-requires-clause-unsettled : goal.begin_anew-requires-clause-unsettled

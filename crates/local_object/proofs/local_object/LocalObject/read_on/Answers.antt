@@ -14,7 +14,8 @@ pub returns-in_default-clause-done : goal.returns-in_default-clause-done
 returns-in_default-clause-done c =
     let o = c.self.inside in
     nothing_read o.node o.delta o.start o.reports o.places o.calls c.args.id c.args.self.now c.self.view_is
-    (reads_none o.node o.delta o.start o.reports o.places o.calls c.args.id c.in_default.ensures.index) c.new.result.items c.new.ensures.items
+    (reads_none o.node o.delta o.start o.reports o.places o.calls c.args.id c.in_default.ensures.index) c.new.result.items
+    c.new.ensures.items
 
 pub at-call-requires : goal.at-call-requires
 at-call-requires c =
@@ -24,8 +25,8 @@ pub returns-then-not-is_reading-clause-done : goal.returns-then-not-is_reading-c
 returns-then-not-is_reading-clause-done c =
     let o = c.self.inside in
     nothing_read o.node o.delta o.start o.reports o.places o.calls c.args.id c.args.self.now c.self.view_is
-    (not_reading o.node o.delta o.start o.reports o.places c.in-Some.ensures.distinct c.in-Some.ensures.index c.at-call.result.now c.at-call.ensures
-    (sym c.is_reading.ensures.value ∙ c.if-not-is_reading.true))
+    (not_reading o.node o.delta o.start o.reports o.places c.in-Some.ensures.distinct c.in-Some.ensures.index c.at-call.result.now
+    c.at-call.ensures (sym c.is_reading.ensures.value ∙ c.if-not-is_reading.true))
     c.new-then-not-is_reading.result.items c.new-then-not-is_reading.ensures.items
 
 pub returns-then-position-self-clause-done : goal.returns-then-position-self-clause-done

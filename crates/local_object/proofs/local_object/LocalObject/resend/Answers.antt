@@ -43,8 +43,8 @@ returns-then-not-is_sendable-clause-letters c =
     let kind = c.kind.ensures ∙ ap (λ (p : Phase). p.kind) c.phase-phase.ensures.value in
     subst (λ (l : LocalObject). c.new-then-not-is_sendable.result.items ≡ letters_again fragment l c.args.id) c.self.view_is
     (c.new-then-not-is_sendable.ensures.items
-    ∙ sym (unsendable_again o.node o.delta o.start o.reports o.places c.in-Some.ensures.distinct c.in-Some.ensures.index call c.at-call.ensures
-    c.in-Some-shared_layout_of.layout.now
+    ∙ sym (unsendable_again o.node o.delta o.start o.reports o.places c.in-Some.ensures.distinct c.in-Some.ensures.index call
+    c.at-call.ensures c.in-Some-shared_layout_of.layout.now
     (sym (c.in-Some-shared_layout_of.ensures
     ∙ ap (λ n. layout_in (heard_place o.places n))
     (c.from.ensures ∙ c.position.ensures ∙ ap (λ (p : Phase). p.position) c.phase-phase.ensures.value)))
@@ -55,8 +55,8 @@ returns-clause-letters c =
     let o = c.self.inside in
     let call = c.at-call.result.now in
     let kind = c.kind.ensures ∙ ap (λ (p : Phase). p.kind) c.phase-phase.ensures.value in
-    let again = sent_again o.node o.delta o.start o.reports o.places c.in-Some.ensures.distinct c.in-Some.ensures.index call c.at-call.ensures
-    c.in-Some-shared_layout_of.layout.now
+    let again = sent_again o.node o.delta o.start o.reports o.places c.in-Some.ensures.distinct c.in-Some.ensures.index call
+    c.at-call.ensures c.in-Some-shared_layout_of.layout.now
     (sym (c.in-Some-shared_layout_of.ensures
     ∙ ap (λ n. layout_in (heard_place o.places n))
     (c.from.ensures ∙ c.position.ensures ∙ ap (λ (p : Phase). p.position) c.phase-phase.ensures.value)))

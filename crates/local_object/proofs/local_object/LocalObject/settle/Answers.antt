@@ -3,7 +3,8 @@ use Rattle.open_calls.specs.OpenCalls.{open_call, with_open}
 use Rattle.local_object.specs.Events.{LocalEvent}
 use Rattle.local_object.specs.Taking.{CanSettle}
 use Rattle.local_object.proofs.DoneLemmas.{by_none, by_one}
-use Rattle.local_object.proofs.OpenLemmas.{settle_may, silent_sent}
+use Rattle.local_object.proofs.OpenLemmas.{silent_sent}
+use Rattle.local_object.proofs.SettleLemmas.{settle_may}
 use Rattle.local_object.proofs.local_object.LocalObject.settle.Goals as goal
 
 pub returns-in_default-clause-done : goal.returns-in_default-clause-done
