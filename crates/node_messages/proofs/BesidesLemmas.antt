@@ -1,6 +1,6 @@
 -- What a letter asks and tells besides its message: what is read of it was written, and what was written is read again.
 use Rattle.std.proofs.Common.{◌≡◌, ◌==◌, ℕ, ◌<◌, ◌^◌, Bool, true, false, List, [], ◌∷◌, Option, Some, None, Result, Ok}
-use Rattle.std.proofs.Common.{refl, ap, ap₂, subst, ◌∙◌, inl, inr, arith}
+use Rattle.std.proofs.Common.{ap, ap₂, subst, ◌∙◌, inl, inr, arith}
 use Rattle.std.specs.Prelude.{IfSome}
 use Rattle.piece.specs.declared.piece.Piece.{Piece}
 use Rattle.tag.specs.declared.tag.Tag.{Tag}
@@ -8,7 +8,7 @@ use Rattle.bank.specs.declared.status.Status.{Status}
 use Rattle.mail.specs.declared.message.Message.{Message}
 use Rattle.letter.specs.declared.telling.Telling.{Telling}
 use Rattle.words.specs.Parts.{and_then}
-use Rattle.words.proofs.PartLemmas.{bind_ok, chosen, ok_is}
+use Rattle.words.proofs.PartLemmas.{bind_ok, chosen}
 use Rattle.node_strings.specs.Strings.{Strings}
 use Rattle.node_messages.specs.declared.besides.Besides.{Besides}
 use Rattle.node_messages.specs.declared.error.Fault.{Fault}
@@ -107,7 +107,7 @@ told_ok : (numbers : List ℕ) (piece : Option Piece) (rest : Strings) (x : Besi
 unfolding told_with
 told_ok numbers piece rest x e =
     let s = bind_ok (told_status_in numbers) (λ found. ending (telling found (greatest_in numbers) piece) rest) x e in
-    (s.0, ended (telling s.0 (greatest_in numbers) piece) rest x s.2)
+    let end = ended (telling s.0 (greatest_in numbers) piece) rest x s.2 in (s.0, end.0, end.1)
 
 greatest_fits : (numbers : List ℕ) → IsTag (greatest_in numbers)
 greatest_fits numbers = (long_below _, long_below _)

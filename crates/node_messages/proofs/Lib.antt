@@ -4,5 +4,6 @@ pub mod ReadBodyLemmas
 pub mod PartLemmas
 pub mod BesidesLemmas
 pub mod LayoutLemmas
+pub mod ReadMessageLemmas
 pub mod MessageLemmas
 pub mod FrameLemmas

@@ -1,5 +1,5 @@
 //! What a head says of what a letter asks and tells besides its message.
-ghost use Rattle.std.specs.Prelude.{◌≡◌, IfSome};
+ghost use Rattle.std.specs.Prelude.{◌≡◌, IfSome, Some};
 ghost use Rattle.node_messages.specs.Codes.{asking_code};
 ghost use Rattle.node_messages.specs.Head.{said_besides, said_of_asking, said_of_facts, with_told_piece};
 ghost use Rattle.node_messages.specs.Message.{IsPiece, IsTag, IsTelling};
@@ -60,24 +60,28 @@ fn said_of_facts(status: Status, greatest: Tag) -> SaidBesides
     }
 }
 
+// What a head says, with the point of the told piece and the length of its value.
+fn with_piece(piece: &Piece, said: SaidBesides) -> SaidBesides
+    ensures said { result ≡ with_told_piece (Some piece.now) said }
+    ensures fits { IsPiece piece.now }
+{
+    let (point, len) = (piece.point, piece.len);
+    SaidBesides {
+        mark: 3,
+        point,
+        len,
+        ..said
+    }
+}
+
 // What a head says, with the point of the told piece and the length of its value, if a piece is told.
 fn with_told_piece(piece: &Option<Piece>, said: SaidBesides) -> SaidBesides
     ensures said { result ≡ with_told_piece piece.now said }
     ensures fits { IfSome piece.now IsPiece }
 {
     match piece {
-        Some(piece) => with_piece(piece.point, piece.len, said),
+        Some(piece) => with_piece(piece, said),
         None => said,
-    }
-}
-
-// What a head says, with the point of the told piece and the length of its value.
-fn with_piece(point: u8, len: u32, said: SaidBesides) -> SaidBesides {
-    SaidBesides {
-        mark: 3,
-        point,
-        len,
-        ..said
     }
 }
 
