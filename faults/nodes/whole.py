@@ -21,8 +21,8 @@ from dataclasses import replace
 import messages
 from frames import frame_at
 from log_form import HEAD
-from whole_bank import (FINAL, WITH_TAG, WholeBank, is_for, is_message, is_of_the_node_itself, is_sent_back, message_in,
-                        messages_in, said, start_in)
+from whole_bank import (FINAL, WITH_TAG, WholeBank, is_for, is_message, is_of_the_node_itself, is_reply_as, is_sent_back,
+                        message_in, messages_in, said, start_in)
 
 MOST_FAULTS = 3
 
@@ -211,7 +211,7 @@ class WholeBanks:
             replies += 1
             if expected is None or replies > 1 or address != sender:
                 self.fault(f"node {node} replies to no request: {said(made)}")
-            elif replace(made, start=None) != expected:
+            elif not is_reply_as(made, expected):
                 what = f"{asked.kind.decode()}{f' {asked.tag}' if asked.kind in WITH_TAG else ''}"
                 self.fault(f"node {node} replies to {what} of {asked.name.decode()} at position {asked.position}: "
                            f"{said(made)}; its whole bank replies: {said(expected)}")

@@ -104,15 +104,7 @@ fn a_reply_tells_a_piece(rt: HostRuntime) {
 /// A sample, and its fault.
 struct Row(Sample, Fault);
 
-/// What a telling with one other byte at a place says.
-const fn with(mut besides: [u8; 23], place: usize, byte: u8) -> [u8; 23]
-    requires { place < 23 }
-{
-    besides[place] = byte;
-    besides
-}
-
-static ROWS: [Row; 11] = [
+static ROWS: [Row; 6] = [
     Row(
         Sample {
             besides: TELLS,
@@ -137,20 +129,6 @@ static ROWS: [Row; 11] = [
     ),
     Row(
         Sample {
-            besides: with(TELLS, 0, 4),
-            ..GREATEST
-        },
-        Fault::UnknownCode,
-    ),
-    Row(
-        Sample {
-            besides: with(TELLS, 1, 3),
-            ..GREATEST
-        },
-        Fault::UnknownCode,
-    ),
-    Row(
-        Sample {
             besides: TELLS_PIECE,
             ..GREATEST
         },
@@ -171,27 +149,6 @@ static ROWS: [Row; 11] = [
         },
         Fault::WrongCount,
     ),
-    Row(
-        Sample {
-            besides: with(TELLS, 18, 5),
-            ..GREATEST
-        },
-        Fault::UnusedPlace,
-    ),
-    Row(
-        Sample {
-            besides: with(TELLS, 22, 1),
-            ..GREATEST
-        },
-        Fault::UnusedPlace,
-    ),
-    Row(
-        Sample {
-            besides: with(TELLS, 0, 0),
-            ..GREATEST
-        },
-        Fault::UnusedPlace,
-    ),
 ];
 
 #[test]
@@ -199,6 +156,30 @@ fn what_is_no_telling(rt: HostRuntime) {
     for row in &ROWS {
         let list = sample_strings(&rt, rt.alloc(), &row.0);
         assert_fault(&rt, rt.alloc(), list, row.1);
+    }
+}
+
+/// The place of a byte of what a reply tells, another byte, and the fault.
+static CHANGES: [(usize, u8, Fault); 5] = [
+    (0, 0, Fault::UnusedPlace),
+    (0, 4, Fault::UnknownCode),
+    (1, 3, Fault::UnknownCode),
+    (18, 5, Fault::UnusedPlace),
+    (22, 1, Fault::UnusedPlace),
+];
+
+#[test]
+fn a_byte_of_what_is_told(rt: HostRuntime) {
+    for &(place, byte, wanted) in &CHANGES {
+        let mut tells = Sample {
+            besides: TELLS,
+            ..GREATEST
+        };
+        if let Some(at) = tells.besides.get_mut(place) {
+            *at = byte;
+        }
+        let list = sample_strings(&rt, rt.alloc(), &tells);
+        assert_fault(&rt, rt.alloc(), list, wanted);
     }
 }
 
