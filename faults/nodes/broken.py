@@ -15,6 +15,8 @@ shut     a fetch of another node gets no reply where the pointer of the bank is 
 closes   at a start, the log says that each bank was closed whose pointer is pending
 soon     at a start, the log says that each bank was closed whose pointer is final, whatever the start of the object is
 keeps    a message of another node comes without the start that it tells, so the node keeps its banks before that
+unset    each reply tells that the pointer of the bank is unset, so that calls end early beside a move
+ahead    each reply tells the greatest tag of a write of which a piece has come, as if it were finalized
 """
 import ctypes
 import fcntl
@@ -73,7 +75,7 @@ class Between:
     def __init__(self, kind, child):
         self.kind, self.child = kind, child
         self.values, self.asked, self.answered, self.writes = {}, {}, set(), 0
-        self.fetched, self.greatest, self.pending = 0, {}, set()
+        self.fetched, self.greatest, self.pending, self.came = 0, {}, set(), {}
         self.lock = threading.Lock()
 
     def write(self, data):
@@ -92,6 +94,8 @@ class Between:
             return self.is_answered(messages.read(frame[1:]))
         if self.kind == "keeps" and client.startswith(b"node "):
             frame[1:] = replace(messages.read(frame[1:]), start=None).strings()
+        if self.kind == "ahead" and client.startswith(b"node "):
+            self.note_piece(messages.read(frame[1:]))
         if words == [b"SET"] and len(frame) == 4:
             self.values[frame[2]], self.writes = frame[3], self.writes + 1
             if self.kind == "skips" and self.writes % 3 == 0:
@@ -115,11 +119,17 @@ class Between:
             (self.pending.add if asked.status == b"pending" else self.pending.discard)(bank)
         return asked.is_reply or asked.kind != b"fetch" or bank not in self.pending
 
+    def note_piece(self, asked):
+        """Notes the greatest tag of which a piece has come to a bank."""
+        if asked.kind == b"pre-write" and not asked.is_reply:
+            bank = asked.name, asked.position
+            self.came[bank] = max(self.came.get(bank, (asked.tag, asked.piece)), (asked.tag, asked.piece))
+
     def leave(self, frame):
         """A frame from the node. Returns whether it goes on; a reply to another node may be changed."""
         client = frame[0]
         if client.startswith(b"node "):
-            if self.kind in ("none", "old", "early"):
+            if self.kind in ("none", "old", "early", "unset", "ahead"):
                 frame[1:] = self.changed(messages.read(frame[1:])).strings()
             return True
         if len(frame) == 4 and client in self.asked:
@@ -130,17 +140,23 @@ class Between:
         return True
 
     def changed(self, made):
-        """A reply to a fetch without its piece, one that tells the greatest tag of before, or one that tells a start
-        too early."""
+        """A reply to a fetch without its piece, one that answers with the greatest tag of before, one that tells a start
+        too early, or one that tells a false pointer or tag."""
         if self.kind == "none" and made.is_reply and made.kind == b"fetch" and made.piece:
             self.fetched += 1
-            return replace(made, piece=None) if self.fetched % 3 == 0 else made
+            return replace(made, piece=None, told=None) if self.fetched % 3 == 0 else made
         if self.kind == "old" and made.is_reply and made.kind == b"query":
             told = self.greatest.get((made.name, made.position), made.tag)
             self.greatest[made.name, made.position] = made.tag
-            return replace(made, tag=told)
+            return replace(made, tag=told, told=None)
         if self.kind == "early" and made.is_reply and made.kind == b"next" and made.status == b"pending":
             return replace(made, start=(made.position + 1, made.next))
+        if self.kind == "unset" and made.told:
+            return replace(made, told=replace(made.told, status=b"unset"))
+        if self.kind == "ahead" and made.told:
+            tag, piece = self.came.get((made.name, made.position), (made.told.greatest, made.told.piece))
+            if tag > made.told.greatest:
+                return replace(made, told=replace(made.told, greatest=tag, piece=made.told.piece and piece))
         return made
 
     def pass_output(self):

@@ -1,8 +1,8 @@
 """The form of a node's log, for tests: entries, each a head of 16 bytes and a body.
 
-The head's first byte is the form, 4; the next seven are the length of the body, and four are its CRC-32C; the last four
+The head's first byte is the form, 5; the next seven are the length of the body, and four are its CRC-32C; the last four
 are the CRC-32C of the first twelve bytes of all heads up to this one. Numbers have their high byte first."""
-HEAD, SAYS, FORM = 16, 12, 4
+HEAD, SAYS, FORM = 16, 12, 5
 ALL_BITS = 0xFFFFFFFF
 
 

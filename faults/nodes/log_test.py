@@ -15,7 +15,7 @@ sys.dont_write_bytecode = True
 
 from frames import Frames, encode  # noqa: E402
 from log_form import FORM, HEAD, bodies_of, log_of, old_log_of, said_of, shifted, split  # noqa: E402
-from messages import FORM_BEFORE, old_strings, read  # noqa: E402
+from messages import FORMS_BEFORE, old_strings, read  # noqa: E402
 from one_node import OneNode, command  # noqa: E402
 
 QUESTIONS = command(b"GET", b"a") + command(b"GET", b"b")
@@ -40,7 +40,7 @@ def old_bodies(bodies, form):
         [[word, *strings]] = Frames().take(body)
         if word in (b"serve", b"take"):
             it = read(strings)
-            body = encode([word, *(it.strings(FORM_BEFORE) if form == 3 else old_strings(it))])
+            body = encode([word, *(it.strings(form) if form in FORMS_BEFORE else old_strings(it))])
         changed.append(body)
     return changed
 
@@ -147,7 +147,7 @@ class Logs(unittest.TestCase):
 
     def test_logs_of_older_forms(self):
         """Frames without heads, of the oldest form, are damage."""
-        for form in (1, 2, 3):
+        for form in (1, 2, 3, 4):
             self.is_converted(form)
         self.is_reported(encode([b"cluster", bytes(16), b"1", bytes(8)]), 0)
 
@@ -188,7 +188,7 @@ class Logs(unittest.TestCase):
         old[end + 30] ^= 1
         said_of_strange = f"entry {len(bodies)} of the log is none that a node writes"
         strange = [log_of([*old_bodies(bodies_of(self.whole), form), encode([b"serve", b"x", b"y"])], form=form)
-                   for form in (2, 3)]
+                   for form in (2, 3, 4)]
         for log, said in ((self.whole, "the log has today's form already"),
                           (bytes(old), f"the log, from byte {end}: wrong checksum"),
                           *((log, said_of_strange) for log in strange)):

@@ -12,7 +12,7 @@ sys.path[:0] = [str(Path(__file__).resolve().parent), str(Path(__file__).resolve
 sys.dont_write_bytecode = True
 
 from frames import Frames, encode  # noqa: E402
-from messages import FORM, FORM_BEFORE, Message, old_strings  # noqa: E402
+from messages import FORM, FORMS_BEFORE, Message, old_strings  # noqa: E402
 from node_pipes import Node  # noqa: E402
 from one_node import CLUSTER, OneNode, command, is_embedded  # noqa: E402
 
@@ -239,16 +239,17 @@ class OtherClusters(unittest.TestCase):
         self.assertEqual(self.value(info, b"frames_dropped"), b"2")
 
     def test_messages_of_forms_before(self):
-        """The node drops messages of form 3, and those of form 2, also where their first byte is that of today's form."""
+        """The node drops messages of forms 4 and 3, and those of form 2, also where their first byte is that of today's
+        form."""
         own = bytes.fromhex(self.own.decode())
         messages = [old_strings(Message(digest, b"a", b"next")) for digest in (own, bytes([FORM]) + b"x" * 15)]
-        messages.append(Message(own, b"a", b"next").strings(FORM_BEFORE))
+        messages += [Message(own, b"a", b"next").strings(form) for form in FORMS_BEFORE]
         data = b"".join(encode([b"node 2", *strings]) for strings in messages)
         status, written, text = self.node.run(data + command(b"INFO"))
         self.assertEqual((status, text), (0, ""))
         [[_, *strings]] = [frame for frame in Frames().take(written) if frame[0] == b"client 1"]
         info = b"".join(strings)
-        self.assertEqual(self.value(info, b"frames_dropped"), b"3")
+        self.assertEqual(self.value(info, b"frames_dropped"), b"4")
         self.assertEqual(self.value(info, b"frames_of_other_clusters"), b"0")
 
     def test_each_node_and_digest_once(self):

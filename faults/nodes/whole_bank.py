@@ -3,6 +3,7 @@
 What a bank does is in crates/bank/specs: `served_bank` and `answer_to` of Serve.antt, `fetched_piece` of Collect.antt,
 and `is_forgotten` of Floor.antt. A node keeps a bank from the first request on that changes it."""
 import bisect
+import copy
 from dataclasses import replace
 
 import messages
@@ -47,8 +48,9 @@ class WholeBank:
         self.is_changed |= self.size() != before
 
     def reply_to(self, asked, next_layout):
-        """The reply to a request. `next_layout` is that of the next position, if the bank has heard of one."""
-        made = replace(asked, is_reply=True, piece=None, next=b"", step=0, start=None)
+        """The reply to a request, but for what it tells. `next_layout` is that of the next position, if the bank has heard
+        of one."""
+        made = replace(asked, is_reply=True, piece=None, next=b"", step=0, start=None, asks_piece=False)
         if asked.kind == b"next":
             return replace(made, status=messages.STATUSES[self.status], next=next_layout if self.status else b"")
         if asked.kind == b"query":
@@ -56,6 +58,17 @@ class WholeBank:
         if asked.kind == b"fetch" and not self.is_below(asked.tag):
             return replace(made, piece=self.pieces.get(asked.tag))
         return made
+
+    def telling(self, asks_piece):
+        """What a reply tells of the bank as it is now."""
+        piece = self.pieces.get(self.finals[-1]) if asks_piece else None
+        return messages.Telling(messages.STATUSES[self.status], self.finals[-1], piece)
+
+    def telling_after(self, asked):
+        """What the reply to a request tells: how the bank is once it has served the request."""
+        after = copy.deepcopy(self)
+        after.serve(asked)
+        return after.telling(asked.asks_piece)
 
 
 def is_message(strings):
@@ -94,7 +107,17 @@ def start_in(it):
 
 
 def said(it):
-    """What a reply says, in words."""
-    piece = "none" if it.piece is None else f"the piece of point {it.piece[0]} and {len(it.piece[2])} bytes"
+    """What a reply answers, in words."""
     return {b"next": f"{it.status.decode()} {list(it.next)}", b"query": f"the greatest tag is {it.tag}",
-            b"fetch": piece}.get(it.kind, f"done, for the tag {it.tag}")
+            b"fetch": said_of_piece(it.piece)}.get(it.kind, f"done, for the tag {it.tag}")
+
+
+def said_of_piece(piece):
+    return "none" if piece is None else f"the piece of point {piece[0]} and {len(piece[2])} bytes"
+
+
+def told(telling):
+    """What a reply tells besides, in words."""
+    if telling is None:
+        return "nothing"
+    return f"{telling.status.decode()}, the greatest tag {telling.greatest}, {said_of_piece(telling.piece)}"

@@ -13,7 +13,7 @@ sys.dont_write_bytecode = True
 
 from frames import encode  # noqa: E402
 from log_form import log_of  # noqa: E402
-from messages import Message  # noqa: E402
+from messages import Message, Telling  # noqa: E402
 from whole import WholeBanks  # noqa: E402
 
 LAYOUT, NEXT = bytes([2, 1, 2, 3]), bytes([1, 2, 3])
@@ -129,6 +129,50 @@ class Answers(unittest.TestCase):
         banks = WholeBanks(0)
         self.play(banks, "Pb Fb Pa Fa Ga=- Gb=b Q=b")
         self.assertEqual([banks.counts[f"late {kind}"] for kind in ("pre-writes", "finalizes", "fetches")], [1, 1, 1])
+
+
+# Requests that came before, as in the lists; then a request, with "?" if it asks for the piece; and what the reply to it
+# tells: the status of the pointer, the greatest tag, and the piece.
+TOLD = [
+    ("a new bank", "", "Q", Telling(b"unset", (0, 0))),
+    ("the piece of a new bank", "", "Q?", Telling(b"unset", (0, 0), PIECES["0"])),
+    ("what was only pre-written is not told", "", "Pa?", Telling(b"unset", (0, 0), PIECES["0"])),
+    ("what the request itself has changed is told", "Pa", "Fa?", Telling(b"unset", TAGS["a"], PIECES["a"])),
+    ("a smaller tag is not told", "Pa Pb Fb", "Fa?", Telling(b"unset", TAGS["b"], PIECES["b"])),
+    ("a piece that never came", "", "Fb?", Telling(b"unset", TAGS["b"])),
+    ("a piece for which nobody asks", "Pa", "Fa", Telling(b"unset", TAGS["a"])),
+]
+
+
+class Tellings(unittest.TestCase):
+    def tells(self, banks, request, telling):
+        """The faults that there are once node 2 has told this with its reply to node 3."""
+        it = asked(request.rstrip("?"), asks_piece="?" in request)
+        made = replace(answer(it, "0" if request[0] == "Q" else None), asks_piece=False, told=telling)
+        banks.compare(2, frame(3, it), [frame(3, made)])
+        return banks.faults
+
+    def test_what_is_told(self):
+        """Each other status, tag or piece is a fault; a reply may tell nothing."""
+        for why, words, request, telling in TOLD:
+            other_piece = None if telling.piece else PIECES["d"]
+            others = (replace(telling, status=b"pending"), replace(telling, greatest=TAGS["d"]),
+                      replace(telling, piece=other_piece))
+            for told, count in ((telling, 0), (None, 0), *((it, 1) for it in others)):
+                with self.subTest(why=why, told=told):
+                    banks = WholeBanks(0)
+                    Answers.play(self, banks, words)
+                    self.assertEqual(len(self.tells(banks, request, told)), count)
+
+    def test_pointers(self):
+        """The reply to a request that raises the pointer tells it as it is then; a closed bank tells nothing."""
+        final = Telling(b"final", (0, 0))
+        banks = finals(WholeBanks(0), status=b"pending")
+        self.assertEqual(self.tells(banks, "Q", replace(final, status=b"pending")), [])
+        self.assertEqual(self.tells(finals(banks), "Q", final), [])
+        said = ("node 2 tells with its reply to query of x at position 0: final, the greatest tag (0, 0), none; its whole "
+                "bank tells: nothing")
+        self.assertEqual(self.tells(closed(banks), "Q", final), [said])
 
 
 class Frames(unittest.TestCase):

@@ -14,7 +14,7 @@ use Rattle.local_object.specs.Going.{is_restart, next_here}
 use Rattle.local_object.specs.Local.{LocalObject, layout_here}
 use Rattle.local_object.specs.ReadingOn.{is_reading, read_on_events, reads_on}
 use Rattle.local_object.specs.Resent.{current_letters, letters_again_at, letters_again_of}
-use Rattle.local_object.specs.Sent.{due_again}
+use Rattle.local_object.specs.Sent.{asks_piece, due_again}
 use Rattle.local_object.specs.Starting.{number_at}
 use Rattle.local_object.specs.Taking.{machine_of}
 use Rattle.mail.specs.Phase.{has_taken}
@@ -67,8 +67,8 @@ again_at local call (Some layout) fit is known = go (is_sendable call.phase.kind
         AllByRecursion IsFitLetter (cond b (due_again (machine_of call) (current_letters fragment local call layout)) [])
     go true can =
         due_left (machine_of call) (current_letters fragment local call layout)
-        (requests_fit local (knows_fit local fit) layout call.id call.phase.number call.phase.kind q (pieces_here fragment layout call)
-        lawful is.id is.number
+        (requests_fit local (knows_fit local fit) (asks_piece call.kind call.stage) layout call.id call.phase.number call.phase.kind q
+        (pieces_here fragment layout call) lawful is.id is.number
         (known_small local fit q layout known) is.kind is.next (pieces_fit layout call call.phase.kind lawful can))
     go false can = tt
 

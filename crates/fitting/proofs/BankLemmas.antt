@@ -168,7 +168,7 @@ among_fit (e ∷ es) each = go (is_finalized e.1.label) (among_fit es each.1)
 pub greatest_fit : (bank : Bank) → IsFitBank bank → IsTag (greatest_final bank)
 greatest_fit bank fit = among_fit (map.entries bank.rows) (entries_fit bank fit)
 
-piece_fit : (bank : Bank) (tag : Tag) → IsFitBank bank → IfSome (piece_of bank tag) IsFitPiece
+pub piece_fit : (bank : Bank) (tag : Tag) → IsFitBank bank → IfSome (piece_of bank tag) IsFitPiece
 piece_fit bank tag fit = go (map.get bank.rows tag) refl
   where
     go : (o : Option Row) → map.get bank.rows tag ≡ o → IfSome (piece_of_row o) IsFitPiece

@@ -2,16 +2,18 @@
 use Rattle.std.proofs.Common.{◌≡◌, ℕ, suc, ◌<◌, ◌^◌, Bool, true, false, cond, List, [], ◌∷◌, ◌++◌, Option, Some, None, refl, sym, subst, ap}
 use Rattle.std.proofs.Common.{◌∙◌}
 use Rattle.std.specs.List.{AllByRecursion}
-use Rattle.std.specs.Prelude.{IfSome}
+use Rattle.std.specs.Prelude.{IfSome, not, ◌==◌}
 use Rattle.bank.specs.Bank.{empty_piece}
 use Rattle.bank.specs.declared.kind.Kind.{Kind}
 use Rattle.bank.specs.declared.kind.Kind.TheVariants as kind
 use Rattle.bank.specs.declared.reply.Reply.{Reply}
 use Rattle.encoder.specs.Fragment.{fragment}
 use Rattle.layout.specs.Layout.{Layout}
-use Rattle.local_object.specs.Events.{advanced_at, advanced_here, pieces_here}
+use Rattle.local_object.specs.declared.report.Report.{Report}
+use Rattle.local_object.specs.Events.{advanced_at, advanced_here, ended_here, pieces_here}
 use Rattle.local_object.specs.Local.{LocalObject, Place, layout_here}
-use Rattle.local_object.specs.Outcomes.{Outcome, begun_here, on_open_call}
+use Rattle.local_object.specs.Outcomes.{Outcome, begun_here, is_read, on_open_call}
+use Rattle.local_object.specs.Reports.{without_reports}
 use Rattle.local_object.specs.Starting.{reading_call, reads_at}
 use Rattle.local_object.specs.Taking.{knows_next}
 use Rattle.mail.specs.Phase.{Phase, after_body, has_taken, is_current, with_reply}
@@ -19,8 +21,8 @@ use Rattle.mail.specs.declared.message.Body.{Body}
 use Rattle.mail.specs.declared.message.Body.TheVariants as body
 use Rattle.mail.specs.declared.message.Message.{Message}
 use Rattle.node_messages.specs.Message.{IsAnswer, IsBody, IsKind}
-use Rattle.open_calls.specs.OpenCalls.{NodeCall, due_phase, open_call, stage_reached, taking_open, with_open}
-use Rattle.open_calls.proofs.OpenCallLemmas.{all_with, found}
+use Rattle.open_calls.specs.OpenCalls.{NodeCall, due_phase, open_call, stage_reached, taking_open, with_open, without_call}
+use Rattle.open_calls.proofs.OpenCallLemmas.{all_filter, all_with, found}
 use Rattle.record.specs.PhaseOrder.{begun_at}
 use Rattle.record.specs.Steps.{new_phase}
 use Rattle.record.specs.declared.call.CallKind.{CallKind}
@@ -39,17 +41,23 @@ pub record IsFitOutcome (done : Outcome) : Type 0 where
   pub local : IsFitObject done.local
   pub sent : AllByRecursion IsFitLetter done.sent
 
--- other calls are open
-pub calls_fit : (local : LocalObject) (calls : List NodeCall) → IsFitObject local → AllByRecursion (IsFitCall local.places) calls →
-    IsFitObject (record local { calls = calls })
-calls_fit local calls fit new = record { start = fit.start; places = fit.places; calls = new }
+-- other calls are open, which were told anything
+pub calls_fit : (local : LocalObject) (calls : List NodeCall) (reports : List Report) → IsFitObject local →
+    AllByRecursion (IsFitCall local.places) calls → IsFitObject (record local { calls = calls; reports = reports })
+calls_fit local calls reports fit new = record { start = fit.start; places = fit.places; calls = new }
 
 -- one call changed
-pub call_fit : (local : LocalObject) (call : NodeCall) → IsFitObject local → IsFitCall local.places call →
-    IsFitObject (record local { calls = with_open call local.calls })
-call_fit local call fit new =
-    calls_fit local (with_open call local.calls) fit
+pub call_fit : (local : LocalObject) (call : NodeCall) (reports : List Report) → IsFitObject local → IsFitCall local.places call →
+    IsFitObject (record local { calls = with_open call local.calls; reports = reports })
+call_fit local call reports fit new =
+    calls_fit local (with_open call local.calls) reports fit
     (all_with (IsFitCall local.places) (IsFitCall local.places) call local.calls fit.calls new (λ other apart is. is))
+
+-- a call ended
+pub ended_fit : (local : LocalObject) (id : ℕ) → IsFitObject local → IsFitObject (ended_here local id)
+ended_fit local id fit =
+    calls_fit local (without_call id local.calls) (without_reports id local.reports) fit
+    (all_filter (IsFitCall local.places) (λ call. not (call.id == id)) local.calls fit.calls)
 
 -- what is done with an open call
 pub open_fit : (local : LocalObject) (id : ℕ) (change : NodeCall → Outcome) → IsFitObject local →
@@ -89,8 +97,8 @@ begun_fit local id call_kind at k number q (Some layout) fit known small short r
       next = next;
       replies = tt;
     } in record {
-      local = calls_fit local (local.calls ++ new ∷ []) fit (all_push (IsFitCall local.places) local.calls new fit.calls is);
-      sent = requests_fit local (knows_fit local fit) layout id number k q empty_piece
+      local = calls_fit local (local.calls ++ new ∷ []) local.reports fit (all_push (IsFitCall local.places) local.calls new fit.calls is);
+      sent = requests_fit local (knows_fit local fit) (is_read call_kind) layout id number k q empty_piece
           (subst (λ (l : Option Layout). IfSome l IsFitLayout) known (known_fit local fit q)) small room
           (known_small local fit q layout known) tag next (λ m within. pieces m);
     }
@@ -115,9 +123,9 @@ advanced_fit local call k q (Some layout) fit known is due room =
       next = room.next;
       replies = tt;
     } in record {
-      local = call_fit local new fit new_is;
-      sent = requests_fit local (knows_fit local fit) layout call.id (suc call.phase.number) k q (pieces_here fragment layout call)
-          lawful is.id room.number
+      local = call_fit local new local.reports fit new_is;
+      sent = requests_fit local (knows_fit local fit) false layout call.id (suc call.phase.number) k q
+          (pieces_here fragment layout call) lawful is.id room.number
           (known_small local fit q layout known) tag room.next (pieces_fit layout call k lawful room.sendable);
     }
 
@@ -143,8 +151,8 @@ reads_fit local call number q (Some layout) fit known is room =
       next = refl;
       replies = tt;
     } in record {
-      local = call_fit local (reading_call call number q layout) fit new_is;
-      sent = requests_fit local (knows_fit local fit) layout call.id number kind.Next q empty_piece
+      local = call_fit local (reading_call call number q layout) local.reports fit new_is;
+      sent = requests_fit local (knows_fit local fit) (is_read call.kind) layout call.id number kind.Next q empty_piece
           (subst (λ (l : Option Layout). IfSome l IsFitLayout) known (known_fit local fit q)) is.id room
           (known_small local fit q layout known)
           tt refl (λ m within. tt);

@@ -1,27 +1,24 @@
 -- Whatever a node does with a fit object, if there is room for it, the object stays fit, and the letters sent are fit.
 use Rattle.std.proofs.Common.{suc, [], ◌∷◌, Some, refl, arith}
-use Rattle.std.specs.Prelude.{not, ◌==◌}
 use Rattle.bank.specs.declared.kind.Kind.TheVariants as kind
 use Rattle.bank.specs.declared.status.Status.TheVariants as status
 use Rattle.encoder.specs.Fragment.{fragment}
 use Rattle.letter.specs.declared.letter.Letter.{Letter}
-use Rattle.local_object.specs.Events.{LocalEvent, advanced_here, all_done, done_here}
+use Rattle.local_object.specs.Events.{LocalEvent, advanced_here, all_done, done_here, taking_here}
 use Rattle.local_object.specs.Local.{LocalObject, last_position, layout_here, told_start, with_heard}
 use Rattle.local_object.specs.Outcomes.{learnt_from, silent}
 use Rattle.local_object.specs.Starting.{anew_number, first_number, number_at, reads_here}
-use Rattle.open_calls.specs.OpenCalls.{due_phase, taking_open, with_open, without_call}
+use Rattle.open_calls.specs.OpenCalls.{due_phase, taking_open, with_open}
 use Rattle.open_calls.proofs.ListLemmas.{all_append}
-use Rattle.open_calls.proofs.OpenCallLemmas.{all_filter}
 use Rattle.record.specs.Legal.{first_stage}
 use Rattle.record.specs.declared.call.CallKind.TheVariants as calls
 use Rattle.record.specs.declared.stage.Stage.TheVariants as stage
-use Rattle.fitting.specs.Calls.{IsFitCall}
 use Rattle.fitting.specs.Events.{HasRoom}
 use Rattle.fitting.specs.Laws.{AllStayFit, StaysFit}
 use Rattle.fitting.specs.Letters.{IsFitLetter}
 use Rattle.fitting.specs.Objects.{IsFitObject}
 use Rattle.fitting.proofs.PlaceLemmas.{heard_fit, heard_known, learnt_fit}
-use Rattle.fitting.proofs.CallLemmas.{IsFitOutcome, begun_fit, call_fit, calls_fit, due_done, open_fit, reads_fit, taken_call}
+use Rattle.fitting.proofs.CallLemmas.{IsFitOutcome, begun_fit, call_fit, due_done, ended_fit, open_fit, reads_fit, taken_call}
 use Rattle.fitting.proofs.RequestLemmas.{knows_fit, starts_fit}
 use Rattle.fitting.proofs.ServingLemmas.{served_fit}
 use Rattle.fitting.proofs.ClosingLemmas.{close_fit, raise_fit}
@@ -40,6 +37,8 @@ told_letter local letter fit is = record {
   next = is.next;
   start = starts_fit local (knows_fit local fit);
   short = is.short;
+  role = is.role;
+  told = is.told;
 }
 
 -- Any event
@@ -66,15 +65,15 @@ event_done local (LocalEvent.Take letter) fit room =
     let next = learnt_from local letter in
     let heard_is = learnt_fit local letter room.0 room.1 fit in
     open_fit next letter.message.call
-    (λ call. silent (record next { calls = with_open (taking_open letter.message call) next.calls })) heard_is
+    (λ call. silent (taking_here next call letter.message letter.told)) heard_is
     (λ call e is. record {
-      local = call_fit next (taking_open letter.message call) heard_is (taken_call next.places call letter.message room.0.body is);
+      local = call_fit next (taking_open letter.message call) _ heard_is (taken_call next.places call letter.message room.0.body is);
       sent = tt;
     })
 event_done local (LocalEvent.Settle id value) fit room =
     open_fit local id (λ call. silent (record local { calls = with_open (record call { settled = Some value }) local.calls })) fit
     (λ call e is. record {
-      local = call_fit local (record call { settled = Some value }) fit (record {
+      local = call_fit local (record call { settled = Some value }) local.reports fit (record {
         id = is.id;
         written = is.written;
         settled = room;
@@ -86,16 +85,9 @@ event_done local (LocalEvent.Settle id value) fit room =
       });
       sent = tt;
     })
-event_done local (LocalEvent.Answer id) fit room = record {
-  local = calls_fit local (without_call id local.calls) fit
-      (all_filter (IsFitCall local.places) (λ call. not (call.id == id)) local.calls fit.calls);
-  sent = tt;
-}
-event_done local (LocalEvent.GiveUp id) fit room = record {
-  local = calls_fit local (without_call id local.calls) fit
-      (all_filter (IsFitCall local.places) (λ call. not (call.id == id)) local.calls fit.calls);
-  sent = tt;
-}
+event_done local (LocalEvent.Answer id) fit room = record { local = ended_fit local id fit; sent = tt }
+event_done local (LocalEvent.GiveUp id) fit room = record { local = ended_fit local id fit; sent = tt }
+event_done local (LocalEvent.EndEarly id value) fit room = record { local = ended_fit local id fit; sent = tt }
 event_done local (LocalEvent.Close position) fit room = record { local = close_fit local position fit; sent = tt }
 event_done local (LocalEvent.Grow id) fit room = record {
   local = record { start = omega (arith, room); places = fit.places; calls = fit.calls };

@@ -5,12 +5,14 @@ pub mod KnownLemmas
 pub mod StageLemmas
 pub mod RequestLemmas
 pub mod CallLemmas
+pub mod ReplyLemmas
 pub mod ServingLemmas
 pub mod ClosingLemmas
 pub mod EventLemmas
 pub mod MessageLemmas
 pub mod ReadLemmas
 pub mod GoingLemmas
+pub mod EarlyLemmas
 pub mod TakingLemmas
 pub mod ArrivalLemmas
 pub mod AgainLemmas

@@ -12,7 +12,7 @@ use Rattle.layout.specs.Layout.{Layout}
 use Rattle.local_object.specs.Doing.{can_close, close_events, give_up_events, gives_up, is_moving, move_refusal, unless_open, write_refusal}
 use Rattle.local_object.specs.Events.{LocalEvent, done_here}
 use Rattle.local_object.specs.Local.{LocalObject, layout_here, last_position, with_heard, bank_in, heard_place}
-use Rattle.local_object.specs.Outcomes.{begun_here}
+use Rattle.local_object.specs.Outcomes.{begun_here, is_read}
 use Rattle.local_object.specs.Passed.{can_raise, is_below_final, member_of, raise_events}
 use Rattle.local_object.specs.Starting.{called_at, first_number}
 use Rattle.open_calls.specs.OpenCalls.{open_call}
@@ -69,7 +69,7 @@ called_sent : (local : LocalObject) (id : ℕ) (call_kind : CallKind) → IsFitO
     layout_here local local.start ≡ o → AllByRecursion IsFitLetter (called_at local id call_kind local.start o).sent
 called_sent local id call_kind fit small None known = tt
 called_sent local id call_kind fit small (Some layout) known =
-    requests_fit local (knows_fit local fit) layout id (first_number local.start) kind.Next local.start empty_piece
+    requests_fit local (knows_fit local fit) (is_read call_kind) layout id (first_number local.start) kind.Next local.start empty_piece
     (subst (λ (l : Option Layout). IfSome l IsFitLayout) known (known_fit local fit local.start)) small fit.start
     (known_small local fit local.start layout known) tt refl (λ m within. tt)
 
@@ -90,7 +90,7 @@ moved_sent local id layout fit small lawful = go (layout_here next last) refl
         AllByRecursion IsFitLetter (begun_here next id calls.Move (first_stage calls.Move last) (kind.Spread status.Pending) 1 last o).sent
     go None known = tt
     go (Some there) known =
-        requests_fit next knows there id 1 (kind.Spread status.Pending) last empty_piece
+        requests_fit next knows false there id 1 (kind.Spread status.Pending) last empty_piece
         (subst (λ (l : Option Layout). IfSome l IsFitLayout) known (knows.layouts last)) small (omega arith) (last_small local fit) tt
         (heard_known local (suc last) layout) (λ m within. tt)
 

@@ -11,15 +11,17 @@ use Rattle.frames.specs.Frame.{IsShort}
 use Rattle.frames.specs.declared.limits.TheConstants.{LONGEST_STRING}
 use Rattle.layout.specs.Layout.{IsLawful, Layout}
 use Rattle.letter.specs.declared.start.Start.{Start}
+use Rattle.letter.specs.declared.telling.Telling.{Telling}
 use Rattle.mail.specs.Message.{body_bytes}
 use Rattle.mail.specs.declared.message.Body.{Body}
 use Rattle.mail.specs.declared.message.Body.TheVariants as body
-use Rattle.node_messages.specs.Head.{layout_bytes, next_bytes, number_bytes, said_of, start_bytes}
-use Rattle.node_messages.specs.Message.{IsMessage, IsStart}
-use Rattle.node_messages.specs.Strings.{answer_piece, body_piece, piece_strings, strings_of}
+use Rattle.node_messages.specs.Head.{layout_bytes, next_bytes, numbers_of, start_bytes}
+use Rattle.node_messages.specs.Message.{IsMessage, IsPiece, IsStart, IsTelling}
+use Rattle.node_messages.specs.Strings.{answer_piece, body_piece, piece_strings, strings_of, told_piece}
 use Rattle.node_messages.proofs.MessageLemmas.{message_ok}
 use Rattle.node_strings.specs.Strings.{Strings}
-use Rattle.fitting.specs.Letters.{IsFitLayout, IsFitStart}
+use Rattle.piece.specs.declared.piece.Piece.{Piece}
+use Rattle.fitting.specs.Letters.{IsFitLayout, IsFitPiece, IsFitStart, IsFitTelling}
 use Rattle.fitting.specs.Reading.{IsOfBytes, ReadLettersAreFit}
 
 all_behind : {X : Type 0} (P : X → Type 0) (xs ys : List X) → AllByRecursion P (xs ++ ys) → AllByRecursion P ys
@@ -61,13 +63,24 @@ body_short (body.Reply k made) short = go made.answer short
     go (answer.Piece None) short = omega arith
     go (answer.Piece (Some piece)) short = short.0
 
+-- what is told fits, if the piece in it is a string
+told_fit : (o : Option Telling) → IfSome o IsTelling → AllByRecursion IsShort (piece_strings (told_piece o)) → IfSome o IsFitTelling
+told_fit None is short = tt
+told_fit (Some telling) is short = record { greatest = is.0; piece = go telling.piece is.1 short }
+  where
+    go : (o : Option Piece) → IfSome o IsPiece → AllByRecursion IsShort (piece_strings o) → IfSome o IsFitPiece
+    go None is short = tt
+    go (Some piece) is short = record { numbers = is; bytes = short.0 }
+
 pub read_fit : ReadLettersAreFit
 read_fit strings m read short bytes =
     let ok = message_ok strings m read in
     let is : IsMessage m = ok.0 in
     let all : AllByRecursion IsOfBytes (strings_of m) = subst (λ (ss : Strings). AllByRecursion IsOfBytes ss) ok.1 bytes in
     let few : AllByRecursion IsShort (strings_of m) = subst (λ (ss : Strings). AllByRecursion IsShort ss) ok.1 short in
-    let numbers = number_bytes m.named.letter.message (said_of m.named.letter.message.body) in
+    let numbers = numbers_of m.named.letter in
+    let own = piece_strings (body_piece m.named.letter.message.body) in
+    let told = piece_strings (told_piece m.named.letter.told) in
     let layout = layout_bytes m.named.letter.layout in
     let next = next_bytes m.named.letter.next in
     let start = start_bytes m.named.letter.start in
@@ -86,6 +99,8 @@ read_fit strings m read short bytes =
         named = is.named;
         next = next_fit m.named.letter.next is.next (all_front (λ byte. byte < 2 ^ 8) next start last);
         start = start_fit m.named.letter.start is.start (all_behind (λ byte. byte < 2 ^ 8) next start last);
-        short = body_short m.named.letter.message.body few.1.1;
+        short = body_short m.named.letter.message.body (all_front IsShort own told few.1.1);
+        role = is.role;
+        told = told_fit m.named.letter.told is.told (all_behind IsShort own told few.1.1);
       },
     )

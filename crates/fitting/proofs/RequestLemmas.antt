@@ -1,6 +1,6 @@
 -- The letters of a phase are fit.
-use Rattle.std.proofs.Common.{◌≡◌, ℕ, suc, ◌+◌, ◌/◌, ◌%◌, ◌<◌, ◌≤◌, ◌^◌, true, List, [], ◌∷◌, length, map, min, Option, IsSome, leb-true}
-use Rattle.std.proofs.Common.{refl, arith}
+use Rattle.std.proofs.Common.{◌≡◌, ℕ, suc, ◌+◌, ◌/◌, ◌%◌, ◌<◌, ◌≤◌, ◌^◌, Bool, true, List, [], ◌∷◌, length, map, min, Option, IsSome}
+use Rattle.std.proofs.Common.{leb-true, refl, arith}
 use Rattle.std.specs.List.{AllByRecursion}
 use Rattle.std.specs.Prelude.{IfSome, is_some}
 use Rattle.std.proofs.Math.Nat.{div-le_self, min-le_left}
@@ -99,12 +99,12 @@ module _ (local : LocalObject) (fit : KnowsFit local) where
   next_fit (kind.Finalize tag) q piece = tt
   next_fit (kind.Fetch tag) q piece = tt
 
-  module _ (layout : Layout) (call number : ℕ) (k : Kind) (q : ℕ) (piece : ℕ → Piece) (lawful : IsFitLayout layout)
+  module _ (asks : Bool) (layout : Layout) (call number : ℕ) (k : Kind) (q : ℕ) (piece : ℕ → Piece) (lawful : IsFitLayout layout)
       (call_small : call < 2 ^ 64) (number_small : number < 2 ^ 32) (position_small : q < 2 ^ 32) (tag : IsKind k)
       (known : knows_next local.places k q ≡ true)
       (pieces : (m : ℕ) → m < length layout.members → IsFitFor k (piece m)) where
     some_fit : (members : List ℕ) (member : ℕ) → member + length members ≤ length layout.members →
-        AllByRecursion IsFitLetter (map (letter_of local layout) (requests call number k q members member piece))
+        AllByRecursion IsFitLetter (map (letter_of local asks layout) (requests call number k q members member piece))
     some_fit [] member few = tt
     some_fit (server ∷ servers) member few =
         let within : member < length layout.members = omega (arith, few) in
@@ -120,12 +120,14 @@ module _ (local : LocalObject) (fit : KnowsFit local) where
             next = next_fit k q (piece member);
             start = starts_fit local fit;
             short = request_short k (piece member) fits;
+            role = refl;
+            told = tt;
           },
           some_fit servers (suc member) (omega (arith, few)),
         )
 
     -- the letters to all members
-    pub requests_fit : AllByRecursion IsFitLetter (map (letter_of local layout) (requests call number k q layout.members 0 piece))
+    pub requests_fit : AllByRecursion IsFitLetter (map (letter_of local asks layout) (requests call number k q layout.members 0 piece))
     requests_fit = some_fit layout.members 0 (omega arith)
 
 -- Pieces

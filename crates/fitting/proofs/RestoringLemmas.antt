@@ -135,6 +135,8 @@ module _ (local : LocalObject) (fit : IsFitObject local) where
     next = asked_lawful asked (layout_here local (suc place.position)) (known_fit local fit (suc place.position));
     start = starts_fit local (knows_fit local fit);
     short = fits.1;
+    role = refl;
+    told = tt;
   }
 
   some_fit : (place : Place) → IsFitPlace local.places place → (member : ℕ) → member < length place.layout.members →

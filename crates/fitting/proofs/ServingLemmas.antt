@@ -5,9 +5,6 @@ use Rattle.std.specs.List.{AllByRecursion}
 use Rattle.std.specs.Prelude.{IfSome, is_some}
 use Rattle.bank.specs.Bank.{Bank, opened_bank}
 use Rattle.bank.specs.Pointer.{raised, status_of}
-use Rattle.bank.specs.Serve.{answer_to, kind_of, reply_to}
-use Rattle.bank.specs.declared.reply.Answer.{Answer}
-use Rattle.bank.specs.declared.reply.Answer.TheVariants as answer
 use Rattle.bank.specs.declared.reply.Reply.{Reply}
 use Rattle.bank.specs.declared.request.Request.{Request}
 use Rattle.bank.specs.declared.request.Request.TheVariants as request
@@ -15,29 +12,30 @@ use Rattle.bank.specs.declared.status.Pointer.{Pointer}
 use Rattle.bank.specs.declared.status.Pointer.TheVariants as pointer
 use Rattle.bank.specs.declared.status.Status.{Status}
 use Rattle.bank.specs.declared.status.Status.TheVariants as status
-use Rattle.closed_bank.specs.ClosedBank.{ClosedBank}
-use Rattle.closed_bank.specs.Serve.{closed_after, closed_reply}
+use Rattle.closed_bank.specs.Serve.{closed_after}
 use Rattle.frames.specs.declared.limits.TheConstants.{LONGEST_STRING}
-use Rattle.layout.specs.Layout.{Layout}
 use Rattle.letter.specs.declared.letter.Letter.{Letter}
+use Rattle.letter.specs.declared.telling.Telling.{Telling}
 use Rattle.local_object.specs.ChangedBanks.{bank_after, changes_bank, kept_after, kept_bank}
 use Rattle.local_object.specs.Events.{handled_here, reply_letters, served_here}
 use Rattle.local_object.specs.KeptBanks.{kept_reply}
-use Rattle.local_object.specs.Local.{LocalObject, bank_here, bank_in, bank_or_opened, heard_place, layout_here}
-use Rattle.local_object.specs.Outcomes.{learnt_from, letter_of, next_in_answer}
+use Rattle.local_object.specs.Local.{LocalObject, bank_here, bank_in, bank_or_opened, heard_place, layout_here, with_bank_here}
+use Rattle.local_object.specs.Outcomes.{learnt_from, letter_of}
+use Rattle.local_object.specs.Reports.{told_by}
 use Rattle.local_object.specs.declared.kept_bank.KeptBank.{KeptBank}
 use Rattle.local_object.specs.declared.kept_bank.KeptBank.TheVariants as kept
-use Rattle.mail.specs.Message.{answer_names_next, answered, body_bytes, body_kind, names_next, request_names_next, status_names_next}
+use Rattle.mail.specs.Message.{answered, body_bytes, body_kind, names_next, request_names_next, status_names_next}
 use Rattle.mail.specs.declared.message.Body.{Body}
 use Rattle.mail.specs.declared.message.Body.TheVariants as body
 use Rattle.node_messages.specs.Message.{IsBody, IsKind, IsRequest, IsTag, is_answer_to}
 use Rattle.tag.specs.declared.limits.TheConstants.{MOST_MEMBERS}
-use Rattle.fitting.specs.Letters.{IsFitLayout, IsFitLetter}
-use Rattle.fitting.specs.Objects.{IsFitBank, IsFitKept, IsFitObject, kept_status, says_next}
-use Rattle.fitting.proofs.BankLemmas.{IsFitAnswer, IsFitRequest, after_fit, answer_fit, later_fit, opened_fit}
+use Rattle.fitting.specs.Letters.{IsFitLetter, IsFitTelling}
+use Rattle.fitting.specs.Objects.{IsFitKept, IsFitObject, kept_status, says_next}
+use Rattle.fitting.proofs.BankLemmas.{IsFitRequest, after_fit, later_fit, opened_fit}
 use Rattle.fitting.proofs.PlaceLemmas.{learnt_fit, learnt_next, put_fit}
 use Rattle.fitting.proofs.KnownLemmas.{known_fit, place_bank, says_known}
-use Rattle.fitting.proofs.RequestLemmas.{knows_fit, pointed_fit, pointed_there, starts_fit}
+use Rattle.fitting.proofs.ReplyLemmas.{IsFitReply, answer_lawful, answer_next, kind_fit, reply_fit, told_fit}
+use Rattle.fitting.proofs.RequestLemmas.{knows_fit, starts_fit}
 use Rattle.fitting.proofs.CallLemmas.{IsFitOutcome}
 
 -- Requests that are served
@@ -103,63 +101,6 @@ module _ (member : ℕ) (delta : Option ℕ) (small : member < 2 ^ 8) (asked : R
   here_says None e = absurd (cc)
   here_says (Some bank) e = e
 
--- the answer to a request fits, and it says that there is a next position only if the bank does
-record IsFitReply (asked : Request) (says : Bool) (made : Reply) : Type 0 where
-  step : made.step < 2 ^ 64
-  fit : IsFitAnswer asked made.answer
-  next : answer_names_next made.answer ≡ true → says ≡ true
-
-open_reply : (bank : Bank) (asked : Request) → IsFitBank bank →
-    IsFitReply asked (status_names_next (status_of bank.pointer)) (reply_to bank asked 0)
-open_reply bank asked fit = record { step = omega arith; fit = answer_fit bank asked fit; next = go asked }
-  where
-    go : (q : Request) → answer_names_next (answer_to bank q) ≡ true → status_names_next (status_of bank.pointer) ≡ true
-    go request.Next e = e
-    go (request.Spread said) e = absurd (cc)
-    go request.Query e = absurd (cc)
-    go (request.PreWrite tag piece) e = absurd (cc)
-    go (request.Finalize tag) e = absurd (cc)
-    go (request.Fetch tag) e = absurd (cc)
-
-closed_fit : (closed : ClosedBank) (asked : Request) → IsTag closed.greatest → IfSome (closed_reply closed asked 0) (IsFitReply asked true)
-closed_fit closed request.Next fit =
-    record { step = omega arith; fit = record { numbers = tt; answers = refl; short = omega arith }; next = λ e. refl }
-closed_fit closed (request.Spread said) fit =
-    record { step = omega arith; fit = record { numbers = tt; answers = refl; short = omega arith }; next = λ e. refl }
-closed_fit closed request.Query fit =
-    record { step = omega arith; fit = record { numbers = fit; answers = refl; short = omega arith }; next = λ e. refl }
-closed_fit closed (request.PreWrite tag piece) fit =
-    record { step = omega arith; fit = record { numbers = tt; answers = refl; short = omega arith }; next = λ e. refl }
-closed_fit closed (request.Finalize tag) fit =
-    record { step = omega arith; fit = record { numbers = tt; answers = refl; short = omega arith }; next = λ e. refl }
-closed_fit closed (request.Fetch tag) fit = tt
-
-reply_fit : (bank : KeptBank) (asked : Request) → IsFitKept bank →
-    IfSome (kept_reply bank asked) (IsFitReply asked (status_names_next (kept_status bank)))
-reply_fit (kept.Open bank) asked fit = open_reply bank asked fit
-reply_fit (kept.Closed closed) asked fit = closed_fit closed asked fit
-
-kind_fit : (asked : Request) → IsRequest asked → IsKind (kind_of asked)
-kind_fit request.Next is = tt
-kind_fit (request.Spread said) is = tt
-kind_fit request.Query is = tt
-kind_fit (request.PreWrite tag piece) is = is.0
-kind_fit (request.Finalize tag) is = is
-kind_fit (request.Fetch tag) is = is
-
-answer_next : (made : Answer) (o : Option Layout) → (answer_names_next made ≡ true → IsSome o) →
-    is_some (next_in_answer made o) ≡ answer_names_next made
-answer_next answer.Done o known = refl
-answer_next (answer.Pointer said) o known = pointed_there said o known
-answer_next (answer.Greatest tag) o known = refl
-answer_next (answer.Piece piece) o known = refl
-
-answer_lawful : (made : Answer) (o : Option Layout) → IfSome o IsFitLayout → IfSome (next_in_answer made o) IsFitLayout
-answer_lawful answer.Done o fit = tt
-answer_lawful (answer.Pointer said) o fit = pointed_fit said o fit
-answer_lawful (answer.Greatest tag) o fit = tt
-answer_lawful (answer.Piece piece) o fit = tt
-
 module _ (local : LocalObject) (letter : Letter) (asked : Request) (here : letter.message.body ≡ body.Request asked)
     (room : suc letter.message.position < 2 ^ 32) (is : IsFitLetter letter) (fit : IsFitObject local) where
   abbrev heard : LocalObject
@@ -197,9 +138,10 @@ module _ (local : LocalObject) (letter : Letter) (asked : Request) (here : lette
   known_next (inl says) = says_known heard heard_is q says
   known_next (inr names) = told_next names
 
-  letter_fit : (made : Reply) → IsFitReply asked (status_names_next (kept_status (bank_or_opened old member heard.delta))) made →
-      IsFitLetter (letter_of heard letter.layout (answered letter.message made))
-  letter_fit made fits = record {
+  letter_fit : (told : Option Telling) → IfSome told IsFitTelling → (made : Reply) →
+      IsFitReply asked (status_names_next (kept_status (bank_or_opened old member heard.delta))) made →
+      IsFitLetter (record (letter_of heard false letter.layout (answered letter.message made)) { told = told })
+  letter_fit told telling made fits = record {
     layout = is.layout;
     call = is.call;
     phase = is.phase;
@@ -216,21 +158,38 @@ module _ (local : LocalObject) (letter : Letter) (asked : Request) (here : lette
     next = answer_lawful made.answer (layout_here heard (suc q)) (known_fit heard heard_is (suc q));
     start = starts_fit heard (knows_fit heard heard_is);
     short = fits.fit.short;
+    role = refl;
+    told = telling;
   }
 
-  replies_fit : (o : Option Reply) →
+  replies_fit : (told : Option Telling) → IfSome told IsFitTelling → (o : Option Reply) →
       IfSome o (IsFitReply asked (status_names_next (kept_status (bank_or_opened old member heard.delta)))) →
-      AllByRecursion IsFitLetter (reply_letters heard letter o)
-  replies_fit None fits = tt
-  replies_fit (Some made) fits = (letter_fit made fits, tt)
+      AllByRecursion IsFitLetter (reply_letters heard letter told o)
+  replies_fit told telling None fits = tt
+  replies_fit told telling (Some made) fits = (letter_fit told telling made fits, tt)
+
+  -- what the node keeps after it served the request
+  abbrev after : LocalObject
+  after = record heard { places = with_bank_here heard.places q (kept_bank old member heard.delta asked) }
+
+  after_is : IsFitObject after
+  after_is =
+      put_fit heard q (kept_bank old member heard.delta asked)
+      (bank_fit member heard.delta member_small asked asked_fit old (place_bank heard heard_is q))
+      (λ says. known_next (new_says member heard.delta member_small asked asked_fit old says)) heard_is
+
+  -- what the reply tells is what the bank is then
+  telling_fit : IfSome (told_by (bank_here after q member) letter.asks_piece) IsFitTelling
+  telling_fit =
+      told_fit (bank_here after q member) letter.asks_piece
+      (here_fit member heard.delta member_small asked asked_fit (bank_in (heard_place after.places q)) (place_bank after after_is q))
 
   handled_fit : IsFitOutcome (handled_here heard letter asked)
   handled_fit =
       let kept_is = place_bank heard heard_is q in record {
-        local = put_fit heard q (kept_bank old member heard.delta asked)
-            (bank_fit member heard.delta member_small asked asked_fit old kept_is)
-            (λ says. known_next (new_says member heard.delta member_small asked asked_fit old says)) heard_is;
-        sent = replies_fit (kept_reply (bank_here heard q member) asked)
+        local = after_is;
+        sent = replies_fit (told_by (bank_here after q member) letter.asks_piece) telling_fit
+            (kept_reply (bank_here heard q member) asked)
             (reply_fit (bank_or_opened old member heard.delta) asked
             (here_fit member heard.delta member_small asked asked_fit old kept_is));
       }

@@ -1,7 +1,7 @@
 -- The contracts that docs/trusted.md lists do not depend on this file; other contracts and proofs do.
 -- Which events at an object leave it fit: those whose numbers are within their bits, and whose letters and values fit.
 -- What a node does has room if the letters that come to it are fit.
-use Rattle.std.specs.Prelude.{◌≡◌, ◌<◌, ◌^◌, ℕ, suc, true, List, [], ◌∷◌, Some, IsSome}
+use Rattle.std.specs.Prelude.{◌≡◌, ◌<◌, ◌^◌, ℕ, suc, true, List, [], ◌∷◌, Some, IfSome, IsSome}
 use Rattle.bank.specs.declared.kind.Kind.{Kind}
 use Rattle.encoder.specs.Fragment.{fragment}
 use Rattle.local_object.specs.Coding.{is_sendable}
@@ -46,6 +46,7 @@ HasRoom local (LocalEvent.ReadOn id) =
 HasRoom local (LocalEvent.BeginAnew id) =
     (call : NodeCall) → open_call local.calls id ≡ Some call → anew_number call local.start < 2 ^ 32
 HasRoom local (LocalEvent.Raise position) = IsSome (layout_here local (suc position))
+HasRoom local (LocalEvent.EndEarly id value) = IfSome value IsShortValue
 
 -- each of these events has room, one after another
 abbrev pub HaveRoom : LocalObject → List LocalEvent → Type 0

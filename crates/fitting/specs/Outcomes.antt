@@ -11,8 +11,8 @@ use Rattle.local_object.specs.Events.{LocalEvent, done_here}
 use Rattle.local_object.specs.Local.{LocalObject, with_heard}
 use Rattle.local_object.specs.Passed.{raise_events}
 use Rattle.local_object.specs.ReadingOn.{read_on_events}
+use Rattle.local_object.specs.Replies.{IsReplyOutcome}
 use Rattle.local_object.specs.Resent.{letters_again}
-use Rattle.local_object.specs.Taking.{IsReplyOutcome}
 use Rattle.local_object.specs.declared.progress.Ended.{Ended}
 use Rattle.fitting.specs.Calls.{IsShortValue}
 use Rattle.fitting.specs.Letters.{IsFitLayout, IsFitLetter}

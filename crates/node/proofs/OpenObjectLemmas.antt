@@ -18,7 +18,7 @@ use Rattle.open_calls.proofs.ListLemmas.{all_append}
 use Rattle.open_calls.proofs.OpenCallLemmas.{found}
 use Rattle.local_object.specs.Doing.{can_close, close_events, has_move_open, is_askable, is_move_call, is_sent_back}
 use Rattle.local_object.specs.Doing.{is_served, serve_events, stray_events}
-use Rattle.local_object.specs.Events.{LocalEvent, advanced_at, advanced_here, all_done, done_here, served_here}
+use Rattle.local_object.specs.Events.{LocalEvent, advanced_at, advanced_here, all_done, done_here, served_here, taking_here}
 use Rattle.local_object.specs.Outcomes.{Outcome, begun_here, learnt_from, on_open_call, silent}
 use Rattle.local_object.specs.Starting.{anew_number, reads_at, reads_here}
 use Rattle.local_object.specs.Local.{LocalObject, last_position, layout_here, with_heard}
@@ -190,7 +190,7 @@ take_keeps local letter =
     keeps_then local heard (done_here fragment local (LocalEvent.Take letter)).local
     (same_keeps local heard (calls_heard local letter))
     (on_open_keeps heard letter.message.call
-    (λ call. silent (record heard { calls = with_open (taking_open letter.message call) heard.calls }))
+    (λ call. silent (taking_here heard call letter.message letter.told))
     (λ call move. with_keeps heard (taking_open letter.message call) move))
 
 served_keeps : (local : LocalObject) (letter : Letter) (b : Body) → KeepsOpen local (served_here local letter b).local

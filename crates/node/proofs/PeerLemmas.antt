@@ -55,7 +55,7 @@ pub admitted_is_own : (keeper : Keeper) (sender : ℕ) (message : NodeMessage) �
     is_foreign keeper message ≡ false
 admitted_is_own keeper sender message is =
     let from = is_from_cluster keeper sender message in
-    let is_from = (and_parts from (has_low_tags message.named.letter.message.body) is).0 in
+    let is_from = (and_parts from (has_low_tags message.named.letter) is).0 in
     let known = has keeper.file.fixed.nodes sender || has keeper.file.later sender in
     ap not (and_parts known (bytes_eq message.digest keeper.digest) is_from).1
 

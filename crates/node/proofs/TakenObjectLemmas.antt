@@ -9,16 +9,18 @@ use Rattle.encoder.specs.Fragment.{fragment}
 use Rattle.letter.specs.declared.letter.Letter.{Letter}
 use Rattle.record.specs.Legal.{is_move}
 use Rattle.open_calls.specs.OpenCalls.{NodeCall, open_call}
-use Rattle.open_calls.proofs.OpenCallLemmas.{all_filter}
+use Rattle.open_calls.proofs.OpenCallLemmas.{all_filter, found}
 use Rattle.local_object.specs.declared.progress.Ended.{Ended}
 use Rattle.local_object.specs.Doing.{is_taken}
 use Rattle.local_object.specs.Ended.{all_told, told_if}
 use Rattle.local_object.specs.Events.{LocalEvent, all_done, done_here}
 use Rattle.local_object.specs.Going.{next_if}
 use Rattle.local_object.specs.Local.{LocalObject}
-use Rattle.local_object.specs.Taking.{AreSettling, IsReplyOutcome, begin_anew_events, begin_events, call_events, can_begin}
+use Rattle.local_object.specs.Replies.{IsReplyOutcome}
+use Rattle.local_object.specs.Taking.{AreSettling, begin_anew_events, begin_events, call_events, can_begin}
 use Rattle.local_object.specs.Taking.{can_begin_anew, going_events, grows_by, is_read_begin, lead_events, machine_of, repeats}
 use Rattle.local_object.specs.Taking.{restart_events, step_events}
+use Rattle.recoveries.proofs.EarlyMoveLemmas.{no_early_move}
 use Rattle.recoveries.proofs.KeptCallLemmas.{found_id}
 use Rattle.recoveries.proofs.TakenReplyLemmas.{gone_on, taken_to}
 use Rattle.node_keeper.specs.Delivering.{first_id}
@@ -144,7 +146,13 @@ take_ends old letter new sent ended taken all = go (is_taken old letter) taken
     go false none =
         subst (λ (l : LocalObject). HasOnlyMoves l × EndsOpen old (first_id ended) l) (sym none.done.local)
         (all, subst (λ (es : List Ended). EndsOpen old (first_id es) old) (sym none.told) (λ id. refl))
-    go true gone =
+    go true (inl early) =
+        let kept = take_keeps old letter all in
+        let first = (done_here fragment old (LocalEvent.Take letter)).local in
+        let call = found (λ (call : NodeCall). is_move call.kind ≡ true) first.calls letter.message.call early.can.call kept.0
+        early.can.carried in
+        absurd (no_early_move first letter.message.call early.can.call early.can.carried call.0 early.returned early.can)
+    go true (inr gone) =
         let id = letter.message.call in
         let again = repeats old letter in
         let first = (done_here fragment old (LocalEvent.Take letter)).local in

@@ -25,7 +25,7 @@ is_from_cluster keeper sender message =
 -- whether a message comes from the cluster, and has no tag whose number is above the limit
 abbrev pub is_admitted : Keeper → (sender : ℕ) → NodeMessage → Bool
 is_admitted keeper sender message =
-    is_from_cluster keeper sender message && has_low_tags message.named.letter.message.body
+    is_from_cluster keeper sender message && has_low_tags message.named.letter
 
 -- the letter of a message from the node of this number, if the message is admitted and the node heeds it
 abbrev pub letter_from : Keeper → (sender : ℕ) → NodeMessage → List Named

@@ -1,5 +1,5 @@
 -- Calls that ask all nodes: where the request goes, and that the node may send it.
-use Rattle.std.proofs.Common.{◌≡◌, ℕ, suc, Bool, true, false, cond, List, [], ◌∷◌, ◌++◌, map}
+use Rattle.std.proofs.Common.{◌≡◌, ◌&&◌, ℕ, suc, Bool, true, false, cond, List, [], ◌∷◌, ◌++◌, map}
 use Rattle.std.proofs.Common.{Option, None, Some, eq-eqb, refl, sym, subst, ap, ◌∙◌, slice_get}
 use Rattle.std.specs.Prelude.{IfSome}
 use Rattle.std.proofs.lemmas.List.{append-nil}
@@ -15,13 +15,16 @@ use Rattle.mail.specs.declared.message.Body.TheVariants as body
 use Rattle.mail.specs.declared.message.Message.{Message}
 use Rattle.piece.specs.declared.piece.Piece.{Piece}
 use Rattle.record.specs.Sending.{requests}
+use Rattle.record.specs.declared.call.CallKind.{CallKind}
+use Rattle.record.specs.declared.stage.Stage.TheVariants.{ReadNext}
 use Rattle.open_calls.specs.OpenCalls.{NodeCall, open_call}
 use Rattle.open_calls.proofs.OpenCallLemmas.{found_with}
-use Rattle.local_object.specs.Events.{LocalEvent, all_done}
+use Rattle.local_object.specs.Events.{LocalEvent, all_done, pieces_here}
 use Rattle.local_object.specs.Local.{LocalObject, layout_here}
-use Rattle.local_object.specs.Outcomes.{letter_of, on_open_call}
+use Rattle.local_object.specs.Outcomes.{is_read, letter_of, on_open_call}
 use Rattle.local_object.specs.ReadingOn.{reads_on}
 use Rattle.local_object.specs.Resent.{IsResent, letters_again}
+use Rattle.local_object.specs.Sent.{asks_piece}
 use Rattle.local_object.specs.Starting.{number_at, reading_call, reads_at, reads_here}
 use Rattle.local_object.proofs.ResentLemmas.{all_resent}
 use Rattle.deeds.specs.CallId.{CallIds}
@@ -82,6 +85,14 @@ same_requests call number position (server ∷ servers) member f g =
       body = body.Request request.Next;
     } ∷ ms) (same_requests call number position servers (suc member) f g)
 
+-- as a call that begins at a position sends its requests again, they ask for pieces just if it is a read
+pub asks_at : (kind : CallKind) (position : ℕ) → asks_piece kind (ReadNext position position) ≡ is_read kind
+asks_at kind position = ap (λ b. is_read kind && b) (eq-eqb position position refl) ∙ go (is_read kind)
+  where
+    go : (b : Bool) → (b && true) ≡ b
+    go true = refl
+    go false = refl
+
 module _ (local : LocalObject) (id : ℕ) where
   -- the first request of a call that goes on belongs to its new phase
   read_first : (call : NodeCall) (layout : Layout) → open_call local.calls id ≡ Some call →
@@ -99,7 +110,10 @@ module _ (local : LocalObject) (id : ℕ) where
         layout = layout;
         known = known;
         place = 0;
-        at = ap (λ (ms : List Message). slice_get (map (letter_of local layout) ms) 0)
+        at = ap (λ b. slice_get (map (letter_of local b layout)
+            (requests call.id number Next local.start layout.members 0 (pieces_here fragment layout now))) 0)
+            (asks_at call.kind local.start)
+            ∙ ap (λ (ms : List Message). slice_get (map (letter_of local (is_read call.kind) layout) ms) 0)
             (same_requests call.id number local.start layout.members 0 _ _) ∙ ap (λ (ls : List Letter). slice_get ls 0) is;
       }
 

@@ -17,7 +17,7 @@ use Rattle.record.specs.Steps.{new_phase}
 use Rattle.record.specs.declared.call.CallKind.TheVariants.{Read}
 use Rattle.record.specs.declared.stage.Stage.TheVariants.{ReadNext}
 use Rattle.local_object.specs.Doing.{read_refusal}
-use Rattle.local_object.specs.Events.{LocalEvent, done_here}
+use Rattle.local_object.specs.Events.{LocalEvent, done_here, pieces_here}
 use Rattle.local_object.specs.Local.{LocalObject, layout_here}
 use Rattle.local_object.specs.Outcomes.{letter_of}
 use Rattle.local_object.specs.Resent.{IsResent}
@@ -30,15 +30,16 @@ use Rattle.node_keeper.specs.Objects.{objects_of}
 use Rattle.node_keeper.specs.Resending.{first_for_all}
 use Rattle.node_keeper.specs.Sendings.{asks_next}
 use Rattle.node_keeper.specs.declared.objects.Objects.{Objects}
-use Rattle.node_keeper.proofs.AskedAllLemmas.{first_is, same_requests}
+use Rattle.node_keeper.proofs.AskedAllLemmas.{asks_at, first_is, same_requests}
 
 -- requests for the next position
-all_next : (local : LocalObject) (layout : Layout) (call number position : ℕ) (members : List ℕ) (member : ℕ) (f : ℕ → Piece) →
+all_next : (local : LocalObject) (asks : Bool) (layout : Layout) (call number position : ℕ) (members : List ℕ) (member : ℕ)
+    (f : ℕ → Piece) →
     AllByRecursion (λ letter. asks_next letter.message.body ≡ true)
-    (map (letter_of local layout) (requests call number Next position members member f))
-all_next local layout call number position [] member f = tt
-all_next local layout call number position (server ∷ servers) member f =
-    (refl, all_next local layout call number position servers (suc member) f)
+    (map (letter_of local asks layout) (requests call number Next position members member f))
+all_next local asks layout call number position [] member f = tt
+all_next local asks layout call number position (server ∷ servers) member f =
+    (refl, all_next local asks layout call number position servers (suc member) f)
 
 -- the requests with which a read begins ask for the next position
 pub reads_ask : ReadsAskNext
@@ -47,7 +48,7 @@ reads_ask local id = go (layout_here local local.start)
     go : (o : Option Layout) →
         AllByRecursion (λ letter. asks_next letter.message.body ≡ true) (called_at local id Read local.start o).sent
     go None = tt
-    go (Some layout) = all_next local layout id (first_number local.start) local.start layout.members 0 empty_piece
+    go (Some layout) = all_next local true layout id (first_number local.start) local.start layout.members 0 empty_piece
 
 -- a call with a new id is found once it is open
 found_new : (calls : List NodeCall) (new : NodeCall) → open_call calls new.id ≡ None → open_call (calls ++ new ∷ []) new.id ≡ Some new
@@ -81,7 +82,10 @@ module _ (local : LocalObject) (id : ℕ) (free : open_call local.calls id ≡ N
         layout = layout;
         known = known;
         place = 0;
-        at = ap (λ (ms : List Message). slice_get (map (letter_of local layout) ms) 0)
+        at = ap (λ b. slice_get (map (letter_of local b layout)
+            (requests id number Next local.start layout.members 0 (pieces_here fragment layout call))) 0)
+            (asks_at Read local.start)
+            ∙ ap (λ (ms : List Message). slice_get (map (letter_of local true layout) ms) 0)
             (same_requests id number local.start layout.members 0 _ _) ∙ ap (λ (ls : List Letter). slice_get ls 0) is;
       }
 

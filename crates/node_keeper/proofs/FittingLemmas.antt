@@ -79,6 +79,7 @@ message_written m is frame =
       member,
       fits_kind m.named.letter.message.body is.body,
       same_bools (is_some m.named.letter.next) (names_next m.named.letter.message.body) is.named,
+      is.role,
       frame_again (strings_of m) frame,
     ) refl
 

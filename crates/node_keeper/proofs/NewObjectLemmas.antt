@@ -9,7 +9,7 @@ use Rattle.local_object.specs.declared.progress.Ended.{Ended}
 use Rattle.local_object.specs.Doing.{is_taken}
 use Rattle.local_object.specs.Going.{IsSomeOutcome}
 use Rattle.local_object.specs.Local.{LocalObject, new_local}
-use Rattle.local_object.specs.Taking.{IsReplyOutcome}
+use Rattle.local_object.specs.Replies.{IsReplyOutcome}
 use Rattle.node_keeper.specs.Doing.{IsReplyOutcomeAt}
 use Rattle.node_keeper.specs.NewObjects.{IsToldIfNew}
 use Rattle.node_keeper.specs.Objects.{IsChangedAt, first_layout_of, objects_of}

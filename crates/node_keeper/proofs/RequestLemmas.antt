@@ -21,15 +21,17 @@ use Rattle.record.specs.Legal.{first_stage}
 use Rattle.record.specs.Sending.{requests}
 use Rattle.letter.specs.declared.letter.Letter.{Letter}
 use Rattle.letter.specs.declared.start.Start.{Start}
+use Rattle.letter.specs.declared.telling.Telling.{Telling}
 use Rattle.mail.specs.Message.{is_request}
 use Rattle.local_object.specs.Doing.{IsOutcome, is_askable, is_sent_back, is_served, serve_events, stray_events}
 use Rattle.local_object.specs.Events.{LocalEvent, advanced_at, advanced_here, all_done, called_here, done_here}
 use Rattle.local_object.specs.Events.{pieces_here, reply_letters, served_here}
-use Rattle.local_object.specs.Outcomes.{begun_here, learnt_from, letter_of, on_open_call, silent}
+use Rattle.local_object.specs.Outcomes.{begun_here, is_read, learnt_from, letter_of, on_open_call, silent}
 use Rattle.local_object.specs.Starting.{anew_number, first_number, number_at, reads_at, reads_here}
 use Rattle.local_object.specs.KeptBanks.{kept_reply}
 use Rattle.local_object.specs.Local.{LocalObject, bank_here, last_position, layout_here, with_heard}
 use Rattle.local_object.specs.Resent.{IsResent, current_letters}
+use Rattle.local_object.specs.Sent.{asks_piece}
 use Rattle.deeds.specs.Ids.{begun_id}
 use Rattle.open_calls.proofs.ListLemmas.{all_append, all_weaker}
 
@@ -47,18 +49,18 @@ ServesNone (LocalEvent.Serve letter) = ⊥
 ServesNone (LocalEvent.Redirect letter) = ⊥
 ServesNone event = Unit {0}
 
-requests_ask : (local : LocalObject) (layout : Layout) (call number : ℕ) (kind : Kind) (position : ℕ) (members : List ℕ)
+requests_ask : (local : LocalObject) (asks : Bool) (layout : Layout) (call number : ℕ) (kind : Kind) (position : ℕ) (members : List ℕ)
     (member : ℕ) (piece : ℕ → Piece) →
-    AllByRecursion Asks (map (letter_of local layout) (requests call number kind position members member piece))
-requests_ask local layout call number kind position [] member piece = tt
-requests_ask local layout call number kind position (server ∷ servers) member piece =
-    (refl, requests_ask local layout call number kind position servers (suc member) piece)
+    AllByRecursion Asks (map (letter_of local asks layout) (requests call number kind position members member piece))
+requests_ask local asks layout call number kind position [] member piece = tt
+requests_ask local asks layout call number kind position (server ∷ servers) member piece =
+    (refl, requests_ask local asks layout call number kind position servers (suc member) piece)
 
 begun_asks : (local : LocalObject) (id : ℕ) (call_kind : CallKind) (stage : Stage) (kind : Kind) (number position : ℕ)
     (layout : Option Layout) → AllByRecursion Asks (begun_here local id call_kind stage kind number position layout).sent
 begun_asks local id call_kind stage kind number position None = tt
 begun_asks local id call_kind stage kind number position (Some layout) =
-    requests_ask local layout id number kind position layout.members 0 empty_piece
+    requests_ask local (is_read call_kind) layout id number kind position layout.members 0 empty_piece
 
 called_asks : (local : LocalObject) (id : ℕ) (call_kind : CallKind) →
     AllByRecursion Asks (called_here local id call_kind).sent
@@ -70,7 +72,7 @@ reads_ask : (local : LocalObject) (call : NodeCall) (number start : ℕ) (layout
     AllByRecursion Asks (reads_at local call number start layout).sent
 reads_ask local call number start None = tt
 reads_ask local call number start (Some layout) =
-    requests_ask local layout call.id number Next start layout.members 0 empty_piece
+    requests_ask local (is_read call.kind) layout call.id number Next start layout.members 0 empty_piece
 
 reading_asks : (local : LocalObject) (number : NodeCall → ℕ) (call : Option NodeCall) →
     AllByRecursion Asks (on_open_call local call (λ c. reads_here local c (number c))).sent
@@ -82,7 +84,7 @@ advanced_asks : (local : LocalObject) (call : NodeCall) (next : Kind × ℕ) (la
     AllByRecursion Asks (advanced_at fragment local call next layout).sent
 advanced_asks local call next None = tt
 advanced_asks local call next (Some layout) =
-    requests_ask local layout call.id (suc call.phase.number) next.0 next.1 layout.members 0 (pieces_here fragment layout call)
+    requests_ask local false layout call.id (suc call.phase.number) next.0 next.1 layout.members 0 (pieces_here fragment layout call)
 
 due_asks : (local : LocalObject) (call : NodeCall) (next : Option (Kind × ℕ)) →
     AllByRecursion Asks (advanced_here fragment local call next).sent
@@ -126,6 +128,7 @@ event_asks local (LocalEvent.ReadOn id) none =
 event_asks local (LocalEvent.BeginAnew id) none =
     reading_asks local (λ call. anew_number call local.start) (open_call local.calls id)
 event_asks local (LocalEvent.Raise position) none = tt
+event_asks local (LocalEvent.EndEarly id value) none = tt
 
 all_ask : (local : LocalObject) (events : List LocalEvent) → AllByRecursion ServesNone events →
     AllByRecursion Asks (all_done fragment local events).sent
@@ -158,6 +161,7 @@ begins_serve_none (LocalEvent.Redirect letter) other is = absurd (cc)
 begins_serve_none (LocalEvent.ReadOn id) other is = tt
 begins_serve_none (LocalEvent.BeginAnew id) other is = tt
 begins_serve_none (LocalEvent.Raise position) other is = tt
+begins_serve_none (LocalEvent.EndEarly id value) other is = tt
 
 -- Letters that are sent again
 
@@ -172,8 +176,8 @@ pub resent_ask : (local : LocalObject) (letters : List Letter) → AllByRecursio
 resent_ask local letters resent =
     all_weaker (IsResent fragment local) Asks
     (λ letter is. all_at Asks (current_letters fragment local is.call is.layout)
-    (requests_ask local is.layout is.call.id is.call.phase.number is.call.phase.kind is.call.phase.position
-    is.layout.members 0 (pieces_here fragment is.layout is.call))
+    (requests_ask local (asks_piece is.call.kind is.call.stage) is.layout is.call.id is.call.phase.number is.call.phase.kind
+    is.call.phase.position is.layout.members 0 (pieces_here fragment is.layout is.call))
     is.place letter is.at) letters resent
 
 -- Replies, and requests that are sent back
@@ -185,11 +189,12 @@ RepliesTo came letter = Replies letter ⊎ ((start : Option Start) × (came ≡ 
 served_replies : (local : LocalObject) (letter : Letter) (message : Body) →
     AllByRecursion (RepliesTo letter) ((served_here local letter message).sent ++ [])
 served_replies local letter (body.Request asked) =
-    go (kept_reply (bank_here local letter.message.position letter.message.member) asked)
+    go _ (kept_reply (bank_here local letter.message.position letter.message.member) asked)
   where
-    go : (made : Option Reply) → AllByRecursion (RepliesTo letter) (reply_letters local letter made ++ [])
-    go None = tt
-    go (Some made) = (inl refl, tt)
+    go : (told : Option Telling) (made : Option Reply) →
+        AllByRecursion (RepliesTo letter) (reply_letters local letter told made ++ [])
+    go told None = tt
+    go told (Some made) = (inl refl, tt)
 served_replies local letter (body.Reply kind made) = tt
 
 stray_replies : (local : LocalObject) (letter : Letter) (hears back : Bool) → AllByRecursion (RepliesTo letter)

@@ -15,7 +15,8 @@ use Rattle.local_object.specs.Ended.{all_told}
 use Rattle.local_object.specs.Events.{LocalEvent, all_done}
 use Rattle.local_object.specs.Going.{next_if}
 use Rattle.local_object.specs.Local.{LocalObject, Place}
-use Rattle.local_object.specs.Taking.{AreSettling, IsOutcomeWithAnswers, IsReplyOutcome, begin_anew_events, begin_events}
+use Rattle.local_object.specs.Replies.{IsReplyOutcome, after_taking}
+use Rattle.local_object.specs.Taking.{AreSettling, IsOutcomeWithAnswers, begin_anew_events, begin_events}
 use Rattle.local_object.specs.Taking.{call_events, can_begin, can_begin_anew, going_events, grow_events, grows_by, is_read_begin}
 use Rattle.local_object.specs.Taking.{lead_events, machine_of, repeats, restart_events, step_events}
 use Rattle.deeds.specs.May.{IsEventLetterKnown}
@@ -100,7 +101,12 @@ pub taken_quietly : (name : List ℕ) (letter : Letter) (taken : Bool) (old loca
     IsQuietOutcome (record { name = name; letter = letter } ∷ []) name old local letters ended
 taken_quietly name letter false old local letters ended by =
     by_quietly (record { name = name; letter = letter } ∷ []) name old local letters ended [] by tt
-taken_quietly name letter true old local letters ended goes =
+taken_quietly name letter true old local letters ended (inl early) =
+    let got : List Named = record { name = name; letter = letter } ∷ [] in
+    by_quietly got name old local letters ended
+    (LocalEvent.Take letter ∷ LocalEvent.EndEarly letter.message.call early.returned ∷ []) early.done
+    (((0, refl), refl, tt), ((tt, refl, tt), tt))
+taken_quietly name letter true old local letters ended (inr goes) =
     let got : List Named = record { name = name; letter = letter } ∷ [] in
     let first = LocalEvent.Take letter ∷ goes.settling in
     let again = repeats old letter in
@@ -109,7 +115,6 @@ taken_quietly name letter true old local letters ended goes =
     by_quietly got name old local letters ended (first ++ last) goes.leads
     (all_append (IsQuiet got name) first last (
       ((0, refl), refl, tt),
-      settle_quiet got name (all_done fragment old (LocalEvent.Take letter ∷ [])).local letter.message.call
-          goes.settling goes.settles,
+      settle_quiet got name (after_taking old letter) letter.message.call goes.settling goes.settles,
     )
     (going_quiet got name again settled letter.message.call))

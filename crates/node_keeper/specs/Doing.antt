@@ -6,7 +6,7 @@ use Rattle.local_object.specs.Doing.{IsOutcome, is_taken}
 use Rattle.local_object.specs.Events.{LocalEvent}
 use Rattle.local_object.specs.Going.{IsSomeOutcome}
 use Rattle.local_object.specs.Local.{LocalObject}
-use Rattle.local_object.specs.Taking.{IsReplyOutcome}
+use Rattle.local_object.specs.Replies.{IsReplyOutcome}
 use Rattle.node_keeper.specs.declared.objects.Objects.{Objects}
 use Rattle.node_keeper.specs.Objects.{IsChangedAt, objects_of}
 

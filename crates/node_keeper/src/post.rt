@@ -16,11 +16,12 @@ use crate::entries::log_record;
 use bank::Request;
 use cluster_file::DIGEST_LENGTH;
 use frames::Frame;
-use letter::{Letter, NamedLetter, SharedLayout, Start};
+use letter::{Letter, NamedLetter, SharedLayout, Start, Telling};
 use mail::{Body, Message};
 use node_effects::{NodeError, Work};
 use node_messages::{NodeMessage, frame_of};
 use node_strings::Record;
+use piece::Piece;
 use std::alloc::Global;
 
 /// Returns the message that has a letter, from a node whose cluster file has this digest.
@@ -127,6 +128,7 @@ pub(crate) fn copy_of(letter: &Letter) -> Result<Letter, NodeError>
     let layout = letter.layout.clone()?;
     let next = copy_of_layout(&letter.next)?;
     let start = copy_of_start(&letter.start)?;
+    let told = copy_of_telling(&letter.told)?;
     let message = Message {
         call: letter.message.call,
         phase: letter.message.phase,
@@ -138,6 +140,8 @@ pub(crate) fn copy_of(letter: &Letter) -> Result<Letter, NodeError>
         layout,
         next,
         start,
+        asks_piece: letter.asks_piece,
+        told,
         message,
     })
 }
@@ -163,6 +167,32 @@ fn copy_of_start(start: &Option<Start>) -> Result<Option<Start>, NodeError>
             position: start.position,
             layout: start.layout.clone()?,
         })),
+        None => Ok(None),
+    }
+}
+
+// The same telling, if there is one. The two share the bytes of its piece.
+fn copy_of_telling(told: &Option<Telling>) -> Result<Option<Telling>, NodeError>
+    ensures copied { IfOk result (λ copy. copy ≡ told.now) }
+    ensures refused { IfErr result (λ e. e ≡ NoMemory) }
+{
+    match told {
+        Some(telling) => Ok(Some(Telling {
+            status: telling.status,
+            greatest: telling.greatest,
+            piece: copy_of_piece(&telling.piece)?,
+        })),
+        None => Ok(None),
+    }
+}
+
+// The same piece, if there is one. The two share its bytes.
+fn copy_of_piece(piece: &Option<Piece>) -> Result<Option<Piece>, NodeError>
+    ensures copied { IfOk result (λ copy. copy ≡ piece.now) }
+    ensures refused { IfErr result (λ e. e ≡ NoMemory) }
+{
+    match piece {
+        Some(piece) => Ok(Some(piece.clone()?)),
         None => Ok(None),
     }
 }

@@ -14,10 +14,10 @@ digest_of bytes = to_be_bytes w32 (crc32c bytes)
 unfoldable pub digest_behind : ℕ → List ℕ → List ℕ
 digest_behind state bytes = to_be_bytes w32 (bit_xor (after_bytes state bytes) all_bits)
 
--- the form of entries, which is the first byte of each head; those of form 1 begin with 0, and those of forms 2 and 3
--- with 2 and 3
+-- the form of entries, which is the first byte of each head; those of form 1 begin with 0, and those of forms 2 to 4
+-- with 2 to 4
 abbrev pub form : ℕ
-form = 4
+form = 5
 
 -- what a head says of a body: the form and the length, as eight bytes, high byte first, and the digest
 unfoldable pub described : List ℕ → List ℕ

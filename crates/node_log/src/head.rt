@@ -13,7 +13,7 @@ pub const HEAD_LENGTH: usize = 16;
 pub(crate) const SAYS_LENGTH: usize = 12;
 
 // The form of entries, which is the first byte of each head.
-const FORM: u64 = 4;
+const FORM: u64 = 5;
 
 // The number that the first byte of eight counts.
 const FORM_UNIT: u64 = 0x0100_0000_0000_0000;

@@ -1,5 +1,5 @@
 -- A body is read again from the numbers and the piece that were written of it.
-use Rattle.std.proofs.Common.{◌≡◌, ℕ, Bool, true, false, List, [], Option, Some, None, Result, Ok}
+use Rattle.std.proofs.Common.{◌≡◌, ℕ, Bool, true, false, List, ◌∷◌, ◌++◌, Option, Some, None, Result, Ok}
 use Rattle.std.proofs.Common.{refl, ap, ap₂, ◌∙◌}
 use Rattle.piece.specs.declared.piece.Piece.{Piece}
 use Rattle.tag.specs.declared.tag.Tag.{Tag}
@@ -16,13 +16,15 @@ use Rattle.bank.specs.Serve.{kind_of}
 use Rattle.mail.specs.declared.message.Body.{Body}
 use Rattle.mail.specs.declared.message.Body.TheVariants as body
 use Rattle.words.specs.Parts.{and_then}
+use Rattle.node_strings.specs.Strings.{Strings}
 use Rattle.node_messages.specs.declared.error.Fault.{Fault}
 use Rattle.node_messages.specs.declared.places.TheConstants.{ROLE_PLACE, KIND_PLACE, STATUS_PLACE, STEP_PLACE, PIECE_PLACE}
 use Rattle.node_messages.specs.declared.said.Said.{Said}
 use Rattle.node_messages.specs.Codes.{status_code, status_from, kind_code, flag_from}
 use Rattle.node_messages.specs.Head.{byte_in, long_in, said_of_kind, with_answer, request_piece, said_of}
 use Rattle.node_messages.specs.Message.{is_answer_to, IsBody}
-use Rattle.node_messages.specs.Reading.{tag_in, piece_if, last_piece, first_string, tagged_from, kind_from}
+use Rattle.node_messages.specs.Parts.{tag_in, piece_if, first_piece, first_string}
+use Rattle.node_messages.specs.Reading.{tagged_from, kind_from}
 use Rattle.node_messages.specs.Reading.{request_from, answer_from, reply_from, body_of_kind, body_from}
 use Rattle.node_messages.specs.Strings.{answer_piece, body_piece, piece_strings}
 use Rattle.node_messages.proofs.NumberLemmas.{Says}
@@ -35,7 +37,7 @@ same_status status.Unset = refl
 same_status status.Pending = refl
 same_status status.Final = refl
 
-status_again : (code : ℕ) (s : Status) → code ≡ status_code s → status_from code ≡ Ok s
+pub status_again : (code : ℕ) (s : Status) → code ≡ status_code s → status_from code ≡ Ok s
 status_again code s e = ap status_from e ∙ same_status s
 
 -- what the numbers have to say of a kind besides its code
@@ -216,15 +218,15 @@ piece_is_said (body.Reply k r) = of_answer r.answer (reply_of k r.step) refl
     of_answer (answer.Piece None) said none = none
     of_answer (answer.Piece (Some p)) said none = (refl, refl, refl)
 
-abbrev piece_with : List ℕ → ℕ → ℕ → Result (Option Piece) Fault
-piece_with bytes point len = Ok (Some (record { point = point; len = len; bytes = bytes }))
+abbrev piece_with : List ℕ → Strings → ℕ → ℕ → Result (Option Piece × Strings) Fault
+piece_with bytes rest point len = Ok (Some (record { point = point; len = len; bytes = bytes }), rest)
 
-pub last_again : (numbers : List ℕ) (said : Said) (piece : Option Piece) → Says numbers said → PieceSaid said piece
-    → last_piece numbers (piece_strings piece) ≡ Ok piece
-unfolding last_piece piece_if first_string
-last_again numbers said None says is =
-    ap (λ r. and_then r (λ is_piece. piece_if is_piece numbers [])) (is_no (byte_in PIECE_PLACE numbers) (says.is_piece ∙ is))
-last_again numbers said (Some p) says is =
-    ap (λ r. and_then r (λ is_piece. piece_if is_piece numbers (piece_strings (Some p))))
+pub piece_again : (numbers : List ℕ) (said : Said) (piece : Option Piece) (rest : Strings) → Says numbers said → PieceSaid said piece
+    → first_piece numbers (piece_strings piece ++ rest) ≡ Ok (piece, rest)
+unfolding first_piece piece_if first_string
+piece_again numbers said None rest says is =
+    ap (λ r. and_then r (λ is_piece. piece_if is_piece numbers rest)) (is_no (byte_in PIECE_PLACE numbers) (says.is_piece ∙ is))
+piece_again numbers said (Some p) rest says is =
+    ap (λ r. and_then r (λ is_piece. piece_if is_piece numbers (p.bytes ∷ rest)))
     (is_yes (byte_in PIECE_PLACE numbers) (says.is_piece ∙ is.0))
-    ∙ ap₂ (piece_with p.bytes) (says.point ∙ is.1) (says.len ∙ is.2)
+    ∙ ap₂ (piece_with p.bytes rest) (says.point ∙ is.1) (says.len ∙ is.2)

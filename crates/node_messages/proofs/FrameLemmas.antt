@@ -10,6 +10,8 @@ use Rattle.frames.specs.declared.limits.TheConstants.{LONGEST_STRING, MOST_STRIN
 use Rattle.tag.specs.declared.limits.TheConstants.{LONGEST_NAME, MOST_MEMBERS}
 use Rattle.layout.specs.Layout.{Layout, IsLawful}
 use Rattle.letter.specs.declared.start.Start.{Start}
+use Rattle.letter.specs.declared.telling.Telling.{Telling}
+use Rattle.piece.specs.declared.piece.Piece.{Piece}
 use Rattle.bank.specs.declared.reply.Answer.{Answer}
 use Rattle.bank.specs.declared.reply.Answer.TheVariants as answer
 use Rattle.bank.specs.declared.request.Request.TheVariants as request
@@ -21,10 +23,10 @@ use Rattle.cluster_file.specs.declared.file.TheConstants.{DIGEST_LENGTH}
 use Rattle.node_strings.specs.Strings.{Strings}
 use Rattle.node_messages.specs.declared.error.Fault.TheVariants.{PieceTooLong}
 use Rattle.node_messages.specs.declared.message.NodeMessage.{NodeMessage}
-use Rattle.node_messages.specs.Head.{head_of, layout_bytes, next_bytes, number_bytes, said_of, start_bytes}
+use Rattle.node_messages.specs.Head.{head_of, layout_bytes, next_bytes, numbers_of, start_bytes}
 use Rattle.node_messages.specs.Laws.{ShortPiecesHaveFrames}
 use Rattle.node_messages.specs.Message.{is_fitting, IsBody, IsMessage, IsStart}
-use Rattle.node_messages.specs.Strings.{answer_piece, body_piece, piece_strings, strings_of}
+use Rattle.node_messages.specs.Strings.{answer_piece, body_piece, piece_strings, strings_of, told_piece}
 use Rattle.node_messages.specs.Writing.{same, is_frame, framed}
 
 -- ---- the test of strings says whether they are those of a frame
@@ -57,7 +59,7 @@ refuses ss false no_frame = refl
 pub frame_refused : (ss : Strings) → (IsFrame ss → ⊥) → Err PieceTooLong ≡ framed ss
 frame_refused ss no_frame = refuses ss (is_frame ss) (λ e. no_frame (frame_ok ss e))
 
--- ---- the strings of a message are at most three, and short
+-- ---- the strings of a message are at most four, and short
 
 most_members : (l : Layout) → IsLawful l → length (layout_bytes l) ≤ 257
 most_members l lawful = let limit : MOST_MEMBERS ≡ 255 = refl in omega (arith, lawful.few)
@@ -76,7 +78,7 @@ start_length (Some s) is =
 small : (s : List ℕ) → length s ≤ 1000 → IsShort s
 small s le = let limit : LONGEST_STRING ≡ 16842752 = refl in omega arith
 
-joined : (numbers digest layout next start : List ℕ) → length numbers ≡ 51 → length digest ≡ 16 → length layout ≤ 257
+joined : (numbers digest layout next start : List ℕ) → length numbers ≡ 74 → length digest ≡ 16 → length layout ≤ 257
     → length next ≤ 257 → length start ≤ 261 → IsShort (numbers ++ (digest ++ (layout ++ (next ++ start))))
 joined numbers digest layout next start a b c d e =
     small (numbers ++ (digest ++ (layout ++ (next ++ start)))) (omega (
@@ -95,24 +97,24 @@ joined numbers digest layout next start a b c d e =
 head_short : (m : NodeMessage) → IsMessage m → IsShort (head_of m)
 head_short m is =
     let limit : DIGEST_LENGTH ≡ 16 = refl in
-    joined (number_bytes m.named.letter.message (said_of m.named.letter.message.body)) m.digest (layout_bytes m.named.letter.layout)
+    joined (numbers_of m.named.letter) m.digest (layout_bytes m.named.letter.layout)
     (next_bytes m.named.letter.next) (start_bytes m.named.letter.start)
     refl (omega (arith, is.digest)) (most_members m.named.letter.layout is.layout) (next_length m.named.letter.next is.next)
     (start_length m.named.letter.start is.start)
 
--- the strings of a piece, of which there is at most one
-record Piece (ss : Strings) : Type 0 where
+-- these are the strings of a piece, of which there is at most one
+record IsPieceString (ss : Strings) : Type 0 where
   few : length ss ≤ 1
   short : AllByRecursion IsShort ss
 
-answer_short : (a : Answer) → answer_bytes a ≤ LONGEST_STRING → Piece (piece_strings (answer_piece a))
+answer_short : (a : Answer) → answer_bytes a ≤ LONGEST_STRING → IsPieceString (piece_strings (answer_piece a))
 answer_short answer.Done le = record { few = omega arith; short = tt }
 answer_short (answer.Pointer s) le = record { few = omega arith; short = tt }
 answer_short (answer.Greatest t) le = record { few = omega arith; short = tt }
 answer_short (answer.Piece None) le = record { few = omega arith; short = tt }
 answer_short (answer.Piece (Some p)) le = record { few = omega arith; short = (le, tt) }
 
-piece_short : (b : Body) → body_bytes b ≤ LONGEST_STRING → Piece (piece_strings (body_piece b))
+piece_short : (b : Body) → body_bytes b ≤ LONGEST_STRING → IsPieceString (piece_strings (body_piece b))
 piece_short (body.Request request.Next) le = record { few = omega arith; short = tt }
 piece_short (body.Request (request.Spread s)) le = record { few = omega arith; short = tt }
 piece_short (body.Request request.Query) le = record { few = omega arith; short = tt }
@@ -121,12 +123,32 @@ piece_short (body.Request (request.Finalize t)) le = record { few = omega arith;
 piece_short (body.Request (request.Fetch t)) le = record { few = omega arith; short = tt }
 piece_short (body.Reply k r) le = answer_short r.answer le
 
-is_framed : (m : NodeMessage) → IsMessage m → message_bytes m.named.letter.message ≤ LONGEST_STRING → IsFrame (strings_of m)
-is_framed m is le =
+-- the piece that is told is not longer than a string of a frame
+abbrev IsShortTold : Option Telling → Type 0
+IsShortTold told = IfSome (told_piece told) (λ piece. length piece.bytes ≤ LONGEST_STRING)
+
+told_short : (piece : Option Piece) → IfSome piece (λ piece. length piece.bytes ≤ LONGEST_STRING) → IsPieceString (piece_strings piece)
+told_short None le = record { few = omega arith; short = tt }
+told_short (Some p) le = record { few = omega arith; short = (le, tt) }
+
+-- the strings of two pieces
+both_short : (xs ys : Strings) → AllByRecursion IsShort xs → AllByRecursion IsShort ys → AllByRecursion IsShort (xs ++ ys)
+both_short [] ys a b = b
+both_short (x ∷ xs) ys a b = (a.0, both_short xs ys a.1 b)
+
+is_framed : (m : NodeMessage) → IsMessage m → message_bytes m.named.letter.message ≤ LONGEST_STRING → IsShortTold m.named.letter.told
+    → IsFrame (strings_of m)
+is_framed m is le told_le =
     let name : IsShort m.named.name = small m.named.name (let e : LONGEST_NAME ≡ 255 = refl in omega (arith, is.name)) in
     let piece = piece_short m.named.letter.message.body le in
+    let told = told_short (told_piece m.named.letter.told) told_le in
+    let strings = piece_strings (body_piece m.named.letter.message.body) in
+    let told_strings = piece_strings (told_piece m.named.letter.told) in
     let most : MOST_STRINGS ≡ 1024 = refl in
-    record { few = omega (arith, piece.few); short = (head_short m is, (name, piece.short)) }
+    record {
+      few = omega (arith, piece.few, told.few, length-append strings told_strings);
+      short = (head_short m is, (name, both_short strings told_strings piece.short told.short));
+    }
 
 -- ---- a message has no other fault
 
@@ -139,7 +161,7 @@ same_bools true b e = sym e
 same_bools false b e = ap not (sym e)
 
 pub short_piece_written : ShortPiecesHaveFrames
-short_piece_written m is le =
+short_piece_written m is le told_le =
     let name : ltb LONGEST_NAME (length m.named.name) ≡ false = le-ltb LONGEST_NAME (length m.named.name) is.name in
     let member : ltb m.named.letter.message.member (length m.named.letter.layout.members) ≡ true =
     lt-ltb m.named.letter.message.member (length m.named.letter.layout.members) is.member in
@@ -148,5 +170,6 @@ short_piece_written m is le =
       member,
       fits_kind m.named.letter.message.body is.body,
       same_bools (is_some m.named.letter.next) (names_next m.named.letter.message.body) is.named,
-      frame_again (strings_of m) (is_framed m is le),
+      is.role,
+      frame_again (strings_of m) (is_framed m is le told_le),
     ) refl

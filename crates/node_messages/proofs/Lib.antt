@@ -2,6 +2,8 @@ pub mod NumberLemmas
 pub mod BodyLemmas
 pub mod ReadBodyLemmas
 pub mod PartLemmas
+pub mod BesidesLemmas
 pub mod LayoutLemmas
+pub mod ReadMessageLemmas
 pub mod MessageLemmas
 pub mod FrameLemmas

@@ -21,11 +21,12 @@ use Rattle.node_messages.specs.declared.places.TheConstants.{ROLE_PLACE, KIND_PL
 use Rattle.node_messages.specs.declared.places.TheConstants.{POINT_PLACE, LEN_PLACE, CALL_PLACE, PHASE_PLACE, POSITION_PLACE}
 use Rattle.node_messages.specs.declared.places.TheConstants.{MEMBER_PLACE}
 use Rattle.node_messages.specs.declared.said.Said.{Said}
+use Rattle.node_messages.specs.declared.said_besides.SaidBesides.{SaidBesides}
 use Rattle.node_messages.specs.Codes.{status_code}
 use Rattle.node_messages.specs.Head.{byte_in, short_in, long_in, said_of_kind, with_piece, with_answer, request_piece, said_of}
 use Rattle.node_messages.specs.Head.{number_bytes}
 use Rattle.node_messages.specs.Message.{IsTag, IsPiece, IsKind, IsRequest, IsAnswer, IsBody}
-use Rattle.node_messages.specs.Reading.{tag_in}
+use Rattle.node_messages.specs.Parts.{tag_in}
 
 -- ---- numbers
 
@@ -47,7 +48,7 @@ short_same n lt = omega arith
 pub byte_same : (n : ℕ) → n < 2 ^ 8 → n % 2 ^ 8 ≡ n
 byte_same n lt = omega arith
 
-long_again : (n : ℕ) → n < 2 ^ 64 → from_be_bytes w64 (to_be_bytes w64 n) % 2 ^ 64 ≡ n
+pub long_again : (n : ℕ) → n < 2 ^ 64 → from_be_bytes w64 (to_be_bytes w64 n) % 2 ^ 64 ≡ n
 long_again n lt = ap (λ (v : ℕ). v % 2 ^ 64) (from_be_bytes-to_be_bytes_8 n lt) ∙ long_same n lt
 
 pub short_again : (n : ℕ) → n < 2 ^ 32 → from_be_bytes w32 (to_be_bytes w32 n) % 2 ^ 32 ≡ n
@@ -77,11 +78,11 @@ pub record Says (numbers : List ℕ) (said : Said) : Type 0 where
   pub point : byte_in POINT_PLACE numbers ≡ said.point
   pub len : short_in LEN_PLACE numbers ≡ said.len
 
-abbrev tag_of : ℕ → ℕ → Tag
+abbrev pub tag_of : ℕ → ℕ → Tag
 tag_of number call = record { number = number; call = call }
 
-pub numbers_say : (m : Message) (said : Said) → IsSaid said → Says (number_bytes m said) said
-numbers_say m said fits = record {
+pub numbers_say : (m : Message) (said : Said) (more : SaidBesides) → IsSaid said → Says (number_bytes m said more) said
+numbers_say m said more fits = record {
   is_reply = byte_same said.is_reply fits.is_reply;
   kind = byte_same said.kind fits.kind;
   status = byte_same said.status fits.status;
@@ -94,26 +95,29 @@ numbers_say m said fits = record {
 
 -- the other numbers
 
-pub call_again : (m : Message) (said : Said) → m.call < 2 ^ 64 → long_in CALL_PLACE (number_bytes m said) ≡ m.call
-call_again m said lt = long_again m.call lt
+pub call_again : (m : Message) (said : Said) (more : SaidBesides) → m.call < 2 ^ 64 → long_in CALL_PLACE (number_bytes m said more) ≡ m.call
+call_again m said more lt = long_again m.call lt
 
-pub phase_again : (m : Message) (said : Said) → m.phase < 2 ^ 32 → short_in PHASE_PLACE (number_bytes m said) ≡ m.phase
-phase_again m said lt = short_again m.phase lt
+pub phase_again : (m : Message) (said : Said) (more : SaidBesides) → m.phase < 2 ^ 32 →
+    short_in PHASE_PLACE (number_bytes m said more) ≡ m.phase
+phase_again m said more lt = short_again m.phase lt
 
-pub position_again : (m : Message) (said : Said) → m.position < 2 ^ 32 → short_in POSITION_PLACE (number_bytes m said) ≡ m.position
-position_again m said lt = short_again m.position lt
+pub position_again : (m : Message) (said : Said) (more : SaidBesides) → m.position < 2 ^ 32 →
+    short_in POSITION_PLACE (number_bytes m said more) ≡ m.position
+position_again m said more lt = short_again m.position lt
 
-pub member_again : (m : Message) (said : Said) → m.member < 2 ^ 8 → byte_in MEMBER_PLACE (number_bytes m said) ≡ m.member
-member_again m said lt = byte_same m.member lt
+pub member_again : (m : Message) (said : Said) (more : SaidBesides) → m.member < 2 ^ 8 →
+    byte_in MEMBER_PLACE (number_bytes m said more) ≡ m.member
+member_again m said more lt = byte_same m.member lt
 
 -- ---- what is said of a body is within its bits
 
-status_small : (s : Status) → status_code s < 2 ^ 8
+pub status_small : (s : Status) → status_code s < 2 ^ 8
 status_small status.Unset = omega arith
 status_small status.Pending = omega arith
 status_small status.Final = omega arith
 
-no_tag : IsTag (record { number = 0; call = 0 })
+pub no_tag : IsTag (record { number = 0; call = 0 })
 no_tag = (omega arith, omega arith)
 
 -- what is said of a kind, by its code, its status and its tag

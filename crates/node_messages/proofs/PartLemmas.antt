@@ -16,10 +16,11 @@ use Rattle.node_strings.specs.Strings.{Strings}
 use Rattle.node_messages.specs.declared.error.Fault.TheVariants.{OtherForm, NameTooLong}
 use Rattle.node_messages.specs.declared.places.TheConstants.{FORM, NUMBERS_LENGTH, FORM_PLACE, PIECE_PLACE}
 use Rattle.node_messages.specs.declared.said.Said.{Said}
+use Rattle.node_messages.specs.declared.said_besides.SaidBesides.{SaidBesides}
 use Rattle.node_messages.specs.Codes.{flag_from}
 use Rattle.node_messages.specs.Head.{byte_in, number_bytes}
 use Rattle.node_messages.specs.Message.{IsPiece}
-use Rattle.node_messages.specs.Reading.{first_string, first_name, ending, split_bytes, parts_of, piece_in, piece_if, last_piece}
+use Rattle.node_messages.specs.Parts.{first_string, first_name, ending, split_bytes, parts_of, piece_in, piece_if, first_piece}
 use Rattle.node_messages.specs.Strings.{piece_strings}
 use Rattle.node_messages.proofs.NumberLemmas.{short_below, byte_below}
 use Rattle.node_messages.proofs.BodyLemmas.{PieceSaid}
@@ -96,16 +97,16 @@ parts_by numbers digest layouts n d form =
       eq-eqb (byte_in FORM_PLACE numbers) FORM form,
     ) refl
 
-pub parts_again : (m : Message) (said : Said) (digest layouts : List ℕ) → length digest ≡ DIGEST_LENGTH
-    → parts_of (number_bytes m said ++ (digest ++ layouts)) ≡ Ok (number_bytes m said, digest, layouts)
-parts_again m said digest layouts long = parts_by (number_bytes m said) digest layouts refl long refl
+pub parts_again : (m : Message) (said : Said) (more : SaidBesides) (digest layouts : List ℕ) → length digest ≡ DIGEST_LENGTH
+    → parts_of (number_bytes m said more ++ (digest ++ layouts)) ≡ Ok (number_bytes m said more, digest, layouts)
+parts_again m said more digest layouts long = parts_by (number_bytes m said more) digest layouts refl long refl
 
 -- ---- the piece
 
 pub piece_fits : (numbers bytes : List ℕ) → IsPiece (piece_in numbers bytes)
 piece_fits numbers bytes = (byte_below _, short_below _)
 
-ended : {X : Type 0} (x : X) (rest : Strings) (y : X) → ending x rest ≡ Ok y → (rest ≡ []) × (x ≡ y)
+pub ended : {X : Type 0} (x : X) (rest : Strings) (y : X) → ending x rest ≡ Ok y → (rest ≡ []) × (x ≡ y)
 ended x [] y e = (refl, ok_is x y e)
 ended x (s ∷ rest) y e = absurd cc
 
@@ -114,21 +115,20 @@ abbrev pub flag : Option Piece → ℕ
 flag None = 0
 flag (Some piece) = 1
 
--- a piece that was read
-abbrev pub ReadPiece : Strings → Option Piece → Type 0
-ReadPiece rest piece = (rest ≡ piece_strings piece) × IfSome piece IsPiece
+-- a piece that was read, and the strings after it
+abbrev pub ReadPiece : Strings → Option Piece × Strings → Type 0
+ReadPiece strings x = (strings ≡ piece_strings x.0 ++ x.1) × IfSome x.0 IsPiece
 
-piece_if_ok : (is_piece : Bool) (numbers : List ℕ) (rest : Strings) (piece : Option Piece) → piece_if is_piece numbers rest ≡ Ok piece
-    → ReadPiece rest piece × (is_some piece ≡ is_piece)
+piece_if_ok : (is_piece : Bool) (numbers : List ℕ) (strings : Strings) (x : Option Piece × Strings)
+    → piece_if is_piece numbers strings ≡ Ok x → ReadPiece strings x × (is_some x.0 ≡ is_piece)
 unfolding piece_if
-piece_if_ok true numbers rest piece e =
-    let a = bind_ok (first_string rest) (λ bytes. ending (Some (piece_in numbers bytes.0)) bytes.1) piece e in
-    let end = ended (Some (piece_in numbers a.0.0)) a.0.1 piece a.2 in
-    let whole : rest ≡ a.0.0 ∷ [] = string_ok rest a.0 a.1 ∙ ap (λ (r : Strings). a.0.0 ∷ r) end.0 in
-    subst (λ (p : Option Piece). ReadPiece rest p × (is_some p ≡ true)) end.1 ((whole, piece_fits numbers a.0.0), refl)
-piece_if_ok false numbers rest piece e =
-    let end = ended None rest piece e in
-    subst (λ (p : Option Piece). ReadPiece rest p × (is_some p ≡ false)) end.1 ((end.0, tt), refl)
+piece_if_ok true numbers strings x e =
+    let a = bind_ok (first_string strings) (λ bytes. Ok (Some (piece_in numbers bytes.0), bytes.1)) x e in
+    subst (λ (y : Option Piece × Strings). ReadPiece strings y × (is_some y.0 ≡ true))
+    (ok_is (Some (piece_in numbers a.0.0), a.0.1) x a.2) ((string_ok strings a.0 a.1, piece_fits numbers a.0.0), refl)
+piece_if_ok false numbers strings x e =
+    subst (λ (y : Option Piece × Strings). ReadPiece strings y × (is_some y.0 ≡ false)) (ok_is (None, strings) x e)
+    ((refl, tt), refl)
 
 flag_ok : (code : ℕ) (b : Bool) → flag_from code ≡ Ok b → code ≡ cond b 1 0
 unfolding flag_from
@@ -141,13 +141,13 @@ flag_ok code b e =
       ]
     ]
 
-pub last_ok : (numbers : List ℕ) (rest : Strings) (piece : Option Piece) → last_piece numbers rest ≡ Ok piece
-    → ReadPiece rest piece × (byte_in PIECE_PLACE numbers ≡ flag piece)
-unfolding last_piece
-last_ok numbers rest piece e =
-    let f = bind_ok (flag_from (byte_in PIECE_PLACE numbers)) (λ is_piece. piece_if is_piece numbers rest) piece e in
-    let p = piece_if_ok f.0 numbers rest piece f.2 in
-    (p.0, flag_ok (byte_in PIECE_PLACE numbers) f.0 f.1 ∙ ap (λ b. cond b 1 0) (sym p.1) ∙ of_some piece)
+pub piece_ok : (numbers : List ℕ) (strings : Strings) (x : Option Piece × Strings) → first_piece numbers strings ≡ Ok x
+    → ReadPiece strings x × (byte_in PIECE_PLACE numbers ≡ flag x.0)
+unfolding first_piece
+piece_ok numbers strings x e =
+    let f = bind_ok (flag_from (byte_in PIECE_PLACE numbers)) (λ is_piece. piece_if is_piece numbers strings) x e in
+    let p = piece_if_ok f.0 numbers strings x f.2 in
+    (p.0, flag_ok (byte_in PIECE_PLACE numbers) f.0 f.1 ∙ ap (λ b. cond b 1 0) (sym p.1) ∙ of_some x.0)
   where
     of_some : (piece : Option Piece) → cond (is_some piece) 1 0 ≡ flag piece
     of_some None = refl

@@ -20,7 +20,8 @@ use Rattle.node_messages.specs.declared.places.TheConstants.{ROLE_PLACE, KIND_PL
 use Rattle.node_messages.specs.Codes.{flag_from}
 use Rattle.node_messages.specs.Head.{byte_in, long_in, request_piece}
 use Rattle.node_messages.specs.Message.{is_answer_to, IsTag, IsPiece, IsKind, IsRequest, IsAnswer, IsBody}
-use Rattle.node_messages.specs.Reading.{tag_in, status_in, tagged_from, kind_from}
+use Rattle.node_messages.specs.Parts.{tag_in}
+use Rattle.node_messages.specs.Reading.{status_in, tagged_from, kind_from}
 use Rattle.node_messages.specs.Reading.{request_from, answer_from, reply_from, body_of_kind, body_from}
 use Rattle.node_messages.specs.Strings.{answer_piece, body_piece}
 use Rattle.node_messages.proofs.NumberLemmas.{long_below}

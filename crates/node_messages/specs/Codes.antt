@@ -30,6 +30,10 @@ kind_code (kind.PreWrite tag) = 3
 kind_code (kind.Finalize tag) = 4
 kind_code (kind.Fetch tag) = 5
 
+-- the code of a letter that tells nothing: whether it asks for a piece
+abbrev pub asking_code : Bool → ℕ
+asking_code asks = if asks then 1 else 0
+
 -- the answer for which a code stands: 0 is no, and 1 is yes
 unfoldable pub flag_from : ℕ → Result Bool Fault
 flag_from code =

@@ -3,6 +3,8 @@ pub mod Head
 pub mod Message
 pub mod Strings
 pub mod Layouts
+pub mod Parts
+pub mod Besides
 pub mod Reading
 pub mod Gives
 pub mod Writing

@@ -1,5 +1,5 @@
 -- Which values are messages between nodes.
-use Rattle.std.specs.Prelude.{◌≡◌, ◌<◌, ◌≤◌, ◌^◌, length, IfSome, is_some, Bool, true, false}
+use Rattle.std.specs.Prelude.{◌≡◌, ◌<◌, ◌≤◌, ◌^◌, length, IfSome, is_some, Bool, true, false, not, Option}
 use Rattle.tag.specs.declared.limits.TheConstants.{LONGEST_NAME}
 use Rattle.tag.specs.declared.tag.Tag.{Tag}
 use Rattle.piece.specs.declared.piece.Piece.{Piece}
@@ -13,7 +13,9 @@ use Rattle.bank.specs.declared.request.Request.TheVariants as request
 use Rattle.mail.specs.declared.message.Body.{Body}
 use Rattle.mail.specs.declared.message.Body.TheVariants as body
 use Rattle.mail.specs.Message.{names_next}
+use Rattle.letter.specs.declared.letter.Letter.{Letter}
 use Rattle.letter.specs.declared.start.Start.{Start}
+use Rattle.letter.specs.declared.telling.Telling.{Telling}
 use Rattle.node_messages.specs.declared.message.NodeMessage.{NodeMessage}
 use Rattle.cluster_file.specs.declared.file.TheConstants.{DIGEST_LENGTH}
 
@@ -31,6 +33,15 @@ is_answer_to k a = false
 abbrev pub is_fitting : Body → Bool
 is_fitting (body.Request q) = true
 is_fitting (body.Reply k r) = is_answer_to k r.answer
+
+-- whether a request tells nothing, and a reply does not ask for a piece
+abbrev pub fits_role : Body → (asks_piece : Bool) → Option Telling → Bool
+fits_role (body.Request q) asks told = not (is_some told)
+fits_role (body.Reply k r) asks told = not asks
+
+-- whether a letter is no request that tells something, and no reply that asks for a piece
+abbrev pub has_fitting_role : Letter → Bool
+has_fitting_role letter = fits_role letter.message.body letter.asks_piece letter.told
 
 -- the numbers of a tag have 64 bits
 abbrev pub IsTag : Tag → Type 0
@@ -84,6 +95,10 @@ IsBody (body.Reply k r) = IsKind k × (r.step < 2 ^ 64) × IsAnswer r.answer × 
 abbrev pub IsStart : Start → Type 0
 IsStart start = (start.position < 2 ^ 32) × IsLawful start.layout
 
+-- the numbers in what is told are within their bits
+abbrev pub IsTelling : Telling → Type 0
+IsTelling telling = IsTag telling.greatest × IfSome telling.piece IsPiece
+
 -- what the types of a message's fields guarantee: the digest has its length, the layouts are lawful, and numbers are
 -- within their bits
 pub record HasTypedFields (m : NodeMessage) : Type 0 where
@@ -95,10 +110,12 @@ pub record HasTypedFields (m : NodeMessage) : Type 0 where
   pub body : IsWithinBits m.named.letter.message.body
   pub next : IfSome m.named.letter.next IsLawful
   pub start : IfSome m.named.letter.start IsStart
+  pub told : IfSome m.named.letter.told IsTelling
 
 -- What a message between nodes is: the digest has its length, the name is not too long, the layouts are lawful, the
 -- member is one of the layout, there is a next layout exactly if the message says that the pointer is pending or final,
--- an answer belongs to a request of its kind, and numbers are within their bits.
+-- an answer belongs to a request of its kind, only replies tell of their member, only requests ask for its piece, and
+-- numbers are within their bits.
 pub record IsMessage (m : NodeMessage) : Type 0 where
   pub digest : length m.digest ≡ DIGEST_LENGTH
   pub name : length m.named.name ≤ LONGEST_NAME
@@ -111,3 +128,5 @@ pub record IsMessage (m : NodeMessage) : Type 0 where
   pub named : is_some m.named.letter.next ≡ names_next m.named.letter.message.body
   pub next : IfSome m.named.letter.next IsLawful
   pub start : IfSome m.named.letter.start IsStart
+  pub role : has_fitting_role m.named.letter ≡ true
+  pub told : IfSome m.named.letter.told IsTelling

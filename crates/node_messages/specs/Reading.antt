@@ -1,8 +1,7 @@
 -- Reading a message from the strings of a frame, up to the first fault.
-use Rattle.std.specs.Prelude.{◌==◌, ℕ, List, [], ◌∷◌, length, take, drop, Option, Some, None, Bool, true, false}
+use Rattle.std.specs.Prelude.{◌==◌, ℕ, List, length, Option, Some, None, Bool, true, false}
 use Rattle.std.specs.Prelude.{Result, Ok, Err, nat_lt, not, if◌then◌else◌}
 use Rattle.std.specs.Str.{bytes_eq}
-use Rattle.tag.specs.declared.limits.TheConstants.{LONGEST_NAME}
 use Rattle.tag.specs.declared.tag.Tag.{Tag}
 use Rattle.piece.specs.declared.piece.Piece.{Piece}
 use Rattle.bank.specs.declared.kind.Kind.{Kind}
@@ -16,80 +15,24 @@ use Rattle.bank.specs.declared.status.Status.{Status}
 use Rattle.mail.specs.declared.message.Body.{Body}
 use Rattle.mail.specs.declared.message.Body.TheVariants as body
 use Rattle.mail.specs.Message.{names_next}
-use Rattle.cluster_file.specs.declared.file.TheConstants.{DIGEST_LENGTH}
 use Rattle.node_strings.specs.Strings.{Strings}
 use Rattle.words.specs.Parts.{and_then}
+use Rattle.node_messages.specs.declared.besides.Besides.{Besides}
 use Rattle.node_messages.specs.declared.error.Fault.{Fault}
-use Rattle.node_messages.specs.declared.error.Fault.TheVariants.{WrongCount, OtherForm, NameTooLong, UnknownCode}
-use Rattle.node_messages.specs.declared.error.Fault.TheVariants.{NoPiece, NoMember, UnusedPlace}
+use Rattle.node_messages.specs.declared.error.Fault.TheVariants.{BadTelling, NoMember, NoPiece, UnknownCode}
+use Rattle.node_messages.specs.declared.error.Fault.TheVariants.{UnusedPlace}
 use Rattle.node_messages.specs.declared.layouts.Layouts.{Layouts}
 use Rattle.node_messages.specs.declared.message.NodeMessage.{NodeMessage}
-use Rattle.node_messages.specs.declared.places.TheConstants.{FORM, NUMBERS_LENGTH, FORM_PLACE, CALL_PLACE}
-use Rattle.node_messages.specs.declared.places.TheConstants.{PHASE_PLACE, POSITION_PLACE, MEMBER_PLACE, ROLE_PLACE}
-use Rattle.node_messages.specs.declared.places.TheConstants.{KIND_PLACE, STATUS_PLACE, TAG_NUMBER_PLACE, TAG_CALL_PLACE}
-use Rattle.node_messages.specs.declared.places.TheConstants.{STEP_PLACE, PIECE_PLACE, POINT_PLACE, LEN_PLACE}
+use Rattle.node_messages.specs.declared.places.TheConstants.{CALL_PLACE, PHASE_PLACE, POSITION_PLACE, MEMBER_PLACE}
+use Rattle.node_messages.specs.declared.places.TheConstants.{ROLE_PLACE, KIND_PLACE, STATUS_PLACE, STEP_PLACE}
+use Rattle.node_messages.specs.Besides.{last_besides}
 use Rattle.node_messages.specs.Codes.{status_from, flag_from}
-use Rattle.node_messages.specs.Head.{byte_in, short_in, long_in, number_bytes, said_of}
+use Rattle.node_messages.specs.Head.{byte_in, short_in, long_in, numbers_of}
 use Rattle.node_messages.specs.Layouts.{layouts_from}
+use Rattle.node_messages.specs.Message.{has_fitting_role}
+use Rattle.node_messages.specs.Parts.{first_name, first_piece, first_string, parts_of, tag_in}
 
--- Strings
-
--- what the first strings write, or the first fault there; and the strings after them
-abbrev pub FirstAndRest : Type 0 → Type 0
-FirstAndRest X = Result (X × Strings) Fault
-
--- the first string
-unfoldable pub first_string : Strings → FirstAndRest (List ℕ)
-first_string [] = Err WrongCount
-first_string (string ∷ rest) = Ok (string, rest)
-
--- a name
-unfoldable pub first_name : Strings → FirstAndRest (List ℕ)
-first_name strings =
-    and_then (first_string strings) (λ string.
-    if nat_lt LONGEST_NAME (length string.0) then Err NameTooLong else Ok string)
-
--- this value, unless strings are left after it
-abbrev pub ending : {X : Type 0} → X → Strings → Result X Fault
-ending x [] = Ok x
-ending x (string ∷ rest) = Err WrongCount
-
--- The parts of a head
-
--- the first n bytes, and those after them, unless there are fewer
-unfoldable pub split_bytes : ℕ → List ℕ → Result (List ℕ × List ℕ) Fault
-split_bytes n bytes = if nat_lt (length bytes) n then Err OtherForm else Ok (take n bytes, drop n bytes)
-
--- the numbers of a head, the digest, and the bytes of the layouts, unless it is of another form
-unfoldable pub parts_of : List ℕ → Result (List ℕ × List ℕ × List ℕ) Fault
-parts_of head =
-    and_then (split_bytes NUMBERS_LENGTH head) (λ numbers.
-    and_then (split_bytes DIGEST_LENGTH numbers.1) (λ digest.
-    if byte_in FORM_PLACE numbers.0 == FORM then Ok (numbers.0, digest.0, digest.1) else Err OtherForm))
-
--- What the numbers say
-
--- the tag
-abbrev pub tag_in : (numbers : List ℕ) → Tag
-tag_in numbers = record { number = long_in TAG_NUMBER_PLACE numbers; call = long_in TAG_CALL_PLACE numbers }
-
--- the piece that has these bytes
-abbrev pub piece_in : (numbers bytes : List ℕ) → Piece
-piece_in numbers bytes =
-    record { point = byte_in POINT_PLACE numbers; len = short_in LEN_PLACE numbers; bytes = bytes }
-
--- the piece whose bytes are the last string, or none and no string, as the numbers say
-unfoldable pub piece_if : Bool → (numbers : List ℕ) → Strings → Result (Option Piece) Fault
-piece_if true numbers strings =
-    and_then (first_string strings) (λ bytes.
-    ending (Some (piece_in numbers bytes.0)) bytes.1)
-piece_if false numbers strings = ending None strings
-
--- the piece of a message, whose bytes are the last string, if the head says that there is a piece; or the first fault
-unfoldable pub last_piece : (numbers : List ℕ) → Strings → Result (Option Piece) Fault
-last_piece numbers strings =
-    and_then (flag_from (byte_in PIECE_PLACE numbers)) (λ is_piece.
-    piece_if is_piece numbers strings)
+-- The body, as the numbers say it
 
 -- a status
 abbrev pub status_in : (numbers : List ℕ) → Result Status Fault
@@ -155,8 +98,8 @@ body_from numbers piece =
 -- Messages
 
 -- the message of these parts
-abbrev pub made_of : (numbers digest name : List ℕ) → Body → Layouts → NodeMessage
-made_of numbers digest name found layouts = record {
+abbrev pub made_of : (numbers digest name : List ℕ) → Body → Layouts → Besides → NodeMessage
+made_of numbers digest name found layouts besides = record {
   digest = digest;
   named = record {
     name = name;
@@ -164,6 +107,8 @@ made_of numbers digest name found layouts = record {
       layout = layouts.layout;
       next = layouts.next;
       start = layouts.start;
+      asks_piece = besides.asks_piece;
+      told = besides.told;
       message = record {
         call = long_in CALL_PLACE numbers;
         phase = short_in PHASE_PLACE numbers;
@@ -175,20 +120,23 @@ made_of numbers digest name found layouts = record {
   };
 }
 
--- this message, unless its layout has no such member, or a place that it does not use has another byte than zero
+-- this message, unless its layout has no such member, it is a request that tells something or a reply that asks for a
+-- piece, or a place that it does not use has another byte than zero
 unfoldable pub checked_places : (numbers : List ℕ) → NodeMessage → Result NodeMessage Fault
 checked_places numbers m =
     if not (nat_lt m.named.letter.message.member (length m.named.letter.layout.members)) then Err NoMember
-    else (if bytes_eq (number_bytes m.named.letter.message (said_of m.named.letter.message.body)) numbers then Ok m
-    else Err UnusedPlace)
+    else (if not (has_fitting_role m.named.letter) then Err BadTelling
+    else (if bytes_eq (numbers_of m.named.letter) numbers then Ok m
+    else Err UnusedPlace))
 
 -- the message whose head has these parts, with this name and the strings after the name
 unfoldable pub message_of_parts : (numbers digest layouts name : List ℕ) → Strings → Result NodeMessage Fault
 message_of_parts numbers digest layouts name strings =
-    and_then (last_piece numbers strings) (λ piece.
-    and_then (body_from numbers piece) (λ found.
+    and_then (first_piece numbers strings) (λ piece.
+    and_then (last_besides numbers piece.1) (λ besides.
+    and_then (body_from numbers piece.0) (λ found.
     and_then (layouts_from (names_next found) layouts) (λ read.
-    checked_places numbers (made_of numbers digest name found read))))
+    checked_places numbers (made_of numbers digest name found read besides)))))
 
 -- the message whose strings these are, or the first fault
 unfoldable pub message_from : Strings → Result NodeMessage Fault

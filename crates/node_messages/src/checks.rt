@@ -1,9 +1,10 @@
 //! What the parts of a message must have in common.
 ghost use Rattle.std.specs.Prelude.{◌≡◌};
-ghost use Rattle.node_messages.specs.Message.{is_answer_to, is_fitting};
+ghost use Rattle.node_messages.specs.Message.{fits_role, has_fitting_role, is_answer_to, is_fitting};
 ghost use Rattle.mail.specs.Message.{status_names_next, names_next};
 
 use bank::{Answer, Kind, Request, Status};
+use letter::{Letter, Telling};
 use mail::Body;
 
 // Whether a pointer with this status names a next position.
@@ -51,4 +52,21 @@ pub(crate) fn is_fitting(body: &Body) -> bool
         Body::Request(_) => true,
         Body::Reply { kind, reply } => is_answer_to(*kind, &reply.answer),
     }
+}
+
+// Whether a request tells nothing, and a reply does not ask for a piece.
+fn fits_role(body: &Body, asks_piece: bool, told: &Option<Telling>) -> bool
+    ensures { result ≡ fits_role body.now asks_piece told.now }
+{
+    match body {
+        Body::Request(_) => told.is_none(),
+        Body::Reply { kind: _, reply: _ } => !asks_piece,
+    }
+}
+
+/// Returns whether a letter is no request that tells something, and no reply that asks for a piece.
+pub(crate) fn has_fitting_role(letter: &Letter) -> bool
+    ensures { result ≡ has_fitting_role letter.now }
+{
+    fits_role(&letter.message.body, letter.asks_piece, &letter.told)
 }

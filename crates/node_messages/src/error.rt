@@ -14,7 +14,8 @@ pub enum Fault {
     /// The object's name is longer than `LONGEST_NAME`.
     #[error("name too long")]
     NameTooLong,
-    /// A code stands for neither a request nor a reply, for no kind, for no status, or for neither a piece nor none.
+    /// A code stands for neither a request nor a reply, for no kind, for no status, for neither a piece nor none, or
+    /// for nothing that a letter asks or tells besides its message.
     #[error("unknown code")]
     UnknownCode,
     /// A request to pre-write has no piece.
@@ -29,6 +30,9 @@ pub enum Fault {
     /// The layout has no such member.
     #[error("no such member")]
     NoMember,
+    /// A request tells something of a member, or a reply asks for a piece.
+    #[error("a request that tells, or a reply that asks")]
+    BadTelling,
     /// A place of the head that the message does not use has another byte than zero.
     #[error("unused place is not zero")]
     UnusedPlace,
@@ -39,8 +43,8 @@ pub enum Fault {
     /// this fault, not a frame.
     #[error("bad next layout")]
     BadNext,
-    /// The piece is longer than a string of a frame may be. Only a message can have this fault. No other string of a
-    /// message can be so long.
+    /// The piece of a message, or the one that its letter tells, is longer than a string of a frame may be. Only a
+    /// message can have this fault. No other string of a message can be so long.
     #[error("piece too long")]
     PieceTooLong,
 }

@@ -1,11 +1,10 @@
 //! The strings of a message, and the parts of its head.
 ghost use Rattle.std.specs.Prelude.{◌≡◌};
-ghost use Rattle.node_messages.specs.Gives.{Agrees, AgreesAs};
-ghost use Rattle.node_messages.specs.Reading.{
-  ending,
+ghost use Rattle.node_messages.specs.Gives.{AgreesAs};
+ghost use Rattle.node_messages.specs.Parts.{
   first_name,
+  first_piece,
   first_string,
-  last_piece,
   parts_of,
   piece_if,
   piece_in,
@@ -24,7 +23,7 @@ use piece::Piece;
 use tag::LONGEST_NAME;
 
 /// Reads the first string.
-#[tactic(auto, unfolding(crate::specs::Reading::first_string))]
+#[tactic(auto, unfolding(crate::specs::Parts::first_string))]
 pub(crate) fn string_of(strings: &[Bytes]) -> Result<(&Bytes, &[Bytes]), MessageError>
     ensures { AgreesAs (λ x. (x.0.now, x.1.now)) result (first_string strings.now) }
 {
@@ -35,7 +34,7 @@ pub(crate) fn string_of(strings: &[Bytes]) -> Result<(&Bytes, &[Bytes]), Message
 }
 
 /// Reads a name from the front of the strings.
-#[tactic(auto, unfolding(crate::specs::Reading::first_name))]
+#[tactic(auto, unfolding(crate::specs::Parts::first_name))]
 pub(crate) fn name_of(strings: &[Bytes]) -> Result<(&Bytes, &[Bytes]), MessageError>
     ensures { AgreesAs (λ x. (x.0.now, x.1.now)) result (first_name strings.now) }
 {
@@ -47,7 +46,7 @@ pub(crate) fn name_of(strings: &[Bytes]) -> Result<(&Bytes, &[Bytes]), MessageEr
 }
 
 // The first bytes, and those behind them.
-#[tactic(auto, unfolding(crate::specs::Reading::split_bytes))]
+#[tactic(auto, unfolding(crate::specs::Parts::split_bytes))]
 fn split_bytes<const N: usize>(bytes: &[u8]) -> Result<(&[u8; N], &[u8]), MessageError>
     ensures { AgreesAs (λ x. (x.0.now, x.1.now)) result (split_bytes N bytes.now) }
 {
@@ -61,7 +60,7 @@ fn split_bytes<const N: usize>(bytes: &[u8]) -> Result<(&[u8; N], &[u8]), Messag
 pub(crate) type Parts<'a> = (&'a Numbers, &'a [u8; DIGEST_LENGTH], &'a [u8]);
 
 /// Returns the parts of a head.
-#[tactic(auto, unfolding(crate::specs::Reading::parts_of))]
+#[tactic(auto, unfolding(crate::specs::Parts::parts_of))]
 pub(crate) fn parts_of(head: &[u8]) -> Result<Parts<'_>, MessageError>
     ensures { AgreesAs (λ x. (x.0.now, x.1.now, x.2.now)) result (parts_of head.now) }
 {
@@ -71,16 +70,6 @@ pub(crate) fn parts_of(head: &[u8]) -> Result<Parts<'_>, MessageError>
         return Err(MessageError::Fault(Fault::OtherForm));
     }
     Ok((numbers, digest, layouts))
-}
-
-// This piece or none, unless strings are left behind it.
-fn ended(piece: Option<Piece>, rest: &[Bytes]) -> Result<Option<Piece>, MessageError>
-    ensures { Agrees result (ending piece rest.now) }
-{
-    match rest {
-        [] => Ok(piece),
-        [_, ..] => Err(MessageError::Fault(Fault::WrongCount)),
-    }
 }
 
 // The piece that has these bytes.
@@ -94,30 +83,30 @@ fn piece_in(numbers: &Numbers, bytes: Bytes) -> Piece
     }
 }
 
-// The piece whose bytes are the last string, or none and no string.
-#[tactic(auto, unfolding(crate::specs::Reading::piece_if))]
-fn piece_if(
+// The piece whose bytes are the first string, or none.
+#[tactic(auto, unfolding(crate::specs::Parts::piece_if))]
+fn piece_if<'a>(
     is_piece: bool,
     numbers: &Numbers,
-    strings: &[Bytes],
-) -> Result<Option<Piece>, MessageError>
-    ensures { Agrees result (piece_if is_piece numbers.now strings.now) }
+    strings: &'a [Bytes],
+) -> Result<(Option<Piece>, &'a [Bytes]), MessageError>
+    ensures { AgreesAs (λ x. (x.0, x.1.now)) result (piece_if is_piece numbers.now strings.now) }
 {
     if !is_piece {
-        return ended(None, strings);
+        return Ok((None, strings));
     }
     let (bytes, rest) = string_of(strings)?;
     let bytes = bytes.clone()?;
-    ended(Some(piece_in(numbers, bytes)), rest)
+    Ok((Some(piece_in(numbers, bytes)), rest))
 }
 
-/// Returns the piece whose bytes are the last string, or none and no string, as the numbers say.
-#[tactic(auto, unfolding(crate::specs::Reading::last_piece))]
-pub(crate) fn last_piece(
+/// Returns the piece whose bytes are the first string, or none, as the numbers say; and the strings behind it.
+#[tactic(auto, unfolding(crate::specs::Parts::first_piece))]
+pub(crate) fn first_piece<'a>(
     numbers: &Numbers,
-    strings: &[Bytes],
-) -> Result<Option<Piece>, MessageError>
-    ensures { Agrees result (last_piece numbers.now strings.now) }
+    strings: &'a [Bytes],
+) -> Result<(Option<Piece>, &'a [Bytes]), MessageError>
+    ensures { AgreesAs (λ x. (x.0, x.1.now)) result (first_piece numbers.now strings.now) }
 {
     let is_piece = read_flag(byte_in(PIECE_PLACE, numbers))?;
     piece_if(is_piece, numbers, strings)

@@ -13,8 +13,8 @@ pub fn messages_are_read_back()
     ensures one { StringsNameOneMessage }
 {}
 
-/// A law: a message has a frame if its piece is not longer than a string of a frame. So `PieceTooLong` is returned only
-/// for a piece.
+/// A law: a message has a frame if neither its piece nor the piece that is told is longer than a string of a frame. So
+/// `PieceTooLong` is returned only for a piece.
 pub fn short_pieces_have_frames()
     ensures { ShortPiecesHaveFrames }
 {}

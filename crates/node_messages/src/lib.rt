@@ -10,6 +10,7 @@ pub use reading::read_message;
 pub use writing::frame_of;
 
 mod answers;
+mod besides;
 mod bodies;
 mod checks;
 mod codes;
@@ -23,4 +24,5 @@ mod message;
 mod places;
 mod reading;
 mod said;
+mod said_besides;
 mod writing;

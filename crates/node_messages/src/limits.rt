@@ -1,10 +1,18 @@
 //! The limit on the numbers of tags.
 ghost use Rattle.std.specs.Prelude.{◌≡◌, ◌^◌};
-ghost use Rattle.node_messages.specs.Limits.{has_low_answer, has_low_kind, has_low_tags, is_low};
+ghost use Rattle.node_messages.specs.Limits.{
+  has_low_answer,
+  has_low_body,
+  has_low_kind,
+  has_low_tags,
+  has_low_telling,
+  is_low,
+};
 ghost use Rattle.node_messages.specs.declared.limits.TheConstants.{MOST_TAG_NUMBER};
 
 use crate::message::NodeMessage;
 use bank::{Answer, Kind};
+use letter::Telling;
 use mail::Body;
 use tag::Tag;
 
@@ -38,7 +46,7 @@ fn has_low_answer(answer: &Answer) -> bool
 }
 
 fn has_low_body(body: &Body) -> bool
-    ensures { result ≡ has_low_tags body.now }
+    ensures { result ≡ has_low_body body.now }
 {
     match body {
         Body::Request(request) => has_low_kind(request.kind()),
@@ -46,10 +54,21 @@ fn has_low_body(body: &Body) -> bool
     }
 }
 
-/// Returns whether a message has no tag whose number is above `MOST_TAG_NUMBER`.
+fn has_low_telling(told: &Option<Telling>) -> bool
+    ensures { result ≡ has_low_telling told.now }
+{
+    match told {
+        Some(telling) => is_low(telling.greatest),
+        None => true,
+    }
+}
+
+/// Returns whether a message has no tag whose number is above `MOST_TAG_NUMBER`, neither in its body nor in what its
+/// letter tells.
 pub fn has_low_tags(message: &NodeMessage) -> bool
-    ensures value { result ≡ has_low_tags message.now.named.letter.message.body }
+    ensures value { result ≡ has_low_tags message.now.named.letter }
     ensures limit { MOST_TAG_NUMBER ≡ 2 ^ 62 }
 {
-    has_low_body(&message.named.letter.message.body)
+    let letter = &message.named.letter;
+    has_low_body(&letter.message.body) && has_low_telling(&letter.told)
 }

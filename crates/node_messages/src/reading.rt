@@ -5,20 +5,20 @@ ghost use Rattle.node_messages.specs.declared.message.NodeMessage.{NodeMessage a
 ghost use Rattle.node_messages.specs.Message.{IsMessage};
 ghost use Rattle.node_messages.specs.Strings.{strings_of};
 ghost use Rattle.node_messages.specs.Gives.{Agrees};
-ghost use Rattle.node_messages.specs.Head.{number_bytes, said_of};
+ghost use Rattle.node_messages.specs.Head.{numbers_of};
 ghost use Rattle.node_messages.specs.Reading.{checked_places, made_of, message_from, message_of_parts};
 
+use crate::besides::{Besides, last_besides};
 use crate::bodies::body_of;
-use crate::checks::names_next;
+use crate::checks::{has_fitting_role, names_next};
 use crate::error::{Fault, MessageError};
-use crate::fields::{last_piece, name_of, parts_of, string_of};
-use crate::head::number_bytes;
+use crate::fields::{first_piece, name_of, parts_of, string_of};
+use crate::head::numbers_of;
 use crate::layouts::{Layouts, layouts_of};
 use crate::message::NodeMessage;
 use crate::places::{
     CALL_PLACE, MEMBER_PLACE, Numbers, PHASE_PLACE, POSITION_PLACE, byte_in, long_in, short_in,
 };
-use crate::said::said_of;
 use bytes::Bytes;
 use cluster_file::DIGEST_LENGTH;
 use frames::Frame;
@@ -26,10 +26,11 @@ use letter::{Letter, NamedLetter};
 use mail::{Body, Message};
 use std::alloc::Global;
 
-/// Returns the message of a frame. Its name and its piece are those of the frame, and no byte of them is copied.
+/// Returns the message of a frame. Its name and its pieces are those of the frame, and no byte of them is copied.
 ///
 /// A `Fault` is the first one in this order: of the form of the head, of the name and the number of strings, of what
-/// the head says of the body, of the layouts, of the member, and of the places that the message does not use.
+/// the head says of a telling and of the body, of the layouts, of the member, of what only a request may ask and only a
+/// reply tell, and of the places that the message does not use.
 pub fn read_message(alloc: Global, frame: &Frame) -> Result<NodeMessage, MessageError>
     // What is read is a message, and the frame is that of the message.
     ensures found { IfOk result (λ m. IsMessage m × (frame.now ≡ strings_of m)) }
@@ -65,13 +66,18 @@ fn read_parts(
 ) -> Result<NodeMessage, MessageError>
     ensures { Agrees result (message_of_parts numbers.now digest layouts.now name rest.now) }
 {
-    let piece = last_piece(numbers, rest)?;
+    let (piece, rest) = first_piece(numbers, rest)?;
+    let besides = last_besides(numbers, rest)?;
     let body = body_of(alloc, numbers, piece)?;
     let layouts = layouts_of(alloc, names_next(&body), layouts)?;
-    checked_places(numbers, made_of(numbers, digest, name, body, layouts))
+    checked_places(
+        numbers,
+        made_of(numbers, digest, name, body, layouts, besides),
+    )
 }
 
-// The message, unless its layout has no such member, or a place that it does not use has another byte than zero.
+// The message, unless its layout has no such member, it is a request that tells something or a reply that asks for a
+// piece, or a place that it does not use has another byte than zero.
 #[tactic(auto, unfolding(crate::specs::Reading::checked_places))]
 fn checked_places(numbers: &Numbers, message: NodeMessage) -> Result<NodeMessage, MessageError>
     ensures { Agrees result (checked_places numbers.now message) }
@@ -80,17 +86,20 @@ fn checked_places(numbers: &Numbers, message: NodeMessage) -> Result<NodeMessage
     if letter.message.member >= letter.layout.layout().n() {
         return Err(MessageError::Fault(Fault::NoMember));
     }
-    if !are_of(numbers, &letter.message) {
+    if !has_fitting_role(letter) {
+        return Err(MessageError::Fault(Fault::BadTelling));
+    }
+    if !are_of(numbers, letter) {
         return Err(MessageError::Fault(Fault::UnusedPlace));
     }
     Ok(message)
 }
 
-// Whether the numbers are those of the message.
-fn are_of(numbers: &Numbers, message: &Message) -> bool
-    ensures { result ≡ bytes_eq (number_bytes message.now (said_of message.now.body)) numbers.now }
+// Whether the numbers are those of the letter.
+fn are_of(numbers: &Numbers, letter: &Letter) -> bool
+    ensures { result ≡ bytes_eq (numbers_of letter.now) numbers.now }
 {
-    number_bytes(message, said_of(&message.body)) == *numbers
+    numbers_of(letter) == *numbers
 }
 
 // The message of these parts.
@@ -100,8 +109,9 @@ fn made_of(
     name: Bytes,
     body: Body,
     layouts: Layouts,
+    besides: Besides,
 ) -> NodeMessage
-    ensures { result ≡ made_of numbers.now digest name body layouts }
+    ensures { result ≡ made_of numbers.now digest name body layouts besides }
 {
     NodeMessage {
         digest,
@@ -111,6 +121,8 @@ fn made_of(
                 layout: layouts.layout,
                 next: layouts.next,
                 start: layouts.start,
+                asks_piece: besides.asks_piece,
+                told: besides.told,
                 message: Message {
                     call: long_in(CALL_PLACE, numbers),
                     phase: short_in(PHASE_PLACE, numbers),

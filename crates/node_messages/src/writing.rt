@@ -2,27 +2,30 @@
 ghost use Rattle.std.specs.Prelude.{◌≡◌, ◌++◌, IfOk, OnOk, Ok, Err, if◌then◌else◌};
 ghost use Rattle.node_messages.specs.Gives.{Agrees, AgreesAs};
 ghost use Rattle.node_messages.specs.Message.{IsMessage, HasTypedFields};
-ghost use Rattle.node_messages.specs.Strings.{answer_piece, body_piece, piece_strings, strings_of};
+ghost use Rattle.node_messages.specs.Strings.{answer_piece, body_piece, piece_strings, strings_of, told_piece};
 ghost use Rattle.node_messages.specs.Writing.{strings_or_fault, checked, framed};
 
-use crate::checks::{is_fitting, names_next};
+use crate::checks::{has_fitting_role, is_fitting, names_next};
 use crate::error::{Fault, MessageError};
 use crate::head::head_of;
 use crate::message::NodeMessage;
 use bank::{Answer, Request};
 use bytes::Bytes;
 use frames::Frame;
+use letter::Telling;
 use mail::Body;
 use node_strings::push_shared;
+use piece::Piece;
 use std::alloc::{AllocError, Global};
 use tag::LONGEST_NAME;
 
-// The most strings that a message has: its head, the name, and the bytes of a piece.
-const MOST_MESSAGE_STRINGS: usize = 3;
+// The most strings that a message has: its head, the name, the bytes of a piece, and those of a piece that is told.
+const MOST_MESSAGE_STRINGS: usize = 4;
 
-/// Returns the frame of a message. The frame shares the bytes of the name and of the piece, and copies neither.
+/// Returns the frame of a message. The frame shares the bytes of the name and of the pieces, and copies none.
 ///
-/// A `Fault` is the first one in this order: `NameTooLong`, `NoMember`, `BadAnswer`, `BadNext`, `PieceTooLong`.
+/// A `Fault` is the first one in this order: `NameTooLong`, `NoMember`, `BadAnswer`, `BadNext`, `BadTelling`,
+/// `PieceTooLong`.
 pub fn frame_of(alloc: Global, message: &NodeMessage) -> Result<Frame, MessageError>
     // What has a frame is a message.
     ensures fits { IfOk result (λ _. IsMessage message.now) }
@@ -63,6 +66,9 @@ fn check(message: &NodeMessage) -> Result<(), Fault>
     if letter.next.is_some() != names_next(&letter.message.body) {
         return Err(Fault::BadNext);
     }
+    if !has_fitting_role(letter) {
+        return Err(Fault::BadTelling);
+    }
     Ok(())
 }
 
@@ -75,6 +81,7 @@ fn strings_of(alloc: Global, message: &NodeMessage) -> Result<Vec<Bytes>, AllocE
     strings.push(head_of(alloc, message)?)?;
     push_shared(&mut strings, &message.named.name)?;
     push_piece(&mut strings, &message.named.letter.message.body)?;
+    push_told(&mut strings, &message.named.letter.told)?;
     Ok(strings)
 }
 
@@ -96,5 +103,25 @@ fn push_held(strings: &mut Vec<Bytes>, answer: &Answer) -> Result<(), AllocError
     match answer {
         Answer::Piece(Some(held)) => push_shared(strings, &held.piece().bytes),
         _ => Ok(()),
+    }
+}
+
+// The bytes of the piece that is told, where one is.
+fn push_told(strings: &mut Vec<Bytes>, told: &Option<Telling>) -> Result<(), AllocError>
+    ensures { OnOk result (strings.new.items ≡ strings.old.items ++ piece_strings (told_piece told.now)) }
+{
+    match told {
+        Some(telling) => push_optional(strings, &telling.piece),
+        None => Ok(()),
+    }
+}
+
+// The bytes of a piece, where there is one.
+fn push_optional(strings: &mut Vec<Bytes>, piece: &Option<Piece>) -> Result<(), AllocError>
+    ensures { OnOk result (strings.new.items ≡ strings.old.items ++ piece_strings piece.now) }
+{
+    match piece {
+        Some(piece) => push_shared(strings, &piece.bytes),
+        None => Ok(()),
     }
 }

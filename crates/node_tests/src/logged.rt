@@ -116,6 +116,8 @@ fn letter(rt: &impl Abort, alloc: Global, request: Request, start: u32) -> Lette
         layout: SharedLayout::new(alloc, first).expect(rt, "memory"),
         next,
         start: told(rt, alloc, start),
+        asks_piece: false,
+        told: None,
         message,
     }
 }

@@ -5,4 +5,5 @@ mod heads;
 mod replies;
 mod samples;
 mod starts;
+mod tellings;
 mod writing;

@@ -80,6 +80,7 @@ const RAISED: &str = "Letter { \
     next: Some(SharedLayout { shared: Layout { k: 1, members: [4] } }), \
     start: Some(Start { position: 1, \
     layout: SharedLayout { shared: Layout { k: 1, members: [4] } } }), \
+    asks_piece: false, told: None, \
     message: Message { call: 0, phase: 0, position: 0, member: 1, body: Request(Spread(Final)) } }";
 
 // The last two entries say that the pointer was raised, and the bank closed.

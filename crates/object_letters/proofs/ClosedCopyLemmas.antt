@@ -152,6 +152,7 @@ module _ (moves : Type 0) (local : LocalObject) where
         node = all.towards.node;
         delta = all.towards.delta;
         start = all.towards.start;
+        reports = all.towards.reports;
         layouts = all.towards.layouts;
         first = all.towards.first;
         banks = λ q j layout heard named. banks after all.own q j layout heard named (heard_place local.places q) refl;

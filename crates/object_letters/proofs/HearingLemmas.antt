@@ -48,6 +48,7 @@ module _ (local : LocalObject) where
     node = blank.node;
     delta = blank.delta;
     start = blank.start;
+    reports = blank.reports;
     layouts = λ q other e. within q other (layout_learnt copy p layout q other e);
     first = still_some copy p layout 0 blank.first;
     banks = λ q member. bank_learnt copy p layout q member ∙ blank.banks q member;
@@ -127,6 +128,7 @@ heard_blank moves local first here still is =
       node = all.blank.node;
       delta = all.blank.delta;
       start = all.blank.start;
+      reports = all.blank.reports;
       layouts = all.blank.layouts;
       first = all.blank.first;
       banks = all.blank.banks;

@@ -30,6 +30,7 @@ new_blank moves local first here still alone = record {
   node = refl;
   delta = refl;
   start = omega arith;
+  reports = refl;
   layouts = λ q layout e. only q layout (eqb 0 q) refl e;
   first = refl;
   banks = λ q member. no_bank q member (eqb 0 q);

@@ -218,6 +218,7 @@ module _ (moves : Type 0) (local : LocalObject) where
         node = blank.node;
         delta = blank.delta;
         start = blank.start;
+        reports = blank.reports;
         layouts = blank.layouts;
         first = blank.first;
         calls = blank.calls;

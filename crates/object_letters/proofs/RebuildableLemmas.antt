@@ -6,9 +6,9 @@ use Rattle.bank.specs.declared.kind.Kind.{Kind}
 use Rattle.mail.specs.declared.message.Body.{Body}
 use Rattle.record.specs.declared.call.CallKind.{CallKind}
 use Rattle.record.specs.declared.stage.Stage.{Stage}
-use Rattle.open_calls.specs.OpenCalls.{NodeCall, due_phase, open_call, with_open, taking_open}
+use Rattle.open_calls.specs.OpenCalls.{NodeCall, due_phase, open_call, with_open}
 use Rattle.local_object.specs.Local.{LocalObject, last_position, layout_here, with_heard, new_local}
-use Rattle.local_object.specs.Events.{LocalEvent, advanced_at, advanced_here, done_here, served_here}
+use Rattle.local_object.specs.Events.{LocalEvent, advanced_at, advanced_here, done_here, served_here, taking_here}
 use Rattle.local_object.specs.Outcomes.{Outcome, begun_here, learnt_from, on_open_call, silent}
 use Rattle.local_object.specs.Starting.{anew_number, number_at, reads_at, reads_here}
 use Rattle.local_object.specs.May.{MayHappenHere}
@@ -70,7 +70,7 @@ stays_rebuildable local (LocalEvent.Take letter) is may fit =
     let heard = learnt_from local letter in
     let heard_is = letter_rebuildable local letter fit is in
     called_rebuildable heard (open_call heard.calls letter.message.call)
-    (λ call. silent (record heard { calls = with_open (taking_open letter.message call) heard.calls })) heard_is
+    (λ call. silent (taking_here heard call letter.message letter.told)) heard_is
     (λ call. record { apart = heard_is.apart; places = heard_is.places })
 stays_rebuildable local (LocalEvent.Settle id value) is may fit =
     called_rebuildable local (open_call local.calls id)
@@ -89,3 +89,4 @@ stays_rebuildable local (LocalEvent.BeginAnew id) is may fit =
     called_rebuildable local (open_call local.calls id) (λ call. reads_here local call (anew_number call local.start)) is
     (λ call. reads_rebuildable local call (anew_number call local.start) local.start (layout_here local local.start) is)
 stays_rebuildable local (LocalEvent.Raise position) is may fit = raise_rebuildable local position is may.bank
+stays_rebuildable local (LocalEvent.EndEarly id value) is may fit = record { apart = is.apart; places = is.places }

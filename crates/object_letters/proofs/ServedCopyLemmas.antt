@@ -34,6 +34,7 @@ pub record IsTowards (moves : Type 0) (local copy : LocalObject) : Type 0 where
   pub node : copy.node ≡ local.node
   pub delta : copy.delta ≡ local.delta
   pub start : copy.start ≤ local.start
+  pub reports : copy.reports ≡ []
   pub layouts : (q : ℕ) (layout : Layout) → layout_here copy q ≡ Some layout → layout_here local q ≡ Some layout
   pub first : IsSome (layout_here copy 0)
   pub calls : copy.calls ≡ filter (λ call. is_move call.kind) local.calls
@@ -85,6 +86,7 @@ module _ (moves : Type 0) (local : LocalObject) where
     node = towards.node;
     delta = towards.delta;
     start = towards.start;
+    reports = towards.reports;
     layouts = λ q other e. within q other (layout_learnt copy p layout q other e);
     first = known_still copy p layout 0 towards.first;
     calls = towards.calls;
@@ -112,6 +114,7 @@ module _ (moves : Type 0) (local : LocalObject) where
             node = heard.node;
             delta = heard.delta;
             start = told_order copy start local.start towards.start is.0;
+            reports = heard.reports;
             layouts = heard.layouts;
             first = heard.first;
             calls = heard.calls;
@@ -124,6 +127,7 @@ module _ (moves : Type 0) (local : LocalObject) where
     node = towards.node;
     delta = towards.delta;
     start = towards.start;
+    reports = towards.reports;
     layouts = λ q layout e. towards.layouts q layout (sym (layout_with copy p bank q) ∙ e);
     first = subst IsSome (sym (layout_with copy p bank 0)) towards.first;
     calls = towards.calls;

@@ -1,6 +1,6 @@
 -- The contracts that docs/trusted.md lists do not depend on this file; other contracts and proofs do.
 -- The laws: letters lead back to an object, and all objects of a node are such that they do.
-use Rattle.std.specs.Prelude.{◌≡◌, ◌≤◌, ℕ, false, Option, Some, IsSome}
+use Rattle.std.specs.Prelude.{◌≡◌, ◌≤◌, ℕ, false, [], Option, Some, IsSome}
 use Rattle.std.specs.List.{AllByRecursion, filter}
 use Rattle.layout.specs.Layout.{Layout, IsLawful}
 use Rattle.bank.specs.Bank.{opened_bank}
@@ -24,6 +24,7 @@ pub record IsBlankOf (moves : Type 0) (local copy : LocalObject) : Type 0 where
   pub node : copy.node ≡ local.node
   pub delta : copy.delta ≡ local.delta
   pub start : copy.start ≤ local.start
+  pub reports : copy.reports ≡ []
   pub layouts : (position : ℕ) (layout : Layout) → layout_here copy position ≡ Some layout →
       layout_here local position ≡ Some layout
   pub first : IsSome (layout_here copy 0)

@@ -1,5 +1,5 @@
 -- The letters that lead a node's new object to one that it keeps, if the node serves them in their order.
-use Rattle.std.specs.Prelude.{ℕ, suc, ◌==◌, List, [], ◌∷◌, ◌++◌, map, Option, None, Some}
+use Rattle.std.specs.Prelude.{ℕ, suc, ◌==◌, false, List, [], ◌∷◌, ◌++◌, map, Option, None, Some}
 use Rattle.std.specs.List.{position}
 use Rattle.encoder.specs.Fragment.{fragment}
 use Rattle.bank.specs.declared.request.Request.{Request}
@@ -13,13 +13,15 @@ use Rattle.local_object.specs.Outcomes.{next_in_request}
 use Rattle.local_object.specs.Doing.{serve_events}
 
 -- a request to the bank of a place of an object, as a letter to this member of it; its reply goes nowhere, so no call
--- asks; the letter has the layout of the next position where the request says that there is one, and tells the object's
--- start
+-- asks, and it asks for no piece; the letter has the layout of the next position where the request says that there is
+-- one, and tells the object's start
 abbrev pub letter_to : LocalObject → Place → (member : ℕ) → Request → Letter
 letter_to local place member asked = record {
   layout = place.layout;
   next = next_in_request asked (layout_here local (suc place.position));
   start = told_start local;
+  asks_piece = false;
+  told = None;
   message = record {
     call = 0;
     phase = 0;

@@ -102,6 +102,8 @@ pub(crate) fn letter_for(
         layout: place.shared_layout().clone()?,
         next,
         start: told_start(local)?,
+        asks_piece: false,
+        told: None,
         message: Message {
             call: 0,
             phase: 0,

@@ -20,7 +20,8 @@ use Rattle.local_object.specs.Going.{next_if}
 use Rattle.local_object.specs.Local.{LocalObject, layout_here}
 use Rattle.local_object.specs.ReadingOn.{read_on_events, reads_on}
 use Rattle.local_object.specs.Starting.{anew_number, number_at, reads_at, reads_here}
-use Rattle.local_object.specs.Taking.{AreSettling, GoesOn, IsReplyOutcome, begin_anew_events, begin_events, call_events, can_begin}
+use Rattle.local_object.specs.Replies.{EndsEarly, GoesOn, IsReplyOutcome}
+use Rattle.local_object.specs.Taking.{AreSettling, begin_anew_events, begin_events, call_events, can_begin}
 use Rattle.local_object.specs.Taking.{can_begin_anew, going_events, is_read_begin, lead_events, machine_of, repeats, restart_events}
 use Rattle.local_object.specs.Taking.{step_events}
 use Rattle.local_object.proofs.HeardLayoutLemmas.{calls_heard}
@@ -35,7 +36,7 @@ module _ (moves : Type 0) (local copy : LocalObject) (is : IsObjectCopy moves lo
   client_settles : (value : List ℕ) → IsObjectCopy moves (done_here fragment local (LocalEvent.Settle id value)).local copy
   client_settles value =
       subst (λ l. IsObjectCopy moves l copy) (sym (settled_is fragment local id value call found))
-      (with_client moves local copy is id call (record call { settled = Some value }) found client refl client)
+      (with_client moves local copy is id call (record call { settled = Some value }) local.reports found client refl client)
 
   advanced_alone : (o : Option (Kind × ℕ)) → IsObjectCopy moves (advanced_here fragment local call o).local copy
   advanced_alone None = is
@@ -43,7 +44,7 @@ module _ (moves : Type 0) (local copy : LocalObject) (is : IsObjectCopy moves lo
     where
       at : (o : Option Layout) → IsObjectCopy moves (advanced_at fragment local call next o).local copy
       at None = is
-      at (Some layout) = with_client moves local copy is id call _ found client refl client
+      at (Some layout) = with_client moves local copy is id call _ local.reports found client refl client
 
   client_advances : IsObjectCopy moves (done_here fragment local (LocalEvent.Advance id)).local copy
   client_advances =
@@ -51,7 +52,7 @@ module _ (moves : Type 0) (local copy : LocalObject) (is : IsObjectCopy moves lo
 
   read_alone : (number : ℕ) (o : Option Layout) → IsObjectCopy moves (reads_at local call number local.start o).local copy
   read_alone number None = is
-  read_alone number (Some layout) = with_client moves local copy is id call _ found client refl client
+  read_alone number (Some layout) = with_client moves local copy is id call _ local.reports found client refl client
 
   client_anew : IsObjectCopy moves (done_here fragment local (LocalEvent.BeginAnew id)).local copy
   client_anew =
@@ -151,18 +152,33 @@ module _ (moves : Type 0) (local copy : LocalObject) (is : IsObjectCopy moves lo
     client_took =
         subst (λ l. IsObjectCopy moves l copy) (sym (taken_is fragment local letter call found))
         (with_client moves (learnt_from local letter) copy learnt_alone letter.message.call call
-        (taking_open letter.message call) learnt_found client refl client)
+        (taking_open letter.message call) _ learnt_found client refl client)
 
-    client_taken : (new : LocalObject) (sent : List Letter) (ended : List Ended) → GoesOn local letter new sent ended →
+    abbrev taken : LocalObject
+    taken = (done_here fragment local (LocalEvent.Take letter)).local
+
+    taken_found : open_call taken.calls letter.message.call ≡ Some (taking_open letter.message call)
+    taken_found =
+        ap (λ (l : LocalObject). open_call l.calls letter.message.call) (taken_is fragment local letter call found)
+        ∙ found_new (learnt_from local letter).calls letter.message.call call (taking_open letter.message call) learnt_found refl
+
+    client_ended : (new : LocalObject) (sent : List Letter) (ended : List Ended) → EndsEarly local letter new sent ended →
         IsObjectCopy moves new copy
-    client_taken new sent ended taken =
-        subst (λ l. IsObjectCopy moves l copy) (sym (taken_to local letter new sent ended taken))
-        (client_goes_on (repeats local letter) moves (done_here fragment local (LocalEvent.Take letter)).local copy client_took
-        letter.message.call
-        (taking_open letter.message call)
-        (ap (λ (l : LocalObject). open_call l.calls letter.message.call) (taken_is fragment local letter call found)
-        ∙ found_new (learnt_from local letter).calls letter.message.call call (taking_open letter.message call) learnt_found refl)
-        client taken.settling taken.settles)
+    client_ended new sent ended early =
+        subst (λ l. IsObjectCopy moves l copy) (sym early.done.done.local)
+        (without_client moves taken copy client_took letter.message.call (taking_open letter.message call) taken_found client)
+
+    client_went_on : (new : LocalObject) (sent : List Letter) (ended : List Ended) → GoesOn local letter new sent ended →
+        IsObjectCopy moves new copy
+    client_went_on new sent ended goes =
+        subst (λ l. IsObjectCopy moves l copy) (sym (taken_to local letter new sent ended goes))
+        (client_goes_on (repeats local letter) moves taken copy client_took letter.message.call (taking_open letter.message call)
+        taken_found client goes.settling goes.settles)
+
+    client_taken : (new : LocalObject) (sent : List Letter) (ended : List Ended) → IsReplyOutcome true local letter new sent ended →
+        IsObjectCopy moves new copy
+    client_taken new sent ended (inl early) = client_ended new sent ended early
+    client_taken new sent ended (inr goes) = client_went_on new sent ended goes
 
   -- a reply that is to no open move changes nothing that the copy has
   pub client_takes : has_move_open local letter.message.call ≡ false → (new : LocalObject) (sent : List Letter)

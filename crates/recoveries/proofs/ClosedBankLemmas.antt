@@ -27,6 +27,7 @@ module _ (moves : Type 0) (local copy : LocalObject) (is : IsObjectCopy moves lo
               ∙ ap (λ (b : KeptBank). cond (eqb p q) (left_of b) b)
               (kept.banks q member layout (sym (layout_with local p own q) ∙ at) holds)
               ∙ sym (bank_closed local p q member);
+          reports = kept.reports;
           calls = kept.calls;
           mover = λ here q layout e. layout_with copy p other q ∙ kept.mover here q layout (sym (layout_with local p own q) ∙ e);
         };

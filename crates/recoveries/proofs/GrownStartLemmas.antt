@@ -45,6 +45,7 @@ later_start moves local copy is own other order = record {
     layouts = is.kept.layouts;
     first = is.kept.first;
     banks = is.kept.banks;
+    reports = is.kept.reports;
     calls = is.kept.calls;
     mover = is.kept.mover;
   };

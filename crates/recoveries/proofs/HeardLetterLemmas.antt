@@ -70,6 +70,7 @@ both_start moves local copy start heard = record {
   layouts = heard.layouts;
   first = heard.first;
   banks = heard.banks;
+  reports = heard.reports;
   calls = heard.calls;
   mover = heard.mover;
 }
@@ -101,6 +102,7 @@ start_alone_if moves local copy kept (Some start) known =
       layouts = heard.layouts;
       first = heard.first;
       banks = heard.banks;
+      reports = heard.reports;
       calls = heard.calls;
       mover = heard.mover;
     }

@@ -7,8 +7,11 @@ use Rattle.record.specs.Legal.{is_move}
 use Rattle.open_calls.proofs.ListLemmas.{all_weaker}
 use Rattle.open_calls.specs.OpenCalls.{NodeCall, open_call, with_open, without_call, NodeCallsDiffer}
 use Rattle.open_calls.proofs.OpenCallLemmas.{found_filter}
+use Rattle.local_object.specs.declared.report.Report.{Report}
 use Rattle.local_object.specs.Doing.{is_moving}
+use Rattle.local_object.specs.Events.{ended_here}
 use Rattle.local_object.specs.Local.{LocalObject}
+use Rattle.local_object.specs.Reports.{without_reports}
 use Rattle.local_object.specs.Restarts.{IsKeptHere}
 use Rattle.open_calls.proofs.CallsOfNodeLemmas.{append_nothing, filter_push, filter_swap, filter_within, only_one, with_here, with_there}
 use Rattle.open_calls.proofs.DistinctCallLemmas.{distinct_filter, distinct_push, distinct_with}
@@ -93,30 +96,34 @@ as_found calls id call b distinct found is =
     all_weaker (λ (other : NodeCall). other.id ≡ id → other ≡ call) (λ (other : NodeCall). other.id ≡ id → moves_call other ≡ b)
     (λ other same at. ap moves_call (same at) ∙ is) calls (only_one calls id call distinct found)
 
--- Calls that change
+-- Calls that change: what they are told is not kept
 
-calls_kept : (moves : Type 0) (local copy : LocalObject) → IsKeptHere moves local copy → (calls those : List NodeCall) →
-    those ≡ filter moves_call calls → IsKeptHere moves (record local { calls = calls }) (record copy { calls = those })
-calls_kept moves local copy kept calls those same = record {
+calls_kept : (moves : Type 0) (local copy : LocalObject) → IsKeptHere moves local copy → (calls those : List NodeCall)
+    (reports told : List Report) → those ≡ filter moves_call calls → told ≡ [] →
+    IsKeptHere moves (record local { calls = calls; reports = reports }) (record copy { calls = those; reports = told })
+calls_kept moves local copy kept calls those reports told same none = record {
   node = kept.node;
   delta = kept.delta;
   start = kept.start;
   layouts = kept.layouts;
   first = kept.first;
   banks = kept.banks;
+  reports = none;
   calls = same;
   mover = kept.mover;
 }
 
-calls_left : (moves : Type 0) (local copy : LocalObject) → IsKeptHere moves local copy → (calls : List NodeCall) →
-    filter moves_call calls ≡ filter moves_call local.calls → IsKeptHere moves (record local { calls = calls }) copy
-calls_left moves local copy kept calls same = record {
+calls_left : (moves : Type 0) (local copy : LocalObject) → IsKeptHere moves local copy → (calls : List NodeCall)
+    (reports : List Report) → filter moves_call calls ≡ filter moves_call local.calls →
+    IsKeptHere moves (record local { calls = calls; reports = reports }) copy
+calls_left moves local copy kept calls reports same = record {
   node = kept.node;
   delta = kept.delta;
   start = kept.start;
   layouts = kept.layouts;
   first = kept.first;
   banks = kept.banks;
+  reports = kept.reports;
   calls = kept.calls ∙ sym same;
   mover = kept.mover;
 }
@@ -129,27 +136,29 @@ module _ (moves : Type 0) (local copy : LocalObject) (is : IsObjectCopy moves lo
       ap (λ calls. open_call calls id) is.kept.calls ∙ found_filter moves_call local.calls id call found move
 
   -- a move changes, at both
-  pub with_move : moves → (id : ℕ) (call new : NodeCall) → open_call local.calls id ≡ Some call → moves_call call ≡ true →
-      new.id ≡ call.id → moves_call new ≡ true → IsObjectCopy moves
-      (record local { calls = with_open new local.calls }) (record copy { calls = with_open new copy.calls })
-  with_move here id call new found move same still = record {
-    kept = calls_kept moves local copy is.kept (with_open new local.calls) (with_open new copy.calls)
+  pub with_move : moves → (id : ℕ) (call new : NodeCall) (reports told : List Report) → open_call local.calls id ≡ Some call →
+      moves_call call ≡ true → new.id ≡ call.id → moves_call new ≡ true → told ≡ [] → IsObjectCopy moves
+      (record local { calls = with_open new local.calls; reports = reports })
+      (record copy { calls = with_open new copy.calls; reports = told })
+  with_move here id call new reports told found move same still none = record {
+    kept = calls_kept moves local copy is.kept (with_open new local.calls) (with_open new copy.calls) reports told
         (ap (with_open new) is.kept.calls ∙ sym (with_here moves_call new local.calls still
         (all_weaker (λ (other : NodeCall). other.id ≡ id → moves_call other ≡ true)
         (λ (other : NodeCall). other.id ≡ new.id → moves_call other ≡ moves_call new)
         (λ other those at. those (at ∙ same ∙ found_id local.calls id call found) ∙ sym still) local.calls
-        (as_found local.calls id call true is.distinct found move))));
+        (as_found local.calls id call true is.distinct found move)))) none;
     distinct = distinct_with new local.calls is.distinct;
     mover = λ moving. here;
   }
 
   -- a move ends, at both
-  pub without_move : moves → (id : ℕ) → IsObjectCopy moves
-      (record local { calls = without_call id local.calls }) (record copy { calls = without_call id copy.calls })
+  pub without_move : moves → (id : ℕ) → IsObjectCopy moves (ended_here local id) (ended_here copy id)
   without_move here id = record {
     kept = calls_kept moves local copy is.kept (without_call id local.calls) (without_call id copy.calls)
+        (without_reports id local.reports) (without_reports id copy.reports)
         (ap (without_call id) is.kept.calls
-        ∙ filter_swap (λ call. not (eqb call.id id)) moves_call moves_call (λ call e. refl) local.calls);
+        ∙ filter_swap (λ call. not (eqb call.id id)) moves_call moves_call (λ call e. refl) local.calls)
+        (ap (without_reports id) is.kept.reports);
     distinct = distinct_filter (λ call. not (eqb call.id id)) local.calls is.distinct;
     mover = λ moving. here;
   }
@@ -158,25 +167,27 @@ module _ (moves : Type 0) (local copy : LocalObject) (is : IsObjectCopy moves lo
   pub plus_move : moves → (new : NodeCall) → open_call local.calls new.id ≡ None → moves_call new ≡ true → IsObjectCopy moves
       (record local { calls = local.calls ++ new ∷ [] }) (record copy { calls = copy.calls ++ new ∷ [] })
   plus_move here new none move = record {
-    kept = calls_kept moves local copy is.kept (local.calls ++ new ∷ []) (copy.calls ++ new ∷ [])
-        (ap (λ calls. calls ++ new ∷ []) is.kept.calls ∙ sym (filter_push moves_call new true move local.calls));
+    kept = calls_kept moves local copy is.kept (local.calls ++ new ∷ []) (copy.calls ++ new ∷ []) local.reports copy.reports
+        (ap (λ calls. calls ++ new ∷ []) is.kept.calls ∙ sym (filter_push moves_call new true move local.calls))
+        is.kept.reports;
     distinct = distinct_push local.calls new is.distinct (none_apart local.calls new.id none);
     mover = λ moving. here;
   }
 
-  left : (calls : List NodeCall) → filter moves_call calls ≡ filter moves_call local.calls → NodeCallsDiffer calls →
-      IsObjectCopy moves (record local { calls = calls }) copy
-  left calls same distinct = record {
-    kept = calls_left moves local copy is.kept calls same;
+  left : (calls : List NodeCall) (reports : List Report) → filter moves_call calls ≡ filter moves_call local.calls →
+      NodeCallsDiffer calls → IsObjectCopy moves (record local { calls = calls; reports = reports }) copy
+  left calls reports same distinct = record {
+    kept = calls_left moves local copy is.kept calls reports same;
     distinct = distinct;
     mover = λ moving. is.mover (moving_as local.calls calls same moving);
   }
 
   -- a read or a write changes
-  pub with_client : (id : ℕ) (call new : NodeCall) → open_call local.calls id ≡ Some call → moves_call call ≡ false →
-      new.id ≡ call.id → moves_call new ≡ false → IsObjectCopy moves (record local { calls = with_open new local.calls }) copy
-  with_client id call new found client same still =
-      left (with_open new local.calls)
+  pub with_client : (id : ℕ) (call new : NodeCall) (reports : List Report) → open_call local.calls id ≡ Some call →
+      moves_call call ≡ false → new.id ≡ call.id → moves_call new ≡ false →
+      IsObjectCopy moves (record local { calls = with_open new local.calls; reports = reports }) copy
+  with_client id call new reports found client same still =
+      left (with_open new local.calls) reports
       (with_there moves_call new local.calls still
       (all_weaker (λ (other : NodeCall). other.id ≡ id → moves_call other ≡ false)
       (λ (other : NodeCall). other.id ≡ new.id → moves_call other ≡ moves_call new)
@@ -186,9 +197,9 @@ module _ (moves : Type 0) (local copy : LocalObject) (is : IsObjectCopy moves lo
 
   -- a read or a write ends
   pub without_client : (id : ℕ) (call : NodeCall) → open_call local.calls id ≡ Some call → moves_call call ≡ false →
-      IsObjectCopy moves (record local { calls = without_call id local.calls }) copy
+      IsObjectCopy moves (ended_here local id) copy
   without_client id call found client =
-      left (without_call id local.calls)
+      left (without_call id local.calls) (without_reports id local.reports)
       (filter_within moves_call (λ call. not (eqb call.id id)) local.calls
       (all_weaker (λ (other : NodeCall). other.id ≡ id → moves_call other ≡ false)
       (λ (other : NodeCall). not (eqb other.id id) ≡ false → moves_call other ≡ false)
@@ -204,6 +215,6 @@ module _ (moves : Type 0) (local copy : LocalObject) (is : IsObjectCopy moves lo
   pub plus_client : (new : NodeCall) → open_call local.calls new.id ≡ None → moves_call new ≡ false →
       IsObjectCopy moves (record local { calls = local.calls ++ new ∷ [] }) copy
   plus_client new none client =
-      left (local.calls ++ new ∷ [])
+      left (local.calls ++ new ∷ []) local.reports
       (filter_push moves_call new false client local.calls ∙ append_nothing (filter moves_call local.calls))
       (distinct_push local.calls new is.distinct (none_apart local.calls new.id none))

@@ -67,6 +67,7 @@ module _ (moves : Type 0) (local copy : LocalObject) (kept : IsKeptHere moves lo
     first = still_first copy p layout kept.first;
     banks = λ q member other at holds.
         bank_learnt copy p layout q member ∙ banks_learnt q member other at holds ∙ sym (bank_learnt local p layout q member);
+    reports = kept.reports;
     calls = kept.calls;
     mover = back;
   }
@@ -115,6 +116,7 @@ module _ (moves : Type 0) (local copy : LocalObject) (kept : IsKeptHere moves lo
     layouts = λ q other e. layout_stays local p layout q other (kept.layouts q other e);
     first = kept.first;
     banks = λ q member other at holds. banks_learnt q member other at holds ∙ sym (bank_learnt local p layout q member);
+    reports = kept.reports;
     calls = kept.calls;
     mover = λ here q other e. back here q other (layout_learnt local p layout q other e);
   }
@@ -143,6 +145,7 @@ module _ (moves : Type 0) (local copy : LocalObject) (kept : IsKeptHere moves lo
     layouts = λ q layout e. layout_with local p bank q ∙ kept.layouts q layout (sym (layout_with copy p other q) ∙ e);
     first = subst IsSome (sym (layout_with copy p other 0)) kept.first;
     banks = λ q member layout at holds. go q (eqb p q) refl member layout (sym (layout_with local p bank q) ∙ at) holds;
+    reports = kept.reports;
     calls = kept.calls;
     mover = λ here q layout e. layout_with copy p other q ∙ kept.mover here q layout (sym (layout_with local p bank q) ∙ e);
   }

@@ -24,9 +24,11 @@ use Rattle.record.specs.declared.stage.Stage.{Stage}
 use Rattle.record.specs.Sending.{request_to, requests}
 use Rattle.letter.specs.declared.letter.Letter.{Letter}
 use Rattle.letter.specs.declared.start.Start.{Start}
+use Rattle.letter.specs.declared.telling.Telling.{Telling}
 use Rattle.local_object.specs.Events.{LocalEvent, advanced_at, advanced_here, done_here, pieces_here, reply_letters, served_here}
-use Rattle.local_object.specs.Outcomes.{begun_here, if_pointed, learnt_from, letter_of, next_in_answer, next_in_request}
+use Rattle.local_object.specs.Outcomes.{begun_here, if_pointed, is_read, learnt_from, letter_of, next_in_answer, next_in_request}
 use Rattle.local_object.specs.Outcomes.{on_open_call, silent}
+use Rattle.local_object.specs.Sent.{asks_piece}
 use Rattle.local_object.specs.Starting.{anew_number, number_at, reads_at, reads_here}
 use Rattle.local_object.specs.KeptBanks.{kept_reply}
 use Rattle.local_object.specs.Local.{LocalObject, Place, bank_here, heard_place, last_position, layout_here, layout_in, start_at}
@@ -79,26 +81,29 @@ answer_lawful (answer.Piece piece) o lawful = tt
 
 -- Events
 
-requests_lawful : (local : LocalObject) (layout : Layout) (call number : ℕ) (kind : Kind) (position : ℕ) (members : List ℕ)
+requests_lawful : (local : LocalObject) (asks : Bool) (layout : Layout) (call number : ℕ) (kind : Kind) (position : ℕ) (members : List ℕ)
     (member : ℕ) (piece : ℕ → Piece) → IsRebuildable local → IsLawful layout →
-    AllByRecursion HasLawfulLayouts (map (letter_of local layout) (requests call number kind position members member piece))
-requests_lawful local layout call number kind position [] member piece is lawful = tt
-requests_lawful local layout call number kind position (server ∷ servers) member piece is lawful =
-    let next = request_lawful (request_to kind (piece member)) (layout_here local (suc position)) (known_lawful local is (suc position)) in
-    ((lawful, next, told_lawful local is), requests_lawful local layout call number kind position servers (suc member) piece is lawful)
+    AllByRecursion HasLawfulLayouts (map (letter_of local asks layout) (requests call number kind position members member piece))
+requests_lawful local asks layout call number kind position [] member piece is lawful = tt
+requests_lawful local asks layout call number kind position (server ∷ servers) member piece is lawful =
+    let known = known_lawful local is (suc position) in
+    let next = request_lawful (request_to kind (piece member)) (layout_here local (suc position)) known in (
+      (lawful, next, told_lawful local is),
+      requests_lawful local asks layout call number kind position servers (suc member) piece is lawful,
+    )
 
 begun_lawful : (local : LocalObject) (id : ℕ) (call_kind : CallKind) (stage : Stage) (kind : Kind) (number position : ℕ)
     (o : Option Layout) → IsRebuildable local → IsLawfulIfThere o →
     AllByRecursion HasLawfulLayouts (begun_here local id call_kind stage kind number position o).sent
 begun_lawful local id call_kind stage kind number position None is lawful = tt
 begun_lawful local id call_kind stage kind number position (Some layout) is lawful =
-    requests_lawful local layout id number kind position layout.members 0 empty_piece is lawful
+    requests_lawful local (is_read call_kind) layout id number kind position layout.members 0 empty_piece is lawful
 
 advanced_lawful : (local : LocalObject) (call : NodeCall) (next : Kind × ℕ) (o : Option Layout) → IsRebuildable local →
     IsLawfulIfThere o → AllByRecursion HasLawfulLayouts (advanced_at fragment local call next o).sent
 advanced_lawful local call next None is lawful = tt
 advanced_lawful local call next (Some layout) is lawful =
-    requests_lawful local layout call.id (suc call.phase.number) next.0 next.1 layout.members 0
+    requests_lawful local false layout call.id (suc call.phase.number) next.0 next.1 layout.members 0
     (pieces_here fragment layout call) is lawful
 
 due_lawful : (local : LocalObject) (call : NodeCall) (next : Option (Kind × ℕ)) → IsRebuildable local →
@@ -115,7 +120,7 @@ reads_lawful : (local : LocalObject) (call : NodeCall) (number start : ℕ) (o :
     IsLawfulIfThere o → AllByRecursion HasLawfulLayouts (reads_at local call number start o).sent
 reads_lawful local call number start None is lawful = tt
 reads_lawful local call number start (Some layout) is lawful =
-    requests_lawful local layout call.id number Next start layout.members 0 empty_piece is lawful
+    requests_lawful local (is_read call.kind) layout call.id number Next start layout.members 0 empty_piece is lawful
 
 reading_lawful : (local : LocalObject) (call : Option NodeCall) (number : NodeCall → ℕ) → IsRebuildable local →
     AllByRecursion HasLawfulLayouts (on_open_call local call (λ c. reads_here local c (number c))).sent
@@ -130,14 +135,14 @@ silent_lawful local (Some call) change = tt
 
 served_lawful : (local : LocalObject) (letter : Letter) (b : Body) → IsRebuildable local → IsLawful letter.layout →
     AllByRecursion HasLawfulLayouts (served_here local letter b).sent
-served_lawful local letter (body.Request asked) is lawful = go (kept_reply (bank_here local q letter.message.member) asked)
+served_lawful local letter (body.Request asked) is lawful = go _ (kept_reply (bank_here local q letter.message.member) asked)
   where
     q : ℕ
     q = letter.message.position
 
-    go : (o : Option Reply) → AllByRecursion HasLawfulLayouts (reply_letters local letter o)
-    go None = tt
-    go (Some reply) =
+    go : (told : Option Telling) (o : Option Reply) → AllByRecursion HasLawfulLayouts (reply_letters local letter told o)
+    go told None = tt
+    go told (Some reply) =
         ((lawful, answer_lawful reply.answer (layout_here local (suc q)) (known_lawful local is (suc q)), told_lawful local is), tt)
 served_lawful local letter (body.Reply kind made) is lawful = tt
 
@@ -160,6 +165,7 @@ event_lawful local (LocalEvent.Take letter) is may fit =
 event_lawful local (LocalEvent.Settle id value) is may fit = silent_lawful local (open_call local.calls id) _
 event_lawful local (LocalEvent.Answer id) is may fit = tt
 event_lawful local (LocalEvent.GiveUp id) is may fit = tt
+event_lawful local (LocalEvent.EndEarly id value) is may fit = tt
 event_lawful local (LocalEvent.Close position) is may fit = tt
 event_lawful local (LocalEvent.Raise position) is may fit = tt
 event_lawful local (LocalEvent.Grow id) is may fit = tt
@@ -183,7 +189,7 @@ pub resent_lawful : (local : LocalObject) (letters : List Letter) → IsRebuilda
 resent_lawful local letters is resent =
     all_weaker (IsResent fragment local) HasLawfulLayouts
     (λ letter again. all_at HasLawfulLayouts (current_letters fragment local again.call again.layout)
-    (requests_lawful local again.layout again.call.id again.call.phase.number again.call.phase.kind
-    again.call.phase.position again.layout.members 0 (pieces_here fragment again.layout again.call) is
+    (requests_lawful local (asks_piece again.call.kind again.call.stage) again.layout again.call.id again.call.phase.number
+    again.call.phase.kind again.call.phase.position again.layout.members 0 (pieces_here fragment again.layout again.call) is
     (subst IsLawfulIfThere again.known (known_lawful local is again.call.phase.position)))
     again.place letter again.at) letters resent

@@ -2,6 +2,7 @@ pub mod HeardLayoutLemmas
 pub mod KeptPlaceLemmas
 pub mod HeardLetterLemmas
 pub mod KeptCallLemmas
+pub mod EarlyMoveLemmas
 pub mod TwinLemmas
 pub mod GrownStartLemmas
 pub mod SameStepLemmas

@@ -90,6 +90,7 @@ starts_logged old new started =
       layouts = kept.layouts;
       first = kept.first;
       banks = kept.banks;
+      reports = kept.reports;
       calls = kept.calls;
       mover = λ here. kept.mover (sym (started_number old new started) ∙ here);
     }

@@ -24,6 +24,7 @@ moves_as m n there back local copy is = record {
     layouts = is.kept.layouts;
     first = is.kept.first;
     banks = is.kept.banks;
+    reports = is.kept.reports;
     calls = is.kept.calls;
     mover = λ here. is.kept.mover (back here);
   };
@@ -111,6 +112,7 @@ self_object moves local copy is =
         layouts = λ q layout e. e;
         first = is.kept.first;
         banks = λ q member layout at holds. refl;
+        reports = is.kept.reports;
         calls = is.kept.calls ∙ sym moved;
         mover = λ here q layout e. e;
       };
@@ -139,6 +141,7 @@ new_copy file number = record {
     layouts = λ q layout e. e;
     first = refl;
     banks = λ q member layout at holds. refl;
+    reports = refl;
     calls = refl;
     mover = λ here q layout e. e;
   };

@@ -11,7 +11,7 @@ use Rattle.deeds.proofs.IdLemmas.{given_later, later_then, next_later}
 use Rattle.open_calls.proofs.ListLemmas.{all_append, all_weaker}
 use Rattle.encoder.specs.Fragment.{fragment}
 use Rattle.layout.specs.Layout.{Layout}
-use Rattle.local_object.specs.Events.{LocalEvent, advanced_here, done_here}
+use Rattle.local_object.specs.Events.{LocalEvent, advanced_here, done_here, taking_here}
 use Rattle.local_object.specs.Outcomes.{begun_here, learnt_from, silent}
 use Rattle.local_object.specs.Starting.{anew_number, number_at, reads_here}
 use Rattle.local_object.specs.Local.{LocalObject, last_position, layout_here, with_heard}
@@ -102,7 +102,7 @@ event_own local (LocalEvent.Take letter) before after same within own =
     let next = learnt_from local letter in
     subst (λ ids. AreOwnCalls ids (done_here fragment local (LocalEvent.Take letter)).local.calls) same
     (on_open_same next (open_call next.calls letter.message.call)
-    (λ call. silent (record next { calls = with_open (taking_open letter.message call) next.calls }))
+    (λ call. silent (taking_here next call letter.message letter.told))
     (λ call ids kept. with_own (taking_open letter.message call) next.calls ids kept) before (letter_same local letter before own))
 event_own local (LocalEvent.Settle id value) before after same within own =
     subst (λ ids. AreOwnCalls ids (done_here fragment local (LocalEvent.Settle id value)).local.calls) same
@@ -117,6 +117,9 @@ event_own local (LocalEvent.Close position) before after same within own =
 event_own local (LocalEvent.Raise position) before after same within own =
     subst (λ ids. AreOwnCalls ids local.calls) same own
 event_own local (LocalEvent.GiveUp id) before after same within own =
+    subst (λ ids. AreOwnCalls ids (without_call id local.calls)) same
+    (filter_own (λ call. not (eqb call.id id)) local.calls before own)
+event_own local (LocalEvent.EndEarly id value) before after same within own =
     subst (λ ids. AreOwnCalls ids (without_call id local.calls)) same
     (filter_own (λ call. not (eqb call.id id)) local.calls before own)
 event_own local (LocalEvent.Grow id) before after same within own = subst (λ ids. AreOwnCalls ids local.calls) same own

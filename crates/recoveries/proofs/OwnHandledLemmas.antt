@@ -39,6 +39,7 @@ event_fit got name (LocalEvent.Advance id) lawful fed = tt
 event_fit got name (LocalEvent.Settle id value) lawful fed = tt
 event_fit got name (LocalEvent.Answer id) lawful fed = tt
 event_fit got name (LocalEvent.GiveUp id) lawful fed = tt
+event_fit got name (LocalEvent.EndEarly id value) lawful fed = tt
 event_fit got name (LocalEvent.Close position) lawful fed = tt
 event_fit got name (LocalEvent.Raise position) lawful fed = tt
 event_fit got name (LocalEvent.Grow id) lawful fed = tt

@@ -8,10 +8,10 @@ use Rattle.mail.specs.declared.message.Body.{Body}
 use Rattle.mail.specs.declared.message.Body.TheVariants as body
 use Rattle.record.specs.declared.call.CallKind.{CallKind}
 use Rattle.record.specs.declared.stage.Stage.{Stage}
-use Rattle.open_calls.specs.OpenCalls.{NodeCall, due_phase, open_call, with_open, taking_open}
+use Rattle.open_calls.specs.OpenCalls.{NodeCall, due_phase, open_call, with_open}
 use Rattle.letter.specs.declared.letter.Letter.{Letter}
 use Rattle.letter.specs.declared.start.Start.{Start}
-use Rattle.local_object.specs.Events.{LocalEvent, advanced_at, advanced_here, all_done, done_here, served_here}
+use Rattle.local_object.specs.Events.{LocalEvent, advanced_at, advanced_here, all_done, done_here, served_here, taking_here}
 use Rattle.local_object.specs.Outcomes.{Outcome, begun_here, layouts_learnt, learnt_from, on_open_call, silent}
 use Rattle.local_object.specs.Starting.{anew_number, number_at, reads_at, reads_here}
 use Rattle.local_object.specs.Local.{LocalObject, heard_start_if, last_position, layout_here, learnt_if, with_heard}
@@ -123,7 +123,7 @@ module _ (q : ℕ) (layout : Layout) where
       let heard = learnt_from local letter in
       then_same local heard (done_here fragment local (LocalEvent.Take letter)).local (letter_same local letter)
       (called_same heard (open_call heard.calls letter.message.call)
-      (λ call. silent (record heard { calls = with_open (taking_open letter.message call) heard.calls }))
+      (λ call. silent (taking_here heard call letter.message letter.told))
       (λ call. record { node = refl; delta = refl; known = λ e. e }))
   event_same local (LocalEvent.Settle id value) =
       called_same local (open_call local.calls id)
@@ -131,6 +131,7 @@ module _ (q : ℕ) (layout : Layout) where
       (λ call. record { node = refl; delta = refl; known = λ e. e })
   event_same local (LocalEvent.Answer id) = record { node = refl; delta = refl; known = λ e. e }
   event_same local (LocalEvent.GiveUp id) = record { node = refl; delta = refl; known = λ e. e }
+  event_same local (LocalEvent.EndEarly id value) = record { node = refl; delta = refl; known = λ e. e }
   event_same local (LocalEvent.Close position) = record {
     node = refl;
     delta = refl;

@@ -17,7 +17,8 @@ use Rattle.layout.specs.Layout.{Layout}
 use Rattle.local_object.specs.Local.{LocalObject, Place, with_heard}
 use Rattle.local_object.proofs.HeardPlaceLemmas.{layout_stays}
 use Rattle.object_letters.proofs.HeardPositionLemmas.{heard_rebuildable}
-use Rattle.local_object.specs.Taking.{AreSettling, IsReplyOutcome, begin_anew_events, begin_events, call_events, can_begin}
+use Rattle.local_object.specs.Replies.{IsReplyOutcome}
+use Rattle.local_object.specs.Taking.{AreSettling, begin_anew_events, begin_events, call_events, can_begin}
 use Rattle.local_object.specs.Taking.{can_begin_anew, going_events, grow_events, grows_by, is_read_begin, lead_events, machine_of}
 use Rattle.local_object.specs.Taking.{repeats, restart_events, step_events}
 use Rattle.open_calls.specs.OpenCalls.{NodeCall, open_call}
@@ -104,7 +105,11 @@ take_own : (old new : KeptNode) (name : List ℕ) (letter : Letter) (local : Loc
     IsReplyOutcome b (old.objects name) letter local sent ended → HasOwnObjects new
 take_own old new name letter local sent ended lawful put own false taken =
     done_own old new name local [] sent tt taken.done put own
-take_own old new name letter local sent ended lawful put own true taken =
+take_own old new name letter local sent ended lawful put own true (inl early) =
+    done_own old new name local
+    (LocalEvent.Take letter ∷ LocalEvent.EndEarly letter.message.call early.returned ∷ []) sent (lawful, (tt, tt))
+    early.done.done put own
+take_own old new name letter local sent ended lawful put own true (inr taken) =
     let before = old.objects name in
     let id = letter.message.call in
     let first = LocalEvent.Take letter ∷ taken.settling in

@@ -4,7 +4,7 @@ use Rattle.deeds.specs.CallId.{CallIds}
 use Rattle.local_object.specs.Doing.{IsOutcome, close_events, is_taken, serve_events}
 use Rattle.local_object.specs.Events.{LocalEvent}
 use Rattle.local_object.specs.Local.{LocalObject, with_heard}
-use Rattle.local_object.specs.Taking.{IsReplyOutcome}
+use Rattle.local_object.specs.Replies.{IsReplyOutcome}
 use Rattle.deeds.specs.Kept.{KeptNode}
 use Rattle.deeds.specs.Named.{is_same_name}
 use Rattle.recoveries.specs.Laws.{TwoAreRecovered}

@@ -1,5 +1,5 @@
 -- What is carried out again, one record after another, and how a node starts again.
-use Rattle.std.proofs.Common.{◌≡◌, ℕ, suc, ◌<◌, ◌≤◌, ◌^◌, Bool, true, false, cond, List, [], ◌∷◌, ◌++◌}
+use Rattle.std.proofs.Common.{◌≡◌, inl, inr, ℕ, suc, ◌<◌, ◌≤◌, ◌^◌, Bool, true, false, cond, List, [], ◌∷◌, ◌++◌}
 use Rattle.std.proofs.Common.{refl, sym, subst, ap, ◌∙◌, arith}
 use Rattle.encoder.specs.Fragment.{fragment}
 use Rattle.letter.specs.declared.letter.Letter.{Letter}
@@ -7,7 +7,8 @@ use Rattle.local_object.specs.declared.progress.Ended.{Ended}
 use Rattle.local_object.specs.Doing.{close_events, is_taken, serve_events}
 use Rattle.local_object.specs.Events.{LocalEvent, all_done, done_here}
 use Rattle.local_object.specs.Local.{LocalObject, with_heard}
-use Rattle.local_object.specs.Taking.{IsReplyOutcome, repeats}
+use Rattle.local_object.specs.Replies.{IsReplyOutcome}
+use Rattle.local_object.specs.Taking.{repeats}
 use Rattle.local_object.specs.Restarts.{IsKeptHere}
 use Rattle.deeds.specs.Kept.{KeptNode, new_node}
 use Rattle.deeds.specs.Named.{is_same_name, with_named}
@@ -58,7 +59,13 @@ one_put a b c d name local other same first second is = record {
 one_taken : (b : Bool) (local : LocalObject) (letter : Letter) (new other : LocalObject) (sent more : List Letter)
     (ended told : List Ended) → IsReplyOutcome b local letter new sent ended → IsReplyOutcome b local letter other more told → other ≡ new
 one_taken false local letter new other sent more ended told first second = second.done.local ∙ sym first.done.local
-one_taken true local letter new other sent more ended told first second =
+one_taken true local letter new other sent more ended told (inl first) (inl second) =
+    second.done.done.local ∙ sym first.done.done.local
+one_taken true local letter new other sent more ended told (inl first) (inr second) =
+    absurd (second.waits first.returned first.can)
+one_taken true local letter new other sent more ended told (inr first) (inl second) =
+    absurd (first.waits second.returned second.can)
+one_taken true local letter new other sent more ended told (inr first) (inr second) =
     let taken = (done_here fragment local (LocalEvent.Take letter)).local in
     let id = letter.message.call in
     taken_to local letter other more told second

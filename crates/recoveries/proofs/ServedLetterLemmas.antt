@@ -180,6 +180,7 @@ module _ (moves : Type 0) (local copy : LocalObject) (is : IsObjectCopy moves lo
           (λ known there. ap (λ (l : Layout). slice_get l.members member)
           (same_Some known layout (sym (only.kept q known there) ∙ at)) ∙ holds ∙ ap Some only.node)
           ∙ sym (only.banks q member);
+      reports = is.kept.reports;
       calls = is.kept.calls ∙ ap (filter moves_call) (sym only.calls);
       mover = λ here q layout at.
           (letter_alone moves local copy is.kept letter knows).mover here q layout (only.heard q layout at);

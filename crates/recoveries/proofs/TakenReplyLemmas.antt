@@ -15,12 +15,14 @@ use Rattle.local_object.specs.Events.{LocalEvent, all_done, done_here}
 use Rattle.local_object.specs.Outcomes.{learnt_from}
 use Rattle.local_object.specs.Going.{next_if}
 use Rattle.local_object.specs.Local.{LocalObject}
-use Rattle.local_object.specs.Taking.{AreSettling, GoesOn, IsReplyOutcome, begin_anew_events, begin_events, call_events, can_begin}
+use Rattle.local_object.specs.Replies.{GoesOn, IsReplyOutcome}
+use Rattle.local_object.specs.Taking.{AreSettling, begin_anew_events, begin_events, call_events, can_begin}
 use Rattle.local_object.specs.Taking.{going_events, grow_events, is_read_begin, is_repeated, lead_events, machine_of, repeats}
 use Rattle.local_object.specs.Taking.{restart_events, step_events}
 use Rattle.local_object.proofs.HeardLayoutLemmas.{calls_heard}
 use Rattle.recoveries.proofs.KeptPlaceLemmas.{layouts_kept}
 use Rattle.recoveries.proofs.KeptCallLemmas.{IsObjectCopy, found_copy, found_id, found_moves, moves_call}
+use Rattle.recoveries.proofs.EarlyMoveLemmas.{no_early_move}
 use Rattle.recoveries.proofs.GrownStartLemmas.{both_grow, grown, grown_found}
 use Rattle.recoveries.proofs.SettlingLemmas.{same_settling}
 use Rattle.recoveries.proofs.SameStepLemmas.{no_move_anew, same_lead}
@@ -188,7 +190,11 @@ module _ (moves : Type 0) (here : moves) (local copy : LocalObject) (is : IsObje
   taken_by false new copied sent more ended told taken retaken =
       subst (λ l. IsObjectCopy moves l copied) (sym taken.done.local)
       (subst (IsObjectCopy moves local) (sym retaken.done.local) is)
-  taken_by true new copied sent more ended told taken retaken =
+  taken_by true new copied sent more ended told (inl early) retaken =
+      absurd (no_early_move first letter.message.call (taking_open letter.message call) found_first move early.returned early.can)
+  taken_by true new copied sent more ended told (inr taken) (inl early) =
+      absurd (no_early_move second letter.message.call (taking_open letter.message call) found_second move early.returned early.can)
+  taken_by true new copied sent more ended told (inr taken) (inr retaken) =
       goes_on_both new copied sent more ended told taken retaken
 
   same_taken : is_taken copy letter ≡ is_taken local letter

@@ -1,5 +1,5 @@
 -- What a node and its copy do alike: an open move takes a reply, settles a value, begins a phase, or is answered.
-use Rattle.std.proofs.Common.{◌≡◌, ℕ, true, cond, eq-eqb, List, Option, Some, None}
+use Rattle.std.proofs.Common.{◌≡◌, ℕ, Bool, true, cond, eq-eqb, List, [], Option, Some, None}
 use Rattle.std.proofs.Common.{refl, sym, subst, ap, ◌∙◌}
 use Rattle.layout.specs.Layout.{Layout}
 use Rattle.bank.specs.declared.kind.Kind.{Kind}
@@ -7,9 +7,11 @@ use Rattle.record.specs.Fragments.{Code}
 use Rattle.open_calls.specs.OpenCalls.{NodeCall, due_phase, open_call, with_open, taking_open, NodeCallsDiffer}
 use Rattle.open_calls.proofs.OpenCallLemmas.{found_with}
 use Rattle.letter.specs.declared.letter.Letter.{Letter}
+use Rattle.local_object.specs.declared.report.Report.{Report}
 use Rattle.local_object.specs.Local.{LocalObject, layout_here}
-use Rattle.local_object.specs.Events.{LocalEvent, advanced_at, advanced_here, done_here}
+use Rattle.local_object.specs.Events.{LocalEvent, advanced_at, advanced_here, done_here, taking_here}
 use Rattle.local_object.specs.Outcomes.{learnt_from, on_open_call, silent}
+use Rattle.local_object.specs.Reports.{reports_after, told_to}
 use Rattle.local_object.proofs.HeardLayoutLemmas.{calls_heard}
 use Rattle.recoveries.proofs.HeardLetterLemmas.{letter_moving}
 use Rattle.recoveries.proofs.KeptPlaceLemmas.{layouts_kept}
@@ -26,12 +28,11 @@ found_new calls id call new found same =
 
 pub taken_is : (fragment : Code) (local : LocalObject) (letter : Letter) (call : NodeCall) →
     open_call local.calls letter.message.call ≡ Some call →
-    (done_here fragment local (LocalEvent.Take letter)).local ≡ (let next = learnt_from local letter in
-    record next { calls = with_open (taking_open letter.message call) next.calls })
+    (done_here fragment local (LocalEvent.Take letter)).local
+    ≡ taking_here (learnt_from local letter) call letter.message letter.told
 taken_is fragment local letter call found =
     let next = learnt_from local letter in
-    ap (λ o. (on_open_call next o
-    (λ call. silent (record next { calls = with_open (taking_open letter.message call) next.calls }))).local)
+    ap (λ o. (on_open_call next o (λ call. silent (taking_here next call letter.message letter.told))).local)
     (ap (λ calls. open_call calls letter.message.call) (calls_heard local letter) ∙ found)
 
 pub settled_is : (fragment : Code) (local : LocalObject) (id : ℕ) (value : List ℕ) (call : NodeCall) →
@@ -59,7 +60,7 @@ module _ (fragment : Code) (moves : Type 0) (here : moves) (local copy : LocalOb
       (sym (settled_is fragment local id value call found))
       (subst (IsObjectCopy moves (record local { calls = with_open new local.calls }))
       (sym (settled_is fragment copy id value call again))
-      (with_move moves local copy is here id call new found move refl move))
+      (with_move moves local copy is here id call new local.reports copy.reports found move refl move is.kept.reports))
 
   advanced_both : (o : Option (Kind × ℕ)) → IsObjectCopy moves
       (advanced_here fragment local call o).local (advanced_here fragment copy call o).local
@@ -72,7 +73,8 @@ module _ (fragment : Code) (moves : Type 0) (here : moves) (local copy : LocalOb
       at : (o : Option Layout) → IsObjectCopy moves
           (advanced_at fragment local call next o).local (advanced_at fragment copy call next o).local
       at None = is
-      at (Some layout) = with_move moves local copy is here id call _ found move refl move
+      at (Some layout) =
+          with_move moves local copy is here id call _ local.reports copy.reports found move refl move is.kept.reports
 
   pub both_advance : IsObjectCopy moves
       (done_here fragment local (LocalEvent.Advance id)).local (done_here fragment copy (LocalEvent.Advance id)).local
@@ -97,6 +99,16 @@ module _ (fragment : Code) (moves : Type 0) (here : moves) (local copy : LocalOb
     mover = λ moving. here;
   }
 
+  -- what one of them is told after it took the letter
+  abbrev told_after : LocalObject → List Report
+  told_after it = reports_after call.phase.number letter.message (told_to call.kind letter.told) it.reports
+
+  -- a move is told nothing
+  none_told : told_after (learnt_from copy letter) ≡ []
+  none_told =
+      ap (λ (b : Bool). reports_after call.phase.number letter.message (cond b None letter.told) (learnt_from copy letter).reports) move
+      ∙ learnt_copy.kept.reports
+
   pub both_take : IsObjectCopy moves
       (done_here fragment local (LocalEvent.Take letter)).local (done_here fragment copy (LocalEvent.Take letter)).local
   both_take =
@@ -105,7 +117,7 @@ module _ (fragment : Code) (moves : Type 0) (here : moves) (local copy : LocalOb
       let second = learnt_from copy letter in
       subst (λ l. IsObjectCopy moves l (done_here fragment copy (LocalEvent.Take letter)).local)
       (sym (taken_is fragment local letter call found))
-      (subst (IsObjectCopy moves (record first { calls = with_open new first.calls }))
+      (subst (IsObjectCopy moves (taking_here first call letter.message letter.told))
       (sym (taken_is fragment copy letter call again))
-      (with_move moves first second learnt_copy here letter.message.call call new
-      (ap (λ calls. open_call calls letter.message.call) (calls_heard local letter) ∙ found) move refl move))
+      (with_move moves first second learnt_copy here letter.message.call call new (told_after first) (told_after second)
+      (ap (λ calls. open_call calls letter.message.call) (calls_heard local letter) ∙ found) move refl move none_told))

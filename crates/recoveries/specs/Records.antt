@@ -7,7 +7,7 @@ use Rattle.local_object.specs.declared.progress.Ended.{Ended}
 use Rattle.local_object.specs.Doing.{IsOutcome, close_events, is_taken, serve_events}
 use Rattle.local_object.specs.Events.{LocalEvent}
 use Rattle.local_object.specs.Local.{LocalObject, with_heard}
-use Rattle.local_object.specs.Taking.{IsReplyOutcome}
+use Rattle.local_object.specs.Replies.{IsReplyOutcome}
 use Rattle.deeds.specs.Kept.{KeptNode}
 use Rattle.deeds.specs.Named.{with_named}
 

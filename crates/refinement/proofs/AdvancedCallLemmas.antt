@@ -1,5 +1,5 @@
 -- A call begins the phase that is due.
-use Rattle.std.proofs.Common.{◌≡◌, ℕ, suc, ◌+◌, List, [], ◌∷◌, ◌++◌, Option, Some, None, IsSome}
+use Rattle.std.proofs.Common.{◌≡◌, ℕ, suc, ◌+◌, false, List, [], ◌∷◌, ◌++◌, Option, Some, None, IsSome}
 use Rattle.std.proofs.Common.{refl, sym, subst, ap, ◌∙◌, slice_get, arith}
 use Rattle.std.proofs.lemmas.Option.{get_or_from_slice_get}
 use Rattle.layout.specs.Layout.{Layout}
@@ -52,7 +52,7 @@ module _ (fragment : Code) (world : World) (local : LocalObject) (id : ℕ) (cal
       changed_kept fragment world local id call (advanced_call layout) formed part is refl refl refl sent
       (advanced_at fragment local call next (Some layout)).sent
       (λ message was. (was.0, in_front world.sent messages was.0 message was.1))
-      (letters_were_sent (advanced_to layout) local layout messages
+      (letters_were_sent (advanced_to layout) local false layout messages
       (λ place message there. behind world.sent messages place message there)
       (requests_speak (λ p. slice_get (known_layouts world 0) p ≡ Some layout) call.id (suc call.phase.number) next.0 next.1
       layout.members 0 piece (known_by_all world formed.one local.node next.1 layout at))

@@ -1,5 +1,5 @@
 -- A read whose complete fetch lacks pieces begins anew at a start.
-use Rattle.std.proofs.Common.{◌≡◌, inr, ℕ, zero, suc, ◌*◌, [], ◌∷◌, Some, IsSome, refl, sym, subst, ap, ◌∙◌, arith, map}
+use Rattle.std.proofs.Common.{◌≡◌, inr, ℕ, zero, suc, ◌*◌, false, [], ◌∷◌, Some, IsSome, refl, sym, subst, ap, ◌∙◌, arith, map}
 use Rattle.std.proofs.lemmas.Option.{same_Some}
 use Rattle.layout.specs.Layout.{Layout}
 use Rattle.bank.specs.Bank.{empty_piece}
@@ -9,6 +9,7 @@ use Rattle.record.specs.declared.stage.Stage.{Stage}
 use Rattle.record.specs.declared.stage.Stage.TheVariants.{ReadBegin}
 use Rattle.record.specs.Fragments.{Code}
 use Rattle.record.specs.PhaseOrder.{begun_at, due}
+use Rattle.record.specs.Sending.{requests}
 use Rattle.record.specs.Steps.{new_phase}
 use Rattle.open_calls.specs.OpenCalls.{IsLacking, NodeCall, due_phase, open_call, stage_reached, with_open}
 use Rattle.network.specs.Worlds.{World}
@@ -18,7 +19,7 @@ use Rattle.starts.specs.Starts.{IsStart}
 use Rattle.starts.proofs.LeadingLemmas.{found_changed, with_twice}
 use Rattle.local_object.specs.Local.{LocalObject, layout_here}
 use Rattle.local_object.specs.Events.{LocalEvent, advanced_at, advanced_here, done_here, pieces_here}
-use Rattle.local_object.specs.Outcomes.{Outcome, letter_of, on_open_call, phase_letters}
+use Rattle.local_object.specs.Outcomes.{Outcome, is_read, letter_of, on_open_call, phase_letters}
 use Rattle.local_object.specs.May.{IsCarriedOut}
 use Rattle.local_object.specs.Starting.{anew_number, number_at, reading_call, reads_at}
 use Rattle.local_object.proofs.LastPositionLemmas.{some_layout}
@@ -31,6 +32,7 @@ use Rattle.refinement.proofs.AdvancedCallLemmas.{advance_refined}
 use Rattle.refinement.proofs.BegunCallLemmas.{same_requests}
 use Rattle.refinement.proofs.ChangedCallLemmas.{carried}
 use Rattle.refinement.proofs.FirstReadingLemmas.{first_quorum, reads_new, then_reads_on}
+use Rattle.refinement.proofs.LetterLemmas.{sent_asking}
 
 position_of : (one other : Kind × ℕ) → Some one ≡ Some other → one.1 ≡ other.1
 position_of one other e = ap (λ (n : Kind × ℕ). n.1) (same_Some one other e)
@@ -48,7 +50,7 @@ module _ (fragment : Code) (world : World) (local : LocalObject) (id : ℕ) (for
   abbrev between : Outcome
   between = record {
     local = record local { calls = with_open begun local.calls };
-    sent = phase_letters local call.id (suc call.phase.number) Next 0 first (pieces_here fragment first call);
+    sent = phase_letters local false call.id (suc call.phase.number) Next 0 first (pieces_here fragment first call);
   }
 
   known_next : (kind : Kind) (position : ℕ) → due_phase call ≡ Some (kind, position) → IsSome (layout_here local position)
@@ -69,7 +71,7 @@ module _ (fragment : Code) (world : World) (local : LocalObject) (id : ℕ) (for
           calls = with_open
               (record call { stage = begun_at stage 0; phase = new_phase call.id (suc call.phase.number) Next 0 first 0 }) local.calls;
         };
-        sent = phase_letters local call.id (suc call.phase.number) Next 0 first (pieces_here fragment first call);
+        sent = phase_letters local false call.id (suc call.phase.number) Next 0 first (pieces_here fragment first call);
       }
 
   one : IsRefined fragment world (Event.Advance id ∷ []) (done_here fragment local (LocalEvent.Advance id))
@@ -96,17 +98,39 @@ module _ (fragment : Code) (world : World) (local : LocalObject) (id : ℕ) (for
       ap (λ number. reads_at between.local begun number start (Some layout)) numbers
       ∙ ap (λ calls. let after : Outcome = record {
         local = record local { calls = calls };
-        sent = phase_letters local call.id (anew_number call start) Next start layout empty_piece;
+        sent = phase_letters local (is_read call.kind) call.id (anew_number call start) Next start layout empty_piece;
       } in after) (with_twice begun (reading_call call (anew_number call start) start layout) local.calls refl)
     where
       numbers : number_at begun start ≡ anew_number call start
       numbers = omega arith
 
-  at_first : between ≡ reads_in (anew_number call 0) 0 first
+  -- at position 0, a read also asks for pieces
+  abbrev asking_too : Outcome
+  asking_too = record {
+    local = between.local;
+    sent = phase_letters local (is_read call.kind) call.id (suc call.phase.number) Next 0 first (pieces_here fragment first call);
+  }
+
+  refined_first : IsRefined fragment world (Event.Advance id ∷ []) asking_too
+  refined_first =
+      let is = refined_between in
+      record {
+        may = is.may;
+        formed = is.formed;
+        part = is.part;
+        sent = sent_asking (happens fragment world (Event.Advance id)) local false (is_read call.kind) first
+            (requests call.id (suc call.phase.number) Next 0 first.members 0 (pieces_here fragment first call)) is.sent;
+        others = is.others;
+        kept = is.kept;
+        files = is.files;
+        now = is.now;
+      }
+
+  at_first : asking_too ≡ reads_in (anew_number call 0) 0 first
   at_first =
       ap (λ messages. let after : Outcome = record {
         local = record local { calls = with_open begun local.calls };
-        sent = map (letter_of local first) messages;
+        sent = map (letter_of local (is_read call.kind) first) messages;
       } in after)
       (same_requests call.id (suc call.phase.number) Next 0 first.members 0 (pieces_here fragment first call) empty_piece (λ p q. refl))
       ∙ ap (λ number. reads_in number 0 first) numbers
@@ -120,7 +144,7 @@ module _ (fragment : Code) (world : World) (local : LocalObject) (id : ℕ) (for
       let same : first ≡ layout = same_Some first layout (sym known ∙ there) in
       subst (λ l. HasEvents fragment world (reads_in (anew_number call 0) 0 l) world.history (suc (zero * most_events))) same
       (subst (λ after. HasEvents fragment world after world.history (suc (zero * most_events))) at_first
-      (record { events = Event.Advance id ∷ []; number = refl; refined = refined_between; entries = one.1 }))
+      (record { events = Event.Advance id ∷ []; number = refl; refined = refined_first; entries = one.1 }))
   begins_anew (suc start) layout there starts =
       subst (λ after. HasEvents fragment world after world.history (suc (suc start * most_events))) (goes_on (suc start) layout)
       (then_reads_on fragment world id (Event.Advance id) between begun world.history refined_between one.1 open_between

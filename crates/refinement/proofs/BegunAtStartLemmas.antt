@@ -20,7 +20,7 @@ use Rattle.network.specs.Premises.{IsUnused}
 use Rattle.starts.specs.Reading.{most_events}
 use Rattle.starts.specs.Starts.{IsStart}
 use Rattle.local_object.specs.Local.{LocalObject, layout_here}
-use Rattle.local_object.specs.Outcomes.{Outcome, begun_here, phase_letters}
+use Rattle.local_object.specs.Outcomes.{Outcome, begun_here, is_read, phase_letters}
 use Rattle.local_object.specs.Starting.{IsReadingHere, called_at, first_number, number_at, reads_at}
 use Rattle.refinement.specs.Parts.{IsPartOf}
 use Rattle.refinement.specs.Refined.{IsRefined}
@@ -75,13 +75,13 @@ module _ (fragment : Code) (world : World) (local : LocalObject) (id : ℕ) (kin
     goes_on start layout =
         ap outcome numbers ∙ ap (λ calls. let after : Outcome = record {
           local = record local { calls = calls };
-          sent = phase_letters local id (first_number start) Next start layout empty_piece;
+          sent = phase_letters local (is_read kind) id (first_number start) Next start layout empty_piece;
         } in after) (with_last local.calls begun (new_call local.node id kind (first_number start) start layout) refl others)
       where
         outcome : ℕ → Outcome
         outcome number = record {
           local = record local { calls = with_open (new_call local.node id kind number start layout) (local.calls ++ begun ∷ []) };
-          sent = phase_letters local id number Next start layout empty_piece;
+          sent = phase_letters local (is_read kind) id number Next start layout empty_piece;
         }
 
         numbers : number_at begun start ≡ first_number start

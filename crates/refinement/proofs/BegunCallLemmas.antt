@@ -26,7 +26,7 @@ use Rattle.network.specs.Events.{Event, begun_world, called_world}
 use Rattle.network.specs.Premises.{IsUnused}
 use Rattle.local_object.specs.Local.{LocalObject, layout_here}
 use Rattle.local_object.specs.Events.{pieces_here}
-use Rattle.local_object.specs.Outcomes.{begun_here}
+use Rattle.local_object.specs.Outcomes.{begun_here, is_read}
 use Rattle.refinement.specs.Parts.{IsPartOf}
 use Rattle.refinement.specs.Refined.{IsRefined, begun_entry}
 use Rattle.refinement.specs.WellFormed.{HasAsked, HasEntry, IsWellFormed}
@@ -106,7 +106,7 @@ module _ (fragment : Code) (world : World) (local : LocalObject) (id : ℕ) (kin
         part = part_with world calls sent begun_history (suc world.now) local (local.calls ++ new ∷ []) part
             (ap (λ l. l ++ new ∷ []) part.calls
             ∙ sym (filter_push (λ call. eqb call.node local.node) new true (eq-eqb local.node local.node refl) world.calls));
-        sent = letters_were_sent (begun_to layout) local layout messages
+        sent = letters_were_sent (begun_to layout) local (is_read kind) layout messages
             (λ place message is. behind world.sent messages place message is)
             (requests_speak (λ p. slice_get (known_layouts world 0) p ≡ Some layout) id 1 first position layout.members 0 empty_piece
             (known_by_all world formed.one local.node position layout at))

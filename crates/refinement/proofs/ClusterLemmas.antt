@@ -126,6 +126,7 @@ module _ (fragment : Code) (files : ℕ → FileOfNames) (name : List ℕ) (clus
         layouts = log.layouts;
         first = log.first;
         banks = log.banks;
+        reports = log.reports;
         calls = log.calls;
         mover = λ moves. log.mover (is.numbers number ∙ moves ∙ is.movers number
             ∙ sym (ap (λ (f : FileOfNames). f.mover) (is.kept number)));

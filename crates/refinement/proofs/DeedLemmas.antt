@@ -66,6 +66,8 @@ noticed_beside name other local (LocalEvent.Take letter) apart = tt
 noticed_beside name other local (LocalEvent.Settle id value) apart = tt
 noticed_beside name other local (LocalEvent.Answer id) apart = told_beside name other (told local (LocalEvent.Answer id)) apart
 noticed_beside name other local (LocalEvent.GiveUp id) apart = tt
+noticed_beside name other local (LocalEvent.EndEarly id value) apart =
+    told_beside name other (told local (LocalEvent.EndEarly id value)) apart
 noticed_beside name other local (LocalEvent.Close position) apart = tt
 noticed_beside name other local (LocalEvent.Grow id) apart = tt
 noticed_beside name other local (LocalEvent.Hear letter) apart = tt

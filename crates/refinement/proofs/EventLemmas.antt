@@ -1,6 +1,6 @@
 -- What a node does with the object of a name is an event of all nodes for that object.
 use Rattle.std.proofs.Common.{◌≡◌, ◌≤◌, ◌+◌, ◌*◌, ℕ, zero, suc, List, [], ◌∷◌, ◌++◌}
-use Rattle.std.proofs.Common.{map, Option, None, Some, refl, sym, subst, ap, arith}
+use Rattle.std.proofs.Common.{map, Option, None, Some, refl, sym, subst, ap, ◌∙◌, arith}
 use Rattle.std.proofs.lemmas.List.{append-nil}
 use Rattle.std.specs.List.{AllByRecursion}
 use Rattle.record.specs.declared.call.CallKind.TheVariants.{Read, Write, Move}
@@ -8,14 +8,14 @@ use Rattle.record.specs.declared.call.Entry.{Entry}
 use Rattle.record.specs.Fragments.{Code}
 use Rattle.deeds.specs.CallId.{CallIds, HasRanges}
 use Rattle.open_calls.specs.OpenCalls.{NodeCall, open_call}
-use Rattle.network.specs.Events.{answered_entry}
 use Rattle.local_object.specs.declared.progress.Ended.{Ended}
 use Rattle.local_object.specs.Local.{LocalObject}
 use Rattle.local_object.specs.Events.{LocalEvent, done_here}
-use Rattle.local_object.specs.Ended.{told_if, told_of}
+use Rattle.local_object.specs.Ended.{told_early, told_early_if, told_if, told_of}
 use Rattle.local_object.specs.May.{MayHappenHere}
 use Rattle.starts.specs.Reading.{most_events}
-use Rattle.refinement.specs.Refined.{begun_entry, with_answer}
+use Rattle.refinement.specs.Histories.{told_entry}
+use Rattle.refinement.specs.Refined.{begun_entry, with_answer, with_early_answer}
 use Rattle.refinement.specs.Starting.{event_count}
 use Rattle.refinement.specs.WellFormed.{HasEntry}
 use Rattle.refinement.specs.SeenHistories.{IsBegunAs}
@@ -31,9 +31,10 @@ use Rattle.refinement.proofs.HistoryLemmas.{AreTold, IsHistoryAt, history_later,
 use Rattle.refinement.proofs.SeenAnswerLemmas.{seen_answered}
 use Rattle.refinement.proofs.SeenHistoryLemmas.{IsSeenAt, seen_begun}
 use Rattle.refinement.proofs.SystemRunLemmas.{open_entry, reached_next}
-use Rattle.refinement.proofs.ToldLemmas.{IsToldIn, later_told, now_told, open_apart, still_told, told_answer}
+use Rattle.refinement.proofs.ToldEntryLemmas.{IsAnswerTo, answer_of, early_of, told_answer}
+use Rattle.refinement.proofs.ToldLemmas.{IsToldIn, later_told, now_told, open_apart, still_told}
 use Rattle.deeds.proofs.UsedIdLemmas.{IsUsed, next_free, used_later, used_now, with_ids}
-use Rattle.refinement.proofs.LeadLemmas.{Follows, Leads, all_map, ended_in, other_object, own_object, posted_more, used_answered}
+use Rattle.refinement.proofs.LeadLemmas.{Follows, Leads, all_map, ended_in, other_object, own_object, posted_more, used_told}
 
 -- time does not go back, and goes on with an event
 not_less : (now more : ℕ) → now ≤ now + more
@@ -82,6 +83,17 @@ module _ (fragment : Code) (name : List ℕ) (system : System) (ids : ℕ → Ca
       subst (λ xs. IsHistoryAt name xs system.history later) (sym (append-nil notices))
       (history_later name notices system.history system.now later more follows.history)
 
+  quietly : (event : LocalEvent) → MayHappenHere fragment local event → IsPremisedIn system number event → IsGiven mine None now →
+      (after event).history ≡ system.history →
+      Leads fragment name system number (done_here fragment local event).local (with_ids ids number now)
+      (letters ++ with_names name (done_here fragment local event).sent) (notices ++ [])
+  quietly event may premised given same =
+      leads event [] may premised
+      (subst (AllByRecursion (λ entry. IsUsed (with_ids ids number now) entry.call)) (sym same)
+      (still_used (given_later mine now None within given)))
+      (subst (λ history. IsHistoryAt name (notices ++ []) history (after event).now) (sym same)
+      (quiet (after event).now (not_less system.now (event_count local event))))
+
   -- a call begins
   begun_used : (id : ℕ) (entry : Entry) → entry.call ≡ id → IsNextId mine id now →
       AllByRecursion (λ entry. IsUsed (with_ids ids number now) entry.call) (system.history ++ entry ∷ [])
@@ -112,39 +124,62 @@ module _ (fragment : Code) (name : List ℕ) (system : System) (ids : ℕ → Ca
       (omega arith) unanswered
       (subst (λ i. AllByRecursion (λ (e : Entry). e.call ≡ i → ⊥) system.history) (sym same) (free id next))
 
-  -- a call is answered
-  answered_used : (o : Option NodeCall) → AllByRecursion (λ entry. IsUsed (with_ids ids number now) entry.call) system.history →
-      AllByRecursion (λ entry. IsUsed (with_ids ids number now) entry.call) (with_answer o (suc system.now) system.history)
-  answered_used None used = used
-  answered_used (Some call) used =
-      all_map (λ (entry : Entry). IsUsed (with_ids ids number now) entry.call) (answered_entry call (suc system.now))
-      (λ entry u. used_answered (with_ids ids number now) call (suc system.now) entry u) system.history used
+  -- the client of an open call is told its answer
+  module _ (id : ℕ) (call : NodeCall) (open_here : open_call local.calls id ≡ Some call) (ended : Ended)
+      (answers : IsAnswerTo call ended) where
+    abbrev told_history : List Entry
+    told_history = map (told_entry ended (suc system.now)) system.history
 
-  answered_history : (id : ℕ) (o : Option NodeCall) → open_call local.calls id ≡ o →
-      IsHistoryAt name (notices ++ map (Notice.Tells name) (told_if o)) (with_answer o (suc system.now) system.history) (system.now + 1)
-  answered_history id None e = quiet (system.now + 1) (omega arith)
-  answered_history id (Some call) e =
-      let time = suc system.now in
-      let has = open_entry fragment system number id call follows.reached e in
-      let same = told_answer call time system.history in
-      let told : AreTold name notices (map (answered_entry call time) system.history) =
-      λ place ended at. (let was = follows.history.told place ended at in
-      later_told call time ended (open_apart system.history call ended was has) system.history was) in
-      subst (λ history. IsHistoryAt name (notices ++ Notice.Tells name (told_of call) ∷ []) history (system.now + 1)) (sym same)
-      (history_push name notices (Notice.Tells name (told_of call)) system.history system.now time (system.now + 1)
-      ((names_decided name name).1 refl) (omega arith) (omega arith) follows.history
-      (subst (AreTold name notices) same told)
-      (subst (AreTold name (Notice.Tells name (told_of call) ∷ [])) same (one_told call time has))
-      (subst (λ history. IsSeenAt name (notices ++ Notice.Tells name (told_of call) ∷ []) history (system.now + 1)) same
-      (seen_answered name notices system.history call system.now time (system.now + 1) follows.history.seen has (omega arith)
-      (omega arith))))
-    where
-      one_told : (call : NodeCall) (time : ℕ) → HasEntry system.history call →
-          AreTold name (Notice.Tells name (told_of call) ∷ []) (map (answered_entry call time) system.history)
-      one_told call time has zero ended at =
-          let equal : told_of call ≡ ended = ap (λ (o : Option Notice). ended_in o ended) at in
-          subst (IsToldIn (map (answered_entry call time) system.history)) equal (now_told system.history call time has)
-      one_told call time has (suc place) ended at = absurd (cc)
+    told_used : AllByRecursion (λ entry. IsUsed (with_ids ids number now) entry.call) system.history →
+        AllByRecursion (λ entry. IsUsed (with_ids ids number now) entry.call) told_history
+    told_used used =
+        all_map (λ (entry : Entry). IsUsed (with_ids ids number now) entry.call) (told_entry ended (suc system.now))
+        (λ entry u. used_told (with_ids ids number now) ended (suc system.now) entry u) system.history used
+
+    has : HasEntry system.history call
+    has = open_entry fragment system number id call follows.reached open_here
+
+    one_told : AreTold name (Notice.Tells name ended ∷ []) told_history
+    one_told zero other at =
+        let equal : ended ≡ other = ap (λ (o : Option Notice). ended_in o other) at in
+        subst (IsToldIn told_history) equal (now_told system.history call ended (suc system.now) has answers)
+    one_told (suc place) other at = absurd (cc)
+
+    told_at : (later : ℕ) → suc system.now ≤ later → IsHistoryAt name (notices ++ Notice.Tells name ended ∷ []) told_history later
+    told_at later within =
+        let time = suc system.now in
+        history_push name notices (Notice.Tells name ended) system.history system.now time later
+        ((names_decided name name).1 refl) (omega arith) within follows.history
+        (λ place other at. let was = follows.history.told place other at in
+        later_told ended time other (λ same. open_apart system.history call other was has (same ∙ answers.same_id)) system.history was)
+        one_told
+        (seen_answered name notices system.history call ended system.now time later follows.history.seen has answers (omega arith) within)
+
+  -- these notices more, and the history with which they lead on
+  abbrev LeadOn : (history : List Entry) → (seen : List Notice) → (later : ℕ) → Type 0
+  LeadOn history seen later =
+      AllByRecursion (λ entry. IsUsed (with_ids ids number now) entry.call) history × IsHistoryAt name (notices ++ seen) history later
+
+  -- a call is answered
+  answered : (id : ℕ) (o : Option NodeCall) → open_call local.calls id ≡ o →
+      AllByRecursion (λ entry. IsUsed (with_ids ids number now) entry.call) system.history →
+      LeadOn (with_answer o (suc system.now) system.history) (map (Notice.Tells name) (told_if o)) (system.now + 1)
+  answered id None e used = (used, quiet (system.now + 1) (omega arith))
+  answered id (Some call) e used =
+      let answers = answer_of call in
+      subst (λ history. LeadOn history (Notice.Tells name (told_of call) ∷ []) (system.now + 1))
+      (sym (told_answer call (suc system.now) system.history))
+      (told_used id call e (told_of call) answers used, told_at id call e (told_of call) answers (system.now + 1) (omega arith))
+
+  -- a call ends early
+  ended_early : (id : ℕ) (value : Option (List ℕ)) (o : Option NodeCall) → open_call local.calls id ≡ o →
+      AllByRecursion (λ entry. IsUsed (with_ids ids number now) entry.call) system.history →
+      LeadOn (with_early_answer o value (suc system.now) system.history) (map (Notice.Tells name) (told_early_if o value)) (system.now + 2)
+  ended_early id value None e used = (used, quiet (system.now + 2) (omega arith))
+  ended_early id value (Some call) e used =
+      let ended = told_early call value in
+      let answers = early_of call value in
+      (told_used id call e ended answers used, told_at id call e ended answers (system.now + 2) (omega arith))
 
   pub acted : (event : LocalEvent) → MayHappenHere fragment local event → IsEventLetterKnown letters name event →
       IsEventAllowed number (system.files number).mover event → IsGiven mine (begun_id event) now →
@@ -181,43 +216,21 @@ module _ (fragment : Code) (name : List ℕ) (system : System) (ids : ℕ → Ca
       ((names_decided name name).1 refl) (omega arith) within follows.history (begun_told id entry refl given)
       (not_told (Notice.Moves name id layout) (λ ended e. absurd (cc)) (system.history ++ entry ∷ []))
       (begins id (Notice.Moves name id layout) entry later refl given (refl, refl, refl) refl refl within))
-  acted (LocalEvent.Advance id) may fed allowed given =
-      leads (LocalEvent.Advance id) [] may tt (still_used (given_later mine now None within given))
-      (quiet (after (LocalEvent.Advance id)).now (not_less system.now (event_count local (LocalEvent.Advance id))))
-  acted (LocalEvent.Serve letter) may fed allowed given =
-      leads (LocalEvent.Serve letter) [] may (follows.posted letter fed) (still_used (given_later mine now None within given))
-      (quiet (after (LocalEvent.Serve letter)).now (not_less system.now (event_count local (LocalEvent.Serve letter))))
-  acted (LocalEvent.Take letter) may fed allowed given =
-      leads (LocalEvent.Take letter) [] may (follows.posted letter fed) (still_used (given_later mine now None within given))
-      (quiet (after (LocalEvent.Take letter)).now (not_less system.now (event_count local (LocalEvent.Take letter))))
-  acted (LocalEvent.Settle id value) may fed allowed given =
-      leads (LocalEvent.Settle id value) [] may tt (still_used (given_later mine now None within given))
-      (quiet (after (LocalEvent.Settle id value)).now (not_less system.now (event_count local (LocalEvent.Settle id value))))
-  acted (LocalEvent.GiveUp id) may fed allowed given =
-      leads (LocalEvent.GiveUp id) [] may tt (still_used (given_later mine now None within given))
-      (quiet (after (LocalEvent.GiveUp id)).now (not_less system.now (event_count local (LocalEvent.GiveUp id))))
-  acted (LocalEvent.Close position) may fed allowed given =
-      leads (LocalEvent.Close position) [] may tt (still_used (given_later mine now None within given))
-      (quiet (after (LocalEvent.Close position)).now (not_less system.now (event_count local (LocalEvent.Close position))))
-  acted (LocalEvent.Grow id) may fed allowed given =
-      leads (LocalEvent.Grow id) [] may tt (still_used (given_later mine now None within given))
-      (quiet (after (LocalEvent.Grow id)).now (not_less system.now (event_count local (LocalEvent.Grow id))))
-  acted (LocalEvent.ReadOn id) may fed allowed given =
-      leads (LocalEvent.ReadOn id) [] may tt (still_used (given_later mine now None within given))
-      (quiet (after (LocalEvent.ReadOn id)).now (not_less system.now (event_count local (LocalEvent.ReadOn id))))
-  acted (LocalEvent.BeginAnew id) may fed allowed given =
-      leads (LocalEvent.BeginAnew id) [] may tt (still_used (given_later mine now None within given))
-      (quiet (after (LocalEvent.BeginAnew id)).now (not_less system.now (event_count local (LocalEvent.BeginAnew id))))
-  acted (LocalEvent.Raise position) may fed allowed given =
-      leads (LocalEvent.Raise position) [] may tt (still_used (given_later mine now None within given))
-      (quiet (after (LocalEvent.Raise position)).now (not_less system.now (event_count local (LocalEvent.Raise position))))
-  acted (LocalEvent.Hear letter) may fed allowed given =
-      leads (LocalEvent.Hear letter) [] may (follows.posted letter fed) (still_used (given_later mine now None within given))
-      (quiet (after (LocalEvent.Hear letter)).now (not_less system.now (event_count local (LocalEvent.Hear letter))))
-  acted (LocalEvent.Redirect letter) may fed allowed given =
-      leads (LocalEvent.Redirect letter) [] may (follows.posted letter fed) (still_used (given_later mine now None within given))
-      (quiet (after (LocalEvent.Redirect letter)).now (not_less system.now (event_count local (LocalEvent.Redirect letter))))
+  acted (LocalEvent.Advance id) may fed allowed given = quietly (LocalEvent.Advance id) may tt given refl
+  acted (LocalEvent.Serve letter) may fed allowed given = quietly (LocalEvent.Serve letter) may (follows.posted letter fed) given refl
+  acted (LocalEvent.Take letter) may fed allowed given = quietly (LocalEvent.Take letter) may (follows.posted letter fed) given refl
+  acted (LocalEvent.Settle id value) may fed allowed given = quietly (LocalEvent.Settle id value) may tt given refl
+  acted (LocalEvent.GiveUp id) may fed allowed given = quietly (LocalEvent.GiveUp id) may tt given refl
+  acted (LocalEvent.Close position) may fed allowed given = quietly (LocalEvent.Close position) may tt given refl
+  acted (LocalEvent.Grow id) may fed allowed given = quietly (LocalEvent.Grow id) may tt given refl
+  acted (LocalEvent.ReadOn id) may fed allowed given = quietly (LocalEvent.ReadOn id) may tt given refl
+  acted (LocalEvent.BeginAnew id) may fed allowed given = quietly (LocalEvent.BeginAnew id) may tt given refl
+  acted (LocalEvent.Raise position) may fed allowed given = quietly (LocalEvent.Raise position) may tt given refl
+  acted (LocalEvent.Hear letter) may fed allowed given = quietly (LocalEvent.Hear letter) may (follows.posted letter fed) given refl
+  acted (LocalEvent.Redirect letter) may fed allowed given = quietly (LocalEvent.Redirect letter) may (follows.posted letter fed) given refl
   acted (LocalEvent.Answer id) may fed allowed given =
-      leads (LocalEvent.Answer id) (map (Notice.Tells name) (told_if (open_call local.calls id))) may tt
-      (answered_used (open_call local.calls id) (still_used (given_later mine now None within given)))
-      (answered_history id (open_call local.calls id) refl)
+      let on = answered id (open_call local.calls id) refl (still_used (given_later mine now None within given)) in
+      leads (LocalEvent.Answer id) (map (Notice.Tells name) (told_if (open_call local.calls id))) may tt on.0 on.1
+  acted (LocalEvent.EndEarly id value) may fed allowed given =
+      let on = ended_early id value (open_call local.calls id) refl (still_used (given_later mine now None within given)) in
+      leads (LocalEvent.EndEarly id value) (map (Notice.Tells name) (told_early_if (open_call local.calls id) value)) may tt on.0 on.1

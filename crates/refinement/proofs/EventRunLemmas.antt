@@ -6,8 +6,6 @@ use Rattle.network.specs.Worlds.{World, opened_world}
 use Rattle.network.specs.Events.{Event, happens, world_after}
 use Rattle.network.specs.Laws.{IsReached}
 use Rattle.network.specs.Premises.{MayHappenInTurn}
-use Rattle.refinement.specs.Systems.{IsWorldOf, System}
-use Rattle.refinement.specs.WellFormed.{IsWellFormed}
 
 pub run_append : (fragment : Code) (first second : List Event) (world : World) →
     world_after fragment (first ++ second) world ≡ world_after fragment second (world_after fragment first world)
@@ -33,20 +31,3 @@ reached_later fragment world events reached may = record {
   result = run_append fragment reached.events events (opened_world reached.files)
       ∙ ap (world_after fragment events) reached.result;
 }
-
--- events of the world lead to that of these nodes
-pub record HasWorld (fragment : Code) (world : World) (system : System) : Type 0 where
-  pub events : List Event
-  pub may : MayHappenInTurn fragment events world
-  pub formed : IsWellFormed fragment (world_after fragment events world)
-  pub is : IsWorldOf (world_after fragment events world) system
-
-pub then_world : (fragment : Code) (world : World) (first second : System) (led : HasWorld fragment world first) →
-    HasWorld fragment (world_after fragment led.events world) second → HasWorld fragment world second
-then_world fragment world first second led next =
-    let same = sym (run_append fragment led.events next.events world) in record {
-      events = led.events ++ next.events;
-      may = may_append fragment led.events next.events world led.may next.may;
-      formed = subst (IsWellFormed fragment) same next.formed;
-      is = subst (λ w. IsWorldOf w second) same next.is;
-    }

@@ -12,10 +12,10 @@ use Rattle.record.specs.declared.stage.Stage.{Stage}
 use Rattle.record.specs.declared.stage.Stage.TheVariants.{ReadNext}
 use Rattle.record.specs.Fragments.{Code}
 use Rattle.record.specs.Legal.{first_stage}
-use Rattle.open_calls.specs.OpenCalls.{NodeCall, due_phase, open_call, with_open, taking_open}
+use Rattle.open_calls.specs.OpenCalls.{NodeCall, due_phase, open_call, with_open}
 use Rattle.letter.specs.declared.letter.Letter.{Letter}
 use Rattle.local_object.specs.Local.{LocalObject, last_position, layout_here, with_heard}
-use Rattle.local_object.specs.Events.{LocalEvent, advanced_at, advanced_here, done_here, served_here}
+use Rattle.local_object.specs.Events.{LocalEvent, advanced_at, advanced_here, done_here, served_here, taking_here}
 use Rattle.local_object.specs.Outcomes.{Outcome, begun_here, learnt_from, on_open_call, silent}
 use Rattle.local_object.specs.Starting.{anew_number, first_number, number_at, reads_at, reads_here}
 use Rattle.local_object.proofs.HeardLayoutLemmas.{node_heard}
@@ -66,13 +66,14 @@ node_kept fragment local (LocalEvent.Serve letter) =
 node_kept fragment local (LocalEvent.Take letter) =
     let next = learnt_from local letter in
     call_node next (open_call next.calls letter.message.call)
-    (λ call. silent (record next { calls = with_open (taking_open letter.message call) next.calls })) (λ call. refl)
+    (λ call. silent (taking_here next call letter.message letter.told)) (λ call. refl)
     ∙ node_heard local letter
 node_kept fragment local (LocalEvent.Settle id value) =
     call_node local (open_call local.calls id)
     (λ call. silent (record local { calls = with_open (record call { settled = Some value }) local.calls })) (λ call. refl)
 node_kept fragment local (LocalEvent.Answer id) = refl
 node_kept fragment local (LocalEvent.GiveUp id) = refl
+node_kept fragment local (LocalEvent.EndEarly id value) = refl
 node_kept fragment local (LocalEvent.Close position) = refl
 node_kept fragment local (LocalEvent.Raise position) = refl
 node_kept fragment local (LocalEvent.Grow id) = refl

@@ -1,15 +1,12 @@
 -- All nodes for the object of one name, and what they lead to.
-use Rattle.std.proofs.Common.{◌≡◌, ◌⊎◌, inl, inr, ℕ, zero, suc, Bool, true, false, cond, eqb, eq-eqb, List, [], ◌∷◌, ◌++◌}
-use Rattle.std.proofs.Common.{map, Option, None, Some, slice_get, refl, ap}
+use Rattle.std.proofs.Common.{◌≡◌, ◌⊎◌, inl, inr, ℕ, zero, suc, cond, eq-eqb, List, [], ◌∷◌, ◌++◌}
+use Rattle.std.proofs.Common.{map, Option, None, Some, slice_get, refl, sym, subst, ap}
 use Rattle.std.proofs.lemmas.Bool.{ne_eqb}
 use Rattle.std.proofs.lemmas.Option.{same_Some}
 use Rattle.std.specs.List.{AllByRecursion}
 use Rattle.record.specs.declared.call.Entry.{Entry}
 use Rattle.record.specs.Fragments.{Code}
-use Rattle.record.specs.Journals.{entry_value}
 use Rattle.deeds.specs.CallId.{CallIds}
-use Rattle.open_calls.specs.OpenCalls.{NodeCall}
-use Rattle.network.specs.Events.{answered_entry}
 use Rattle.letter.specs.declared.letter.Letter.{Letter}
 use Rattle.local_object.specs.declared.progress.Ended.{Ended}
 use Rattle.local_object.specs.Local.{LocalObject}
@@ -19,6 +16,8 @@ use Rattle.deeds.specs.Deeds.{Notice}
 use Rattle.deeds.proofs.NameLemmas.{one_of_both}
 use Rattle.refinement.proofs.HistoryLemmas.{IsHistoryAt}
 use Rattle.refinement.proofs.PlaceLemmas.{get_first}
+use Rattle.refinement.proofs.ToldEntryLemmas.{same_call}
+use Rattle.refinement.specs.Histories.{told_entry}
 use Rattle.deeds.proofs.UsedIdLemmas.{IsUsed}
 
 -- all nodes for the object of the name, who sent these letters about it, of whose clients these saw the notices, and
@@ -82,14 +81,9 @@ pub all_map : {A : Type 0} (P : A → Type 0) (f : A → A) → ((x : A) → P x
 all_map P f each [] all = tt
 all_map P f each (x ∷ xs) all = (each x all.0, all_map P f each xs all.1)
 
-pub used_answered : (ids : ℕ → CallIds) (call : NodeCall) (now : ℕ) (entry : Entry) → IsUsed ids entry.call →
-    IsUsed ids (answered_entry call now entry).call
-used_answered ids call now entry used = go (eqb entry.call call.id)
-  where
-    go : (b : Bool) →
-        IsUsed ids (cond b (record entry { answered = Some now; value = entry_value call.kind (Some now) call.settled }) entry).call
-    go true = used
-    go false = used
+pub used_told : (ids : ℕ → CallIds) (ended : Ended) (now : ℕ) (entry : Entry) → IsUsed ids entry.call →
+    IsUsed ids (told_entry ended now entry).call
+used_told ids ended now entry used = subst (IsUsed ids) (sym (same_call ended now entry)) used
 
 -- the answer that a notice tells
 abbrev ended_of : Notice → (other : Ended) → Ended

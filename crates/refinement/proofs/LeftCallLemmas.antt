@@ -11,7 +11,8 @@ use Rattle.open_calls.specs.OpenCalls.{NodeCall, open_call, without_call}
 use Rattle.network.specs.Events.{Event, answered_entry, answered_world, on_open, world_after}
 use Rattle.open_calls.proofs.OpenCallLemmas.{found}
 use Rattle.local_object.specs.Local.{LocalObject}
-use Rattle.local_object.specs.Events.{LocalEvent}
+use Rattle.local_object.specs.Events.{LocalEvent, ended_here}
+use Rattle.local_object.specs.Reports.{without_reports}
 use Rattle.local_object.specs.Outcomes.{silent}
 use Rattle.refinement.specs.Laws.{IsPlainEventOfWorld}
 use Rattle.refinement.specs.Parts.{IsPartOf}
@@ -22,11 +23,12 @@ use Rattle.open_calls.proofs.CallsOfNodeLemmas.{calls_of, differs, filter_swap, 
 use Rattle.refinement.proofs.ChangedCallLemmas.{IsCarried, carried}
 use Rattle.open_calls.proofs.DistinctCallLemmas.{distinct_filter}
 use Rattle.refinement.proofs.CallEntryLemmas.{entry_answered}
-use Rattle.refinement.proofs.PartLemmas.{IsKept, asked_still, changed_world, formed_still, part_still, part_with, refined, sent_still}
+use Rattle.refinement.proofs.PartLemmas.{IsKept, asked_still, changed_world, formed_still, kept_told, part_still, part_told, part_with}
+use Rattle.refinement.proofs.PartLemmas.{refined, sent_still}
 use Rattle.refinement.proofs.TakenLetterLemmas.{still_kept}
 
 -- what is so of each call that is left
-all_left : (P Q : NodeCall → Type 0) (id : ℕ) → ((other : NodeCall) → (other.id ≡ id → ⊥) → P other → Q other) →
+pub all_left : (P Q : NodeCall → Type 0) (id : ℕ) → ((other : NodeCall) → (other.id ≡ id → ⊥) → P other → Q other) →
     (calls : List NodeCall) → AllByRecursion P calls → AllByRecursion Q (without_call id calls)
 all_left P Q id there [] all = tt
 all_left P Q id there (first ∷ calls) all = go (eqb first.id id) refl (all_left P Q id there calls all.1)
@@ -58,7 +60,7 @@ module _ (fragment : Code) (world : World) (local : LocalObject) (id : ℕ) (cal
 
   pub left_kept : (history : List Entry) →
       ((other : NodeCall) → (other.id ≡ id → ⊥) → HasEntry world.history other → HasEntry history other) →
-      IsKept fragment world (left_to history) (silent (record local { calls = without_call id local.calls })) 1 history
+      IsKept fragment world (left_to history) (silent (ended_here local id)) 1 history
   left_kept history there =
       let calls = without_call id world.calls in record {
         formed = formed_still world calls world.sent history (suc world.now) fragment formed
@@ -67,10 +69,11 @@ module _ (fragment : Code) (world : World) (local : LocalObject) (id : ℕ) (cal
             (all_left (HasAsked fragment world) (HasAsked fragment (left_to history)) id
             (λ other apart. asked_still world calls world.sent history (suc world.now) fragment (λ message was. was) other)
             world.calls formed.asked);
-        part = part_with world calls world.sent history (suc world.now) local (without_call id local.calls) part
+        part = part_told (left_to history) (record local { calls = without_call id local.calls }) (without_reports id local.reports)
+            (part_with world calls world.sent history (suc world.now) local (without_call id local.calls) part
             (ap (without_call id) part.calls
             ∙ sym (filter_swap (λ c. eqb c.node local.node) (λ c. not (eqb c.id id)) (λ c. not (eqb c.id id)) (λ c passes. refl)
-            world.calls));
+            world.calls)));
         sent = tt;
         others = λ other apart is. part_still world calls world.sent history (suc world.now) other is (other_left other.node apart);
         kept = sent_still world calls world.sent history (suc world.now) (λ message was. was);
@@ -84,7 +87,7 @@ answer_refined id fragment world local formed part may premised =
     let call = may.0 in
     let is = carried fragment world local id call formed part may.1 in
     let history = map (answered_entry call (suc world.now)) world.history in
-    let after = silent (record local { calls = without_call id local.calls }) in
+    let after = silent (ended_here local id) in
     let done = refined fragment world (Event.Answer id ∷ []) (left_to fragment world local id call formed part is history)
     after after history
     (ap (λ n. changed_world world (without_call n world.calls) world.sent history (suc world.now)) (sym is.same_id)
@@ -94,26 +97,35 @@ answer_refined id fragment world local formed part may premised =
     (λ other apart has. entry_answered world.history call (suc world.now) other (λ same. apart (same ∙ is.same_id)) has)) in
     (done.0, done.1 ∙ ap (λ o. with_answer o (suc world.now) world.history) (sym may.1))
 
+-- a call that is not a move is given up
+pub given_up : (fragment : Code) (world : World) (local : LocalObject) (id : ℕ) (call : NodeCall) → IsWellFormed fragment world →
+    IsPartOf world local → open_call local.calls id ≡ Some call → (call.kind ≡ Move → ⊥) →
+    IsRefined fragment world (Event.GiveUp id ∷ []) (silent (ended_here local id))
+    × ((world_after fragment (Event.GiveUp id ∷ []) world).history ≡ world.history)
+given_up fragment world local id call formed part e no_move =
+    let is = carried fragment world local id call formed part e in
+    let after = silent (ended_here local id) in
+    refined fragment world (Event.GiveUp id ∷ []) (left_to fragment world local id call formed part is world.history) after after
+    world.history refl refl (
+      all_weaker (λ (other : NodeCall). other.id ≡ id → other ≡ call) (λ (other : NodeCall). other.id ≡ id → other.kind ≡ Move → ⊥)
+          (λ other one same move. no_move (ap (λ (c : NodeCall). c.kind) (sym (one same)) ∙ move)) world.calls
+          (only_one world.calls id call formed.ids is.open_there),
+      record { network = tt; log = tt; ids = tt },
+      tt,
+    )
+    (left_kept fragment world local id call formed part is world.history (λ other apart has. has))
+
 pub give_up_refined : (id : ℕ) → IsPlainEventOfWorld (LocalEvent.GiveUp id)
 give_up_refined id fragment world local formed part may premised = go (open_call local.calls id) refl
   where
     go : (o : Option NodeCall) → open_call local.calls id ≡ o →
-        IsRefined fragment world (if_carried o (Event.GiveUp id)) (silent (record local { calls = without_call id local.calls }))
+        IsRefined fragment world (if_carried o (Event.GiveUp id)) (silent (ended_here local id))
         × ((world_after fragment (if_carried o (Event.GiveUp id)) world).history ≡ world.history)
     go None e =
-        refined fragment world [] world (silent local) (silent (record local { calls = without_call id local.calls })) world.history refl
-        (ap (λ calls. silent (record local { calls = calls })) (sym (nothing_without local.calls id e))) tt
-        (still_kept fragment world local formed part)
+        let reports = without_reports id local.reports in
+        refined fragment world [] world (silent (record local { reports = reports })) (silent (ended_here local id)) world.history refl
+        (ap (λ calls. silent (record local { calls = calls; reports = reports })) (sym (nothing_without local.calls id e))) tt
+        (kept_told fragment world world local reports 0 world.history (still_kept fragment world local formed part))
     go (Some call) e =
-        let is = carried fragment world local id call formed part e in
-        let after = silent (record local { calls = without_call id local.calls }) in
         let no_move = found (λ (c : NodeCall). c.id ≡ id → c.kind ≡ Move → ⊥) local.calls id call may e in
-        refined fragment world (Event.GiveUp id ∷ []) (left_to fragment world local id call formed part is world.history) after after
-        world.history refl refl (
-          all_weaker (λ (other : NodeCall). other.id ≡ id → other ≡ call) (λ (other : NodeCall). other.id ≡ id → other.kind ≡ Move → ⊥)
-              (λ other one same move. no_move.0 no_move.1 (ap (λ (c : NodeCall). c.kind) (sym (one same)) ∙ move)) world.calls
-              (only_one world.calls id call formed.ids is.open_there),
-          record { network = tt; log = tt; ids = tt },
-          tt,
-        )
-        (left_kept fragment world local id call formed part is world.history (λ other apart has. has))
+        given_up fragment world local id call formed part e (no_move.0 no_move.1)

@@ -1,5 +1,5 @@
 -- The letters that a node sends were sent in the world.
-use Rattle.std.proofs.Common.{◌≡◌, ℕ, suc, zero, List, [], ◌∷◌, ◌++◌, map, Option, Some}
+use Rattle.std.proofs.Common.{◌≡◌, ℕ, suc, zero, Bool, List, [], ◌∷◌, ◌++◌, map, Option, None, Some}
 use Rattle.std.proofs.Common.{refl, slice_get}
 use Rattle.std.specs.List.{AllByRecursion}
 use Rattle.layout.specs.Layout.{Layout}
@@ -17,6 +17,7 @@ use Rattle.mail.specs.declared.message.Message.{Message}
 use Rattle.record.specs.Sending.{requests}
 use Rattle.network.specs.Worlds.{World, known_layouts}
 use Rattle.network.specs.Premises.{WasSent}
+use Rattle.letter.specs.declared.telling.Telling.{Telling}
 use Rattle.local_object.specs.Local.{LocalObject, layout_here}
 use Rattle.local_object.specs.Outcomes.{if_pointed, letter_of, next_in_answer, next_in_body, next_in_request}
 use Rattle.starts.specs.Starts.{IsStart}
@@ -56,27 +57,38 @@ in_body : (b : Body) (o : Option Layout) (layout : Layout) → next_in_body b o 
 in_body (body.Request asked) o layout e = in_request asked o layout e
 in_body (body.Reply kind made) o layout e = in_answer made.answer o layout e
 
--- a message that was sent is a letter with the layouts of the position and the next, and with the node's start
-pub letter_was_sent : (world : World) (local : LocalObject) (layout : Layout) (message : Message) → WasSent world message →
-    slice_get (known_layouts world 0) message.position ≡ Some layout → IsStart world local.start →
+-- a message that was sent is a letter with the layouts of the position and the next, and with the node's start, whatever
+-- it asks and tells
+pub letter_was_sent : (world : World) (local : LocalObject) (asks : Bool) (told : Option Telling) (layout : Layout) (message : Message) →
+    WasSent world message → slice_get (known_layouts world 0) message.position ≡ Some layout → IsStart world local.start →
     ((position : ℕ) (other : Layout) → layout_here local position ≡ Some other → slice_get (known_layouts world 0) position ≡ Some other) →
-    WasSentAs world (letter_of local layout message)
-letter_was_sent world local layout message sent at starts known = record {
+    WasSentAs world (record (letter_of local asks layout message) { told = told })
+letter_was_sent world local asks told layout message sent at starts known = record {
   sent = sent;
   layout = at;
   next = λ other e. known (suc message.position) other (in_body message.body (layout_here local (suc message.position)) other e);
   start = told_is_start world local starts known;
 }
 
-pub letters_were_sent : (world : World) (local : LocalObject) (layout : Layout) (messages : List Message) →
+pub letters_were_sent : (world : World) (local : LocalObject) (asks : Bool) (layout : Layout) (messages : List Message) →
     ((place : ℕ) (message : Message) → slice_get messages place ≡ Some message → WasSent world message) →
     AllByRecursion (λ message. slice_get (known_layouts world 0) message.position ≡ Some layout) messages → IsStart world local.start →
     ((position : ℕ) (other : Layout) → layout_here local position ≡ Some other → slice_get (known_layouts world 0) position ≡ Some other) →
-    AllByRecursion (WasSentAs world) (map (letter_of local layout) messages)
-letters_were_sent world local layout [] sent at starts known = tt
-letters_were_sent world local layout (message ∷ messages) sent at starts known = (
-  letter_was_sent world local layout message (sent 0 message refl) at.0 starts known,
-  letters_were_sent world local layout messages (λ place other is. sent (suc place) other is) at.1 starts known,
+    AllByRecursion (WasSentAs world) (map (letter_of local asks layout) messages)
+letters_were_sent world local asks layout [] sent at starts known = tt
+letters_were_sent world local asks layout (message ∷ messages) sent at starts known = (
+  letter_was_sent world local asks None layout message (sent 0 message refl) at.0 starts known,
+  letters_were_sent world local asks layout messages (λ place other is. sent (suc place) other is) at.1 starts known,
+)
+
+-- letters that were sent, were so whether or not they ask for pieces
+pub sent_asking : (world : World) (local : LocalObject) (asks other : Bool) (layout : Layout) (messages : List Message) →
+    AllByRecursion (WasSentAs world) (map (letter_of local asks layout) messages) →
+    AllByRecursion (WasSentAs world) (map (letter_of local other layout) messages)
+sent_asking world local asks other layout [] were = tt
+sent_asking world local asks other layout (message ∷ messages) were = (
+  record { sent = were.0.sent; layout = were.0.layout; next = were.0.next; start = were.0.start },
+  sent_asking world local asks other layout messages were.1,
 )
 
 -- the requests of a phase speak of its position

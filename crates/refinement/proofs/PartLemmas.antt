@@ -13,6 +13,7 @@ use Rattle.network.specs.Premises.{MayHappenInTurn, WasSent}
 use Rattle.starts.specs.Starts.{IsStart}
 use Rattle.starts.proofs.FinalPointerLemmas.{Keeps, kept_same}
 use Rattle.letter.specs.declared.letter.Letter.{Letter}
+use Rattle.local_object.specs.declared.report.Report.{Report}
 use Rattle.local_object.specs.Local.{LocalObject}
 use Rattle.local_object.specs.Outcomes.{Outcome, silent}
 use Rattle.refinement.specs.Parts.{IsPartOf, WasSentAs}
@@ -53,6 +54,35 @@ refined fragment world events later after target history is outcome may kept =
       },
       there.entries,
     )
+
+-- What a node's calls were told
+
+-- what is part of a world is so whatever its calls were told
+pub part_told : (world : World) (local : LocalObject) (reports : List Report) → IsPartOf world local →
+    IsPartOf world (record local { reports = reports })
+part_told world local reports part = record {
+  delta = part.delta;
+  start = part.start;
+  layouts = part.layouts;
+  first = part.first;
+  banks = part.banks;
+  calls = part.calls;
+  mover = part.mover;
+}
+
+pub kept_told : (fragment : Code) (world later : World) (after : LocalObject) (reports : List Report) (events : ℕ) (history : List Entry) →
+    IsKept fragment world later (silent after) events history →
+    IsKept fragment world later (silent (record after { reports = reports })) events history
+kept_told fragment world later after reports events history is = record {
+  formed = is.formed;
+  part = part_told later after reports is.part;
+  sent = is.sent;
+  others = is.others;
+  kept = is.kept;
+  files = is.files;
+  now = is.now;
+  entries = is.entries;
+}
 
 -- The calls, messages and history change
 

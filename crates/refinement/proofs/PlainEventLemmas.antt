@@ -6,7 +6,7 @@ use Rattle.refinement.proofs.BegunMoveLemmas.{move_refined}
 use Rattle.refinement.proofs.ClosedPlaceLemmas.{close_refined}
 use Rattle.refinement.proofs.GrownStartLemmas.{grow_refined}
 use Rattle.refinement.proofs.LeftCallLemmas.{answer_refined, give_up_refined}
-use Rattle.refinement.proofs.ServedLetterLemmas.{serve_refined}
+use Rattle.refinement.proofs.ServedRequestLemmas.{serve_refined}
 use Rattle.refinement.proofs.SettledValueLemmas.{settle_refined}
 use Rattle.refinement.proofs.StrayLetterLemmas.{hear_refined, redirect_refined}
 use Rattle.refinement.proofs.TakenLetterLemmas.{take_refined}
@@ -28,3 +28,4 @@ each_plain (LocalEvent.Redirect letter) plain = redirect_refined letter
 each_plain (LocalEvent.ReadOn id) plain = absurd (cc)
 each_plain (LocalEvent.BeginAnew id) plain = absurd (cc)
 each_plain (LocalEvent.Raise position) plain = absurd (cc)
+each_plain (LocalEvent.EndEarly id value) plain = absurd (cc)

@@ -1,5 +1,5 @@
 -- A node raises the pointer of its bank to final. In the world, it serves a request to do so, which was sent to it.
-use Rattle.std.proofs.Common.{◌≡◌, ℕ, length, Option, None, Some, IsSome, slice_get, refl, subst, ap}
+use Rattle.std.proofs.Common.{◌≡◌, ℕ, false, length, Option, None, Some, IsSome, slice_get, refl, subst, ap}
 use Rattle.layout.specs.Layout.{Layout}
 use Rattle.bank.specs.declared.reply.Reply.{Reply}
 use Rattle.bank.specs.declared.request.Request.{Request}
@@ -43,7 +43,8 @@ raised_as_served (Some bank) member delta some = refl
 -- the letter with the request, as it may have been sent
 abbrev letter_asking : Layout → (call phase position member : ℕ) → Letter
 letter_asking layout call phase position member =
-    record { layout = layout; next = None; start = None; message = raise_request call phase position member }
+    let message = raise_request call phase position member in
+    record { layout = layout; next = None; start = None; asks_piece = false; told = None; message = message }
 
 letter_was_asked : (world : World) (layout : Layout) (position member : ℕ) (was : WasAskedToRaise world position member) →
     slice_get (known_layouts world 0) position ≡ Some layout →

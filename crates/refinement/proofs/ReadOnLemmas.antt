@@ -20,7 +20,7 @@ use Rattle.starts.proofs.LeadingLemmas.{sent_there}
 use Rattle.starts.proofs.ReadingLemmas.{reads_to}
 use Rattle.local_object.specs.Local.{LocalObject, layout_here}
 use Rattle.local_object.specs.Events.{LocalEvent, done_here, pieces_here}
-use Rattle.local_object.specs.Outcomes.{on_open_call}
+use Rattle.local_object.specs.Outcomes.{is_read, on_open_call}
 use Rattle.local_object.specs.May.{IsCarriedOut}
 use Rattle.local_object.specs.Starting.{IsReadingHere, number_at, reading_call, reads_at}
 use Rattle.local_object.proofs.LastPositionLemmas.{some_layout}
@@ -140,7 +140,7 @@ module _ (fragment : Code) (world : World) (local : LocalObject) (id : ℕ) (cal
         (kept_after fragment world later after 1 (length leads.events) world.history
         (changed_kept fragment world local id call new formed part is refl refl refl sent after.sent
         (λ message was. (was.0, in_front world.sent leads.sent was.0 message was.1))
-        (letters_were_sent later local layout asking were_sent
+        (letters_were_sent later local (is_read call.kind) layout asking were_sent
         (requests_speak (λ p. slice_get (known_layouts world 0) p ≡ Some layout) call.id (number_at call start) Next start
         layout.members 0 empty_piece at_start)
         (start_still world (with_open new world.calls) sent world.history (suc world.now) local.start part.start)

@@ -15,26 +15,30 @@ use Rattle.refinement.proofs.EventCountLemmas.{count_after}
 use Rattle.refinement.proofs.EventRunLemmas.{may_append, run_append}
 
 -- what the first events sent need not be sent by the node
+pub both_refined : (fragment : Code) (world : World) (first second : List Event) (between after : Outcome) →
+    between.local.node ≡ after.local.node → IsRefined fragment world first between →
+    IsRefined fragment (world_after fragment first world) second after → IsRefined fragment world (first ++ second) after
+both_refined fragment world first second between after same one more =
+    let there = sym (run_append fragment first second world) in record {
+      may = may_append fragment first second world one.may more.may;
+      formed = subst (IsWellFormed fragment) there more.formed;
+      part = subst (λ w. IsPartOf w after.local) there more.part;
+      sent = subst (λ w. AllByRecursion (WasSentAs w) after.sent) there more.sent;
+      others = λ other apart part. subst (λ w. IsPartOf w other) there
+          (more.others other apart (one.others other (λ it. apart (it ∙ same)) part));
+      kept = λ letter was. subst (λ w. WasSentAs w letter) there (more.kept letter (one.kept letter was));
+      files = ap (λ (w : World). w.files) (sym there) ∙ more.files ∙ one.files;
+      now = count_after fragment (first ++ second) world;
+    }
+
 pub then_refined : (fragment : Code) (world : World) (first : List Event) (between after : Outcome) (history : List Entry) (count : ℕ) →
     between.local.node ≡ after.local.node → IsRefined fragment world first between →
     HasEvents fragment (world_after fragment first world) after history count →
     HasEvents fragment world after history (length first + count)
 then_refined fragment world first between after history count same one more =
-    let events = first ++ more.events in
-    let there = sym (run_append fragment first more.events world) in
-    let formed = subst (IsWellFormed fragment) there more.refined.formed in record {
-      events = events;
+    record {
+      events = first ++ more.events;
       number = length-append first more.events ∙ ap (λ n. length first + n) more.number;
-      refined = record {
-        may = may_append fragment first more.events world one.may more.refined.may;
-        formed = formed;
-        part = subst (λ w. IsPartOf w after.local) there more.refined.part;
-        sent = subst (λ w. AllByRecursion (WasSentAs w) after.sent) there more.refined.sent;
-        others = λ other apart part. subst (λ w. IsPartOf w other) there
-            (more.refined.others other apart (one.others other (λ it. apart (it ∙ same)) part));
-        kept = λ letter was. subst (λ w. WasSentAs w letter) there (more.refined.kept letter (one.kept letter was));
-        files = ap (λ (w : World). w.files) (sym there) ∙ more.refined.files ∙ one.files;
-        now = count_after fragment events world;
-      };
-      entries = ap (λ (w : World). w.history) (sym there) ∙ more.entries;
+      refined = both_refined fragment world first more.events between after same one more.refined;
+      entries = ap (λ (w : World). w.history) (run_append fragment first more.events world) ∙ more.entries;
     }

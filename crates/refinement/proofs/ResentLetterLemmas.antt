@@ -8,6 +8,7 @@ use Rattle.open_calls.proofs.OpenCallLemmas.{found}
 use Rattle.letter.specs.declared.letter.Letter.{Letter}
 use Rattle.local_object.specs.Events.{pieces_here}
 use Rattle.local_object.specs.Outcomes.{letter_of}
+use Rattle.local_object.specs.Sent.{asks_piece}
 use Rattle.refinement.specs.Laws.{ResentLettersWereSent}
 use Rattle.refinement.specs.Parts.{WasSentAs}
 use Rattle.refinement.specs.WellFormed.{HasAsked, current_requests}
@@ -30,13 +31,14 @@ letters_sent fragment world local letter formed part again =
     let call = again.call in
     let layout = again.layout in
     let position = call.phase.position in
+    let asks = asks_piece call.kind call.stage in
     let is = carried fragment world local again.id call formed part again.carried in
     let has = (found (HasAsked fragment world) world.calls again.id call formed.asked is.open_there).0 in
     let known = known_by_all world formed.one local.node position layout (part.layouts position layout again.known) in
     let same : has.layout ≡ layout = same_Some has.layout layout (sym has.at ∙ known) in
     let messages = current_requests fragment layout call in
-    let there = message_there (letter_of local layout) messages again.place letter
-    (sym (slice_get-map (letter_of local layout) messages again.place) ∙ again.at) in
+    let there = message_there (letter_of local asks layout) messages again.place letter
+    (sym (slice_get-map (letter_of local asks layout) messages again.place) ∙ again.at) in
     let sent = has.asked again.place there.0
     (ap (λ l. slice_get (current_requests fragment l call) again.place) same ∙ there.1) in
     let speaks = all_get (λ (message : Message). slice_get (known_layouts world 0) message.position ≡ Some layout) messages
@@ -44,5 +46,5 @@ letters_sent fragment world local letter formed part again =
     (requests_speak (λ p. slice_get (known_layouts world 0) p ≡ Some layout) call.id call.phase.number call.phase.kind position
     layout.members 0 (pieces_here fragment layout call) known) there.1 in
     subst (WasSentAs world) there.2
-    (letter_was_sent world local layout there.0 sent speaks part.start
+    (letter_was_sent world local asks None layout there.0 sent speaks part.start
     (λ p other e. known_by_all world formed.one local.node p other (part.layouts p other e)))

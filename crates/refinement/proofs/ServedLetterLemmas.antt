@@ -15,16 +15,17 @@ use Rattle.record.specs.Fragments.{Code}
 use Rattle.network.specs.Worlds.{World, member_bank, known_layouts}
 use Rattle.network.specs.Events.{Event, handled_world, served_world, world_after}
 use Rattle.letter.specs.declared.letter.Letter.{Letter}
+use Rattle.letter.specs.declared.telling.Telling.{Telling}
 use Rattle.local_object.specs.declared.kept_bank.KeptBank.{KeptBank}
 use Rattle.local_object.specs.ChangedBanks.{kept_bank}
 use Rattle.local_object.specs.KeptBanks.{kept_reply}
 use Rattle.local_object.specs.Local.{LocalObject, bank_here, bank_in, heard_place, with_bank_here}
-use Rattle.local_object.specs.Events.{LocalEvent, handled_here, reply_letters, served_here}
-use Rattle.local_object.specs.Outcomes.{Outcome, learnt_from, letter_of, silent}
+use Rattle.local_object.specs.Events.{handled_here, reply_letters}
+use Rattle.local_object.specs.Outcomes.{Outcome, letter_of, silent}
 use Rattle.local_object.specs.May.{IsAddressed}
-use Rattle.refinement.specs.Laws.{IsPlainEventOfWorld}
+use Rattle.local_object.specs.Reports.{told_by}
 use Rattle.refinement.specs.Parts.{IsKeptOf, IsPartOf, WasSentAs}
-use Rattle.refinement.specs.Refined.{IsRefined, if_replied, served_events}
+use Rattle.refinement.specs.Refined.{IsRefined, if_replied}
 use Rattle.refinement.specs.WellFormed.{HasAsked, IsWellFormed}
 use Rattle.starts.proofs.BankRowLemmas.{bank_set_here, bank_set_there, counts_set, has_bank, with_served}
 use Rattle.starts.proofs.FinalPointerLemmas.{Keeps, kept_served as final_served}
@@ -36,10 +37,9 @@ use Rattle.refinement.proofs.StartLemmas.{letter_kept, start_kept}
 use Rattle.refinement.proofs.TakenLetterLemmas.{still_kept}
 use Rattle.local_object.proofs.UnchangedBankLemmas.{kept_served}
 use Rattle.local_object.proofs.ClosingLemmas.{put_back}
-use Rattle.local_object.proofs.HeardLayoutLemmas.{bank_here_heard}
 use Rattle.local_object.proofs.HeardPlaceLemmas.{bank_with_here, bank_with_there, layout_with}
 use Rattle.refinement.proofs.LetterLemmas.{behind, in_front, letter_was_sent}
-use Rattle.refinement.proofs.LearntPartLemmas.{known_by_all, part_learnt_from}
+use Rattle.refinement.proofs.LearntPartLemmas.{known_by_all}
 
 module _ (fragment : Code) (world : World) (local : LocalObject) (letter : Letter) (asked : Request) (formed : IsWellFormed fragment world)
     (part : IsPartOf world local) (was : WasSentAs world letter) (addressed : IsAddressed local letter) where
@@ -89,6 +89,13 @@ module _ (fragment : Code) (world : World) (local : LocalObject) (letter : Lette
   -- the world's bank, which the node keeps open or closed
   abbrev whole : Bank
   whole = member_bank world letter.message.position letter.message.member
+
+  -- what the node tells, and the letter with the reply of a bank
+  abbrev told : Option Telling
+  told = told_by (bank_here served_local letter.message.position letter.message.member) letter.asks_piece
+
+  abbrev reply_letter : Bank → Letter
+  reply_letter bank = record (letter_of local false letter.layout (reply_of bank)) { told = told }
 
   -- final pointers stay
   still_final : Keeps world (served_to whole)
@@ -165,7 +172,7 @@ module _ (fragment : Code) (world : World) (local : LocalObject) (letter : Lette
 
   served_with : (reply : Reply) → kept_reply bank asked ≡ Some reply →
       IsKept fragment world (served_to whole)
-      (record { local = served_local; sent = letter_of local letter.layout (reply_of whole) ∷ [] }) 1 world.history
+      (record { local = served_local; sent = reply_letter whole ∷ [] }) 1 world.history
   served_with reply answers = record {
     formed = record {
       one = formed.one;
@@ -182,7 +189,7 @@ module _ (fragment : Code) (world : World) (local : LocalObject) (letter : Lette
     };
     part = served_part reply answers;
     sent = (
-      letter_was_sent (served_to whole) local letter.layout (reply_of whole)
+      letter_was_sent (served_to whole) local false told letter.layout (reply_of whole)
           (behind world.sent (reply_of whole ∷ []) 0 (reply_of whole) refl)
           was.layout (start_kept world (served_to whole) still_final local.start part.start)
           (λ q layout e. known_by_all world formed.one local.node q layout (part.layouts q layout e)),
@@ -196,16 +203,16 @@ module _ (fragment : Code) (world : World) (local : LocalObject) (letter : Lette
     entries = refl;
   }
 
-  -- after the node served a request, and sent what came of this
+  -- after the node served a request, and sent letters
   abbrev answered_here : List Letter → Outcome
   answered_here sent = record { local = served_local; sent = sent }
 
   served_kept : (reply : Reply) → kept_reply bank asked ≡ Some reply →
-      IsKept fragment world (handled_world (ticked world) letter.message asked) (answered_here (reply_letters local letter (Some reply))) 1
-      world.history
+      IsKept fragment world (handled_world (ticked world) letter.message asked)
+      (answered_here (reply_letters local letter told (Some reply))) 1 world.history
   served_kept reply answers =
       subst (λ r. IsKept fragment world (served_to whole)
-      (answered_here (letter_of local letter.layout (answered letter.message r) ∷ [])) 1 world.history)
+      (answered_here (reply_letters local letter told (Some r))) 1 world.history)
       (sym (same_as_whole whole bank asked reply kept_of_whole answers)) (served_with reply answers)
 
   -- a request that the bank declines changes nothing
@@ -225,25 +232,12 @@ module _ (fragment : Code) (world : World) (local : LocalObject) (letter : Lette
   request_refined is = go (kept_reply bank asked) refl
     where
       go : (o : Option Reply) → kept_reply bank asked ≡ o →
-          IsRequestOfWorld (if_replied o (Event.Serve letter.message)) (answered_here (reply_letters local letter o))
+          IsRequestOfWorld (if_replied o (Event.Serve letter.message)) (answered_here (reply_letters local letter told o))
       go None e =
           refined fragment world [] world (silent local) (answered_here []) world.history refl (ap silent (sym (declined_here e))) tt
           (still_kept fragment world local formed part)
       go (Some reply) e =
           refined fragment world (Event.Serve letter.message ∷ []) (handled_world (ticked world) letter.message asked)
-          (answered_here (reply_letters local letter (Some reply))) (answered_here (reply_letters local letter (Some reply)))
+          (answered_here (reply_letters local letter told (Some reply))) (answered_here (reply_letters local letter told (Some reply)))
           world.history (ap (served_world (ticked world) letter.message) (sym is)) refl
           ((asked, is), record { network = was.sent; log = tt; ids = tt }, tt) (served_kept reply e)
-
-pub serve_refined : (letter : Letter) → IsPlainEventOfWorld (LocalEvent.Serve letter)
-serve_refined letter fragment world local formed part may premised =
-    let next = learnt_from local letter in
-    let asked = may.0.0 in
-    let known = part_learnt_from world local letter formed.one part premised in
-    subst (λ b. IsRefined fragment world (served_events local letter b) (served_here next letter b)
-    × ((world_after fragment (served_events local letter b) world).history ≡ world.history)) (sym may.0.1)
-    (subst (λ bank. IsRefined fragment world (if_replied (kept_reply bank asked) (Event.Serve letter.message))
-    (handled_here next letter asked)
-    × ((world_after fragment (if_replied (kept_reply bank asked) (Event.Serve letter.message)) world).history ≡ world.history))
-    (bank_here_heard local letter letter.message.position letter.message.member)
-    (request_refined fragment world next letter asked formed known premised may.1 may.0.1))

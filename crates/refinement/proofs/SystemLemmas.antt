@@ -1,4 +1,4 @@
--- All nodes, each by what it keeps, have a world that is reached.
+-- All nodes, each by what it keeps, have a world that a run reaches.
 use Rattle.std.proofs.Common.{◌≡◌, ℕ, zero, suc, ◌+◌, ◌<◌, cond, List, [], ◌∷◌}
 use Rattle.std.proofs.Common.{Some, None, slice_get, refl, sym, ap, ◌∙◌, arith}
 use Rattle.std.proofs.lemmas.Option.{same_Some}
@@ -7,30 +7,24 @@ use Rattle.bank.specs.Bank.{opened_bank}
 use Rattle.bank.specs.Floor.{remembered}
 use Rattle.bank.proofs.RememberedBankLemmas.{remembered-opened}
 use Rattle.record.specs.Fragments.{Code}
-use Rattle.network.specs.Worlds.{ClusterFile, World, member_bank, known_layouts, opened_world}
-use Rattle.network.specs.Events.{world_after}
-use Rattle.network.specs.Laws.{IsReached}
+use Rattle.network.specs.Worlds.{ClusterFile, member_bank, known_layouts, opened_world}
 use Rattle.network.specs.Premises.{IsOneFile}
 use Rattle.local_object.specs.Local.{LocalObject, Place, bank_here, layout_here, layout_in, new_local}
 use Rattle.refinement.specs.Parts.{IsKeptOf, IsPartOf}
-use Rattle.refinement.specs.Systems.{IsWorldOf, MayRunIn, System, SystemEvent, opened_system, system_after}
+use Rattle.refinement.specs.Systems.{MayRunIn, System, SystemEvent, opened_system, system_after}
 use Rattle.refinement.specs.Systems.{system_run}
 use Rattle.refinement.specs.WellFormed.{IsWellFormed}
 use Rattle.open_calls.proofs.CallsOfNodeLemmas.{differs}
-use Rattle.refinement.proofs.EventRunLemmas.{HasWorld, reached_later, then_world}
 use Rattle.refinement.proofs.SystemEventLemmas.{one_event}
+use Rattle.refinement.proofs.SystemPremiseLemmas.{HasRun}
 use Rattle.starts.proofs.BankRowLemmas.{new_count}
 use Rattle.refinement.proofs.GrownWorldLemmas.{new_bank}
 
-all_events : (fragment : Code) (events : List SystemEvent) (world : World) (system : System) → IsReached fragment world →
-    IsWellFormed fragment world → IsWorldOf world system → MayRunIn fragment events system →
-    HasWorld fragment world (system_run fragment events system)
-all_events fragment [] world system reached formed is may = record { events = []; may = tt; formed = formed; is = is }
-all_events fragment (event ∷ events) world system reached formed is may =
-    let led = one_event fragment world system reached formed is event may.0 in
-    then_world fragment world (system_after fragment system event) (system_run fragment events (system_after fragment system event)) led
-    (all_events fragment events (world_after fragment led.events world) (system_after fragment system event)
-    (reached_later fragment world led.events reached led.may) led.formed led.is may.1)
+all_events : (fragment : Code) (events : List SystemEvent) (system : System) → HasRun fragment system →
+    MayRunIn fragment events system → HasRun fragment (system_run fragment events system)
+all_events fragment [] system has may = has
+all_events fragment (event ∷ events) system has may =
+    all_events fragment events (system_after fragment system event) (one_event fragment system has event may.0) may.1
 
 -- The first world
 
@@ -89,22 +83,20 @@ module _ (files : ℕ → ClusterFile) (one : IsOneFile files) where
       mover zero layout e = e
       mover (suc q) layout e = absurd (cc)
 
-  opened_is : IsWorldOf (opened_world files) (opened_system files)
-  opened_is = record {
-    files = refl;
-    nodes = λ node. refl;
-    parts = opened_part;
-    letters = tt;
-    history = refl;
-    now = refl;
+  opened_has : (fragment : Code) → IsLawful (files 0).first → HasRun fragment (opened_system files)
+  opened_has fragment lawful = record {
+    run = record { files = files; events = [] };
+    answers = [];
+    reached = record { one = one; lawful = lawful; may = tt };
+    formed = opened_formed fragment lawful;
+    is = record {
+      parts = record { files = refl; nodes = λ node. refl; parts = opened_part; letters = tt; now = refl };
+      told = record { letters = tt; reports = λ node. tt; apart = λ node. tt };
+      early = record { early = tt; ended = tt; used = λ id unused. refl; same = refl };
+    };
   }
 
-  opened_reached : (fragment : Code) → IsLawful (files 0).first → IsReached fragment (opened_world files)
-  opened_reached fragment lawful = record { files = files; one = one; lawful = lawful; events = []; may = tt; result = refl }
-
   pub from_opened : (fragment : Code) (events : List SystemEvent) → IsLawful (files 0).first →
-      MayRunIn fragment events (opened_system files) →
-      HasWorld fragment (opened_world files) (system_run fragment events (opened_system files))
+      MayRunIn fragment events (opened_system files) → HasRun fragment (system_run fragment events (opened_system files))
   from_opened fragment events lawful may =
-      all_events fragment events (opened_world files) (opened_system files) (opened_reached fragment lawful)
-      (opened_formed fragment lawful) opened_is may
+      all_events fragment events (opened_system files) (opened_has fragment lawful) may

@@ -1,29 +1,44 @@
 -- The premises of an event at a node hold in the world of all nodes.
-use Rattle.std.proofs.Common.{◌≡◌, ℕ, suc, Some, slice_get, sym, subst, ap, ◌∙◌}
+use Rattle.std.proofs.Common.{◌≡◌, ℕ, suc, List, Some, slice_get, sym, subst, ap, ◌∙◌}
 use Rattle.std.proofs.lemmas.Option.{slice_get_within}
-use Rattle.std.specs.List.{AllByRecursion}
-use Rattle.record.specs.declared.call.Entry.{Entry}
 use Rattle.record.specs.Fragments.{Code}
 use Rattle.soundness.proofs.ListLemmas.{all_get}
 use Rattle.network.specs.Worlds.{ClusterFile, World}
-use Rattle.network.specs.Laws.{IsReached}
 use Rattle.letter.specs.declared.letter.Letter.{Letter}
 use Rattle.starts.specs.Starts.{IsStart}
 use Rattle.starts.proofs.AskedWorldLemmas.{start_asked}
 use Rattle.local_object.specs.Events.{LocalEvent}
 use Rattle.local_object.specs.May.{MayHappenHere}
+use Rattle.told_replies.specs.EarlyAnswers.{EarlyAnswer}
+use Rattle.told_replies.specs.Tellings.{Run, world_of}
+use Rattle.refinement.specs.Laws.{IsReachedBy}
 use Rattle.refinement.specs.Parts.{WasSentAs}
 use Rattle.refinement.specs.Refined.{IsAskedToRaise, IsPremisedHere}
-use Rattle.refinement.specs.Systems.{IsPremisedIn, IsWorldOf, System}
+use Rattle.refinement.specs.Systems.{HasPartsOf, IsPremisedIn, IsRunOf, System}
 use Rattle.refinement.specs.WellFormed.{IsWellFormed}
+use Rattle.refinement.proofs.EarlyHistoryLemmas.{unused_seen}
+use Rattle.refinement.proofs.EarlyRunLemmas.{is_reached}
 use Rattle.refinement.proofs.LearntPartLemmas.{known_by_all}
 use Rattle.refinement.proofs.StartedCallLemmas.{starts_are_grown}
+use Rattle.refinement.proofs.WorldIdLemmas.{HasNot}
 
-module _ (fragment : Code) (world : World) (system : System) (reached : IsReached fragment world) (formed : IsWellFormed fragment world)
-    (is : IsWorldOf world system) where
-  unused_there : (id : ℕ) → AllByRecursion (λ entry. entry.call ≡ id → ⊥) system.history →
-      AllByRecursion (λ entry. entry.call ≡ id → ⊥) world.history
-  unused_there id free = subst (AllByRecursion (λ (entry : Entry). entry.call ≡ id → ⊥)) (sym is.history) free
+-- a run that leads to the world of all nodes, with the early answers that were given in it
+pub record HasRun (fragment : Code) (system : System) : Type 0 where
+  pub run : Run
+  pub answers : List EarlyAnswer
+  pub reached : IsReachedBy fragment run
+  pub formed : IsWellFormed fragment (world_of fragment run)
+  pub is : IsRunOf fragment run answers system
+
+module _ (fragment : Code) (system : System) (has : HasRun fragment system) where
+  abbrev world : World
+  world = world_of fragment has.run
+
+  abbrev is : HasPartsOf world system
+  is = has.is.parts
+
+  unused_there : (id : ℕ) → HasNot id system.history → HasNot id world.history
+  unused_there id free = unused_seen has.answers id world.history (subst (HasNot id) (sym has.is.early.same) free)
 
   -- the node that moves objects by the system's files does so by the world's
   mover_there : (node : ℕ) → node ≡ (system.files node).mover →
@@ -48,7 +63,8 @@ module _ (fragment : Code) (world : World) (system : System) (reached : IsReache
       let call = may.0 in
       let spread = may.2 in
       subst (λ n. IsStart world (suc n)) spread.at
-      (starts_are_grown fragment world (system.objects node) id call reached formed (is.parts node) may.1 spread.kind spread.complete
+      (starts_are_grown fragment world (system.objects node) id call (is_reached fragment has.run has.reached) has.formed
+      (is.parts node) may.1 spread.kind spread.complete
       (subst (IsStart world) (sym spread.at) (is.parts node).start))
 
   -- at a position before its start, a node was asked to raise the pointer
@@ -56,8 +72,9 @@ module _ (fragment : Code) (world : World) (system : System) (reached : IsReache
       IsAskedToRaise world (system.objects node) position
   asked_there node position may member layout known server =
       let part = is.parts node in
-      start_asked fragment world (system.objects node).start position member layout reached part.start may.before
-      (known_by_all world formed.one (system.objects node).node position layout (part.layouts position layout known))
+      start_asked fragment world (system.objects node).start position member layout (is_reached fragment has.run has.reached) part.start
+      may.before
+      (known_by_all world has.formed.one (system.objects node).node position layout (part.layouts position layout known))
       (slice_get_within layout.members member (system.objects node).node server)
 
   pub premised_there : (node : ℕ) (event : LocalEvent) → MayHappenHere fragment (system.objects node) event →
@@ -65,16 +82,10 @@ module _ (fragment : Code) (world : World) (system : System) (reached : IsReache
   premised_there node (LocalEvent.BeginRead id) may premised = unused_there id premised
   premised_there node (LocalEvent.BeginWrite id value) may premised = unused_there id premised
   premised_there node (LocalEvent.BeginMove id layout) may premised = (unused_there id premised.0, mover_there node premised.1)
-  premised_there node (LocalEvent.Advance id) may premised = tt
   premised_there node (LocalEvent.Serve letter) may premised = letter_there letter premised
   premised_there node (LocalEvent.Take letter) may premised = letter_there letter premised
-  premised_there node (LocalEvent.Settle id value) may premised = tt
-  premised_there node (LocalEvent.Answer id) may premised = tt
-  premised_there node (LocalEvent.GiveUp id) may premised = tt
-  premised_there node (LocalEvent.Close position) may premised = tt
   premised_there node (LocalEvent.Grow id) may premised = grows_there node id may
   premised_there node (LocalEvent.Hear letter) may premised = letter_there letter premised
   premised_there node (LocalEvent.Redirect letter) may premised = letter_there letter premised
-  premised_there node (LocalEvent.ReadOn id) may premised = tt
-  premised_there node (LocalEvent.BeginAnew id) may premised = tt
   premised_there node (LocalEvent.Raise position) may premised = asked_there node position may
+  premised_there node _ may premised = tt

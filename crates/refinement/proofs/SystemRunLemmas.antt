@@ -1,11 +1,14 @@
 -- All nodes for one object: one event more, and the entries of open calls.
-use Rattle.std.proofs.Common.{◌≡◌, ℕ, List, [], ◌∷◌, ◌++◌, Some, refl, sym, subst, ap, ◌∙◌}
+use Rattle.std.proofs.Common.{◌≡◌, ℕ, List, [], ◌∷◌, ◌++◌, None, Some, refl, sym, subst, ap, ◌∙◌}
 use Rattle.record.specs.Fragments.{Code}
 use Rattle.open_calls.specs.OpenCalls.{NodeCall, open_call}
 use Rattle.open_calls.proofs.OpenCallLemmas.{found}
+use Rattle.told_replies.specs.EarlyAnswers.{early_answer_to}
+use Rattle.told_replies.specs.Tellings.{world_of}
 use Rattle.refinement.specs.Systems.{IsReachedSystem, MayHappenIn, MayRunIn, System, SystemEvent, opened_system, system_after, system_run}
 use Rattle.refinement.specs.WellFormed.{HasEntry}
 use Rattle.refinement.proofs.ChangedCallLemmas.{carried}
+use Rattle.refinement.proofs.EarlyHistoryLemmas.{open_seen}
 use Rattle.refinement.proofs.SystemLawLemmas.{reached_with}
 
 run_push : (fragment : Code) (events : List SystemEvent) (event : SystemEvent) (system : System) →
@@ -37,8 +40,10 @@ reached_next fragment system event reached may = record {
 pub open_entry : (fragment : Code) (system : System) (node id : ℕ) (call : NodeCall) → IsReachedSystem fragment system →
     open_call (system.objects node).calls id ≡ Some call → HasEntry system.history call
 open_entry fragment system node id call reached open_here =
-    let with_world = reached_with fragment system reached in
-    let world = with_world.world in
-    let carries = carried fragment world (system.objects node) id call with_world.formed (with_world.is.parts node) open_here in
-    subst (λ history. HasEntry history call) with_world.is.history
-    (found (HasEntry world.history) world.calls id call with_world.formed.entries carries.open_there).0
+    let has = reached_with fragment system reached in
+    let world = world_of fragment has.run in
+    let carries = carried fragment world (system.objects node) id call has.formed (has.is.parts.parts node) open_here in
+    subst (λ history. HasEntry history call) has.is.early.same
+    (open_seen has.answers world.history call
+    (found (λ (c : NodeCall). early_answer_to has.answers c.id ≡ None) world.calls id call has.is.early.ended carries.open_there).0
+    (found (HasEntry world.history) world.calls id call has.formed.entries carries.open_there).0)

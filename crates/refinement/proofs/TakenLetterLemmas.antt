@@ -12,7 +12,7 @@ use Rattle.open_calls.specs.OpenCalls.{NodeCall, open_call, with_open, taking_op
 use Rattle.network.specs.Events.{Event, on_open, world_after}
 use Rattle.letter.specs.declared.letter.Letter.{Letter}
 use Rattle.local_object.specs.Local.{LocalObject}
-use Rattle.local_object.specs.Events.{LocalEvent}
+use Rattle.local_object.specs.Events.{LocalEvent, taking_here}
 use Rattle.local_object.specs.Outcomes.{Outcome, learnt_from, on_open_call, silent}
 use Rattle.refinement.specs.Laws.{IsPlainEventOfWorld}
 use Rattle.refinement.specs.Parts.{IsPartOf}
@@ -20,7 +20,7 @@ use Rattle.refinement.specs.Refined.{IsRefined, if_carried}
 use Rattle.refinement.specs.WellFormed.{HasAsked, IsWellFormed}
 use Rattle.refinement.proofs.BegunCallLemmas.{ticked}
 use Rattle.refinement.proofs.ChangedCallLemmas.{carried, changed_kept, changed_to}
-use Rattle.refinement.proofs.PartLemmas.{IsKept, refined, unchanged}
+use Rattle.refinement.proofs.PartLemmas.{IsKept, kept_told, refined, unchanged}
 use Rattle.local_object.proofs.HeardLayoutLemmas.{calls_heard}
 use Rattle.refinement.proofs.LearntPartLemmas.{part_learnt_from}
 
@@ -61,8 +61,8 @@ asked_taken fragment world later call message sent layouts has =
     })
 
 -- the node after its call takes the message of the letter
-abbrev taking_here : Letter → LocalObject → NodeCall → Outcome
-taking_here letter next call = silent (record next { calls = with_open (taking_open letter.message call) next.calls })
+abbrev taken_here : Letter → LocalObject → NodeCall → Outcome
+taken_here letter next call = silent (taking_here next call letter.message letter.told)
 
 pub take_refined : (letter : Letter) → IsPlainEventOfWorld (LocalEvent.Take letter)
 take_refined letter fragment world local formed part may premised =
@@ -71,24 +71,27 @@ take_refined letter fragment world local formed part may premised =
   where
     go : (next : LocalObject) → IsPartOf world next → (o : Option NodeCall) → open_call next.calls letter.message.call ≡ o →
         IsRefined fragment world (if_carried o (Event.Take letter.message))
-        (on_open_call next (open_call next.calls letter.message.call) (taking_here letter next))
+        (on_open_call next (open_call next.calls letter.message.call) (taken_here letter next))
         × ((world_after fragment (if_carried o (Event.Take letter.message)) world).history ≡ world.history)
     go next known None e =
         refined fragment world [] world (silent next)
-        (on_open_call next (open_call next.calls letter.message.call) (taking_here letter next)) world.history refl
-        (ap (λ o. on_open_call next o (taking_here letter next)) (sym e)) tt (still_kept fragment world next formed known)
+        (on_open_call next (open_call next.calls letter.message.call) (taken_here letter next)) world.history refl
+        (ap (λ o. on_open_call next o (taken_here letter next)) (sym e)) tt (still_kept fragment world next formed known)
     go next known (Some call) e =
         let is = carried fragment world next letter.message.call call formed known e in
         let new = taking_open letter.message call in
         refined fragment world (Event.Take letter.message ∷ [])
         (changed_to fragment world next letter.message.call call new formed known is refl refl refl world.sent)
-        (taking_here letter next call)
-        (on_open_call next (open_call next.calls letter.message.call) (taking_here letter next)) world.history
+        (taken_here letter next call)
+        (on_open_call next (open_call next.calls letter.message.call) (taken_here letter next)) world.history
         (ap (λ o. on_open (ticked world) o
         (λ c. record world { calls = with_open (taking_open letter.message c) world.calls; now = suc world.now })) (sym is.open_there))
-        (ap (λ o. on_open_call next o (taking_here letter next)) (sym e))
+        (ap (λ o. on_open_call next o (taken_here letter next)) (sym e))
         (may, record { network = premised.sent; log = tt; ids = tt }, tt)
+        (kept_told fragment world
+        (changed_to fragment world next letter.message.call call new formed known is refl refl refl world.sent)
+        (record next { calls = with_open new next.calls }) (taking_here next call letter.message letter.told).reports 1 world.history
         (changed_kept fragment world next letter.message.call call new formed known is refl refl refl world.sent [] (λ message was. was) tt
         (asked_taken fragment world
         (changed_to fragment world next letter.message.call call new formed known is refl refl refl world.sent) call
-        letter.message refl refl))
+        letter.message refl refl)))

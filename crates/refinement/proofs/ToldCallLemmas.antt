@@ -1,15 +1,12 @@
 -- A call that may end early by what its node keeps may be answered early in the run.
-use Rattle.std.proofs.Common.{◌≡◌, ◌⊎◌, ◌&&◌, ◌+◌, ◌<◌, ◌≤◌, ℕ, nat_eq, eqb, eqb-true, eq-eqb, Bool, true, false, cond, not}
-use Rattle.std.proofs.Common.{List, [], ◌∷◌, length, map, filter, slice_get, Option, Some, None, inl, inr, refl, sym, subst, ap, ◌∙◌}
-use Rattle.std.proofs.Common.{arith}
-use Rattle.std.specs.List.{AllByRecursion, IsDistinct, count_by}
-use Rattle.std.proofs.lemmas.List.Sums.{length-filter}
-use Rattle.std.proofs.lemmas.Option.{get_or_from_slice_get}
+use Rattle.std.proofs.Common.{◌≡◌, ◌⊎◌, ◌+◌, ◌<◌, ◌≤◌, ℕ, eqb, eqb-true, eq-eqb, Bool, true, false, not}
+use Rattle.std.proofs.Common.{List, length, map, filter, Option, Some, None, inl, inr, refl, sym, subst, ap, ◌∙◌}
+use Rattle.std.specs.List.{AllByRecursion, count_by}
+use Rattle.std.proofs.lemmas.Option.{get_or_from_slice_get, none-some}
 use Rattle.tag.specs.declared.tag.Tag.{Tag}
 use Rattle.tag.specs.Tag.{tag_eq, tag_lt}
 use Rattle.tag.proofs.TagOrderLemmas.{tag_eq-true}
-use Rattle.layout.specs.Layout.{Layout}
-use Rattle.piece.specs.declared.piece.Piece.{Piece}
+use Rattle.layout.specs.Layout.{Layout, quorum_of}
 use Rattle.bank.specs.declared.kind.Kind.{Kind}
 use Rattle.bank.specs.declared.kind.Kind.TheVariants as kind
 use Rattle.bank.specs.declared.status.Status.{Status}
@@ -22,17 +19,19 @@ use Rattle.soundness.proofs.ListLemmas.{all_get, all_weaker}
 use Rattle.early_ends.specs.Told.{last_of}
 use Rattle.letter.specs.Tellings.{SaysNoMore}
 use Rattle.letter.specs.declared.telling.Telling.{Telling}
-use Rattle.network.specs.Worlds.{World, known_layout, known_layouts}
+use Rattle.network.specs.Worlds.{known_layout, known_layouts, parts_of}
 use Rattle.open_calls.specs.OpenCalls.{NodeCall}
 use Rattle.local_object.specs.declared.report.Report.{Report}
-use Rattle.local_object.specs.Early.{EndsAtOnceHere, EndsHeldHere, HasToldPieceHere, is_finalizing, is_first_counting, is_last_at}
+use Rattle.local_object.specs.Early.{EndsAtOnceHere, EndsHeldHere, HasToldPieceHere, HasValueHere, HaveToldValueHere}
+use Rattle.local_object.specs.Early.{is_finalizing, is_first_counting, is_last_at}
 use Rattle.local_object.specs.Local.{LocalObject, layout_here}
-use Rattle.local_object.specs.Reports.{is_of, is_same, is_unset, tells_held, tells_no_greater, tells_unset}
-use Rattle.told_replies.specs.EarlyAnswers.{EndsAtOnce, EndsHeld, Finalizes, IsToldGreatest, IsToldHeld, IsToldValue, TellsHeld}
-use Rattle.told_replies.specs.EarlyAnswers.{TellsNoGreater, TellsPiece, asked_layout}
-use Rattle.told_replies.specs.Tellings.{HasTold, HaveTold, Run, world_of}
+use Rattle.local_object.specs.Reports.{is_of, is_unset, tells_held, tells_no_greater, tells_unset}
+use Rattle.told_replies.specs.EarlyAnswers.{EndsAtOnce, EndsHeld, Finalizes, HasValue, IsToldGreatest, IsToldHeld, IsToldValue}
+use Rattle.told_replies.specs.EarlyAnswers.{TellsHeld, TellsNoGreater, TellsPiece, asked_layout}
+use Rattle.told_replies.specs.Tellings.{HasTold, Run, world_of}
 use Rattle.refinement.specs.Parts.{IsPartOf}
 use Rattle.refinement.specs.ToldLetters.{AreApart, IsTrueReport}
+use Rattle.refinement.proofs.ToldReportLemmas.{count_is, have_told, told_by_report}
 use Rattle.local_object.proofs.NewObjectLemmas.{are_both, both}
 
 unset_of : (s : Status) → is_unset s ≡ true → s ≡ status.Unset
@@ -51,8 +50,6 @@ put_of (kind.Fetch tag) e = (tag, inr refl)
 last_is : (s : Stage) (position : ℕ) → is_last_at s position ≡ true → last_of s ≡ Some position
 last_is (stage.FetchAt shown_at last tag) position e = ap Some (eqb-true last position e)
 last_is (stage.FinalizeAt last tag) position e = ap Some (eqb-true last position e)
-last_is stage.ReadBegin position e = absurd (cc)
-last_is (stage.ReadNext a b) position e = absurd (cc)
 last_is _ position e = absurd (cc)
 
 first_is : (s : Stage) → is_first_counting s ≡ true → (position : ℕ) × (s ≡ stage.ReadNext position position)
@@ -64,127 +61,165 @@ not_true : (b : Bool) → not b ≡ true → b ≡ false
 not_true true e = absurd (cc)
 not_true false e = refl
 
-module _ (fragment : Code) (run : Run) (call : NodeCall) where
-  -- a report to the call's current phase is something that the call was told
-  told_by_report : (report : Report) → IsTrueReport fragment run report → is_of call.id call.phase.number report ≡ true →
-      (whole : Telling) × SaysNoMore report.telling whole × HasTold fragment run call report.member whole
-  told_by_report report is of =
-      let names = both (eqb report.call call.id) (eqb report.phase call.phase.number) of in (
-        is.whole,
-        is.less,
-        record {
-          request = is.request;
-          told = is.told;
-          same_call = is.same_call ∙ eqb-true report.call call.id names.0;
-          same_phase = is.same_phase ∙ eqb-true report.phase call.phase.number names.1;
-          same_member = is.same_member;
-        },
-      )
-
-  module _ (test : Report → Bool) (Says : (member : ℕ) → Telling → Type 0)
-      (of_call : (report : Report) → test report ≡ true → is_of call.id call.phase.number report ≡ true)
-      (says : (report : Report) (whole : Telling) → test report ≡ true → SaysNoMore report.telling whole → Says report.member whole)
-      where
-    -- the members of the reports that pass the test
-    abbrev members : List Report → List ℕ
-    members reports = map (λ (r : Report). r.member) (filter test reports)
-
-    abbrev Told : ℕ → Type 0
-    Told member = (telling : Telling) × HasTold fragment run call member telling × Says member telling
-
-    told_if : (report : Report) (reports : List Report) → IsTrueReport fragment run report →
-        AllByRecursion Told (members reports) → (b : Bool) → test report ≡ b →
-        AllByRecursion Told (map (λ (r : Report). r.member) (cond b (report ∷ filter test reports) (filter test reports)))
-    told_if report reports is others true e =
-        let told = told_by_report report is (of_call report e) in
-        ((told.0, told.2, says report told.0 e told.1), others)
-    told_if report reports is others false e = others
-
-    all_told : (reports : List Report) → AllByRecursion (IsTrueReport fragment run) reports → AllByRecursion Told (members reports)
-    all_told [] are = tt
-    all_told (report ∷ reports) are = told_if report reports are.0 (all_told reports are.1) (test report) refl
-
-    -- of reports to one phase that are apart, the members are
-    other_member : (report other : Report) → test report ≡ true → test other ≡ true → is_same report other ≡ false →
-        eqb report.member other.member ≡ false
-    other_member report other mine its apart = go (eqb report.member other.member) refl
-      where
-        go : (b : Bool) → eqb report.member other.member ≡ b → eqb report.member other.member ≡ false
-        go false e = e
-        go true e =
-            let a = both (eqb report.call call.id) (eqb report.phase call.phase.number) (of_call report mine) in
-            let b = both (eqb other.call call.id) (eqb other.phase call.phase.number) (of_call other its) in
-            let one = eq-eqb other.call report.call
-            (eqb-true other.call call.id b.0 ∙ sym (eqb-true report.call call.id a.0)) in
-            let two = eq-eqb other.phase report.phase
-            (eqb-true other.phase call.phase.number b.1 ∙ sym (eqb-true report.phase call.phase.number a.1)) in
-            let three = eq-eqb other.member report.member (sym (eqb-true report.member other.member e)) in
-            let wrong : true ≡ false =
-            sym (are_both (is_of report.call report.phase other) (eqb other.member report.member)
-            (are_both (eqb other.call report.call) (eqb other.phase report.phase) one two) three) ∙ apart in
-            absurd (cc)
-
-    apart_if : (report other : Report) (reports : List Report) → test report ≡ true → is_same report other ≡ false →
-        AllByRecursion (λ m. eqb report.member m ≡ false) (members reports) → (b : Bool) → test other ≡ b →
-        AllByRecursion (λ m. eqb report.member m ≡ false)
-        (map (λ (r : Report). r.member) (cond b (other ∷ filter test reports) (filter test reports)))
-    apart_if report other reports mine apart others true e = (other_member report other mine e apart, others)
-    apart_if report other reports mine apart others false e = others
-
-    apart_from : (report : Report) (reports : List Report) → test report ≡ true →
-        AllByRecursion (λ other. is_same report other ≡ false) reports →
-        AllByRecursion (λ m. eqb report.member m ≡ false) (members reports)
-    apart_from report [] mine all = tt
-    apart_from report (other ∷ reports) mine all =
-        apart_if report other reports mine all.0 (apart_from report reports mine all.1) (test other) refl
-
-    distinct_if : (report : Report) (reports : List Report) → AllByRecursion (λ other. is_same report other ≡ false) reports →
-        IsDistinct nat_eq (members reports) → (b : Bool) → test report ≡ b →
-        IsDistinct nat_eq (map (λ (r : Report). r.member) (cond b (report ∷ filter test reports) (filter test reports)))
-    unfolding IsDistinct
-    distinct_if report reports apart others true e = (apart_from report reports e apart, others)
-    distinct_if report reports apart others false e = others
-
-    all_distinct : (reports : List Report) → AreApart reports → IsDistinct nat_eq (members reports)
-    unfolding IsDistinct
-    all_distinct [] apart = tt
-    all_distinct (report ∷ reports) apart = distinct_if report reports apart.0 (all_distinct reports apart.1) (test report) refl
-
-    length_members : (reports : List Report) → length (map (λ (r : Report). r.member) reports) ≡ length reports
-    length_members [] = refl
-    length_members (r ∷ rs) = ap (λ n. n + 1) (length_members rs)
-
-    pub count_is : (reports : List Report) → length (members reports) ≡ count_by test reports
-    count_is reports = length_members (filter test reports) ∙ length-filter test reports
-
-    pub have_told : (reports : List Report) → AllByRecursion (IsTrueReport fragment run) reports → AreApart reports →
-        HaveTold fragment run call Says (members reports)
-    have_told reports are apart = record { distinct = all_distinct reports apart; each = all_told reports are }
-
+-- the call with what its node keeps
 module _ (fragment : Code) (run : Run) (local : LocalObject) (call : NodeCall) (part : IsPartOf (world_of fragment run) local)
     (own : call.node ≡ local.node) (are : AllByRecursion (IsTrueReport fragment run) local.reports) (apart : AreApart local.reports) where
-  asked_is : (layout : Layout) → layout_here local call.phase.position ≡ Some layout →
-      asked_layout (world_of fragment run) call ≡ layout
+  abbrev asked : Layout
+  asked = asked_layout (world_of fragment run) call
+
+  asked_is : (layout : Layout) → layout_here local call.phase.position ≡ Some layout → asked ≡ layout
   asked_is layout known =
       ap (λ node. known_layout (world_of fragment run) node call.phase.position) own
-      ∙ sym (get_or_from_slice_get (known_layouts (world_of fragment run) local.node) call.phase.position layout no_layout
-      (part.layouts call.phase.position layout known))
+      ∙ get_or_from_slice_get (known_layouts (world_of fragment run) local.node) call.phase.position layout no_layout
+      (part.layouts call.phase.position layout known)
 
   abbrev of_phase : Report → Bool
   of_phase report = is_of call.id call.phase.number report
 
-  -- more than n - k told that the tag is held, as far as a test says
-  module _ (tag : Tag) (layout : Layout) (known : layout_here local call.phase.position ≡ Some layout) (test : Report → Bool)
-      (of_call : (report : Report) → test report ≡ true → of_phase report ≡ true)
-      (says : (report : Report) (whole : Telling) → test report ≡ true → SaysNoMore report.telling whole →
-      TellsHeld call.phase.kind tag report.member whole) where
-    pub told_held : length layout.members < layout.k + count_by test local.reports → IsToldHeld fragment run call tag
-    told_held enough =
-        let Says : ℕ → Telling → Type 0 = TellsHeld call.phase.kind tag in record {
-          members = map (λ (r : Report). r.member) (filter test local.reports);
-          told = have_told fragment run call test Says of_call says local.reports are apart;
-          enough = subst (λ (l : Layout). length l.members < l.k + length (map (λ (r : Report). r.member) (filter test local.reports)))
-              (sym (asked_is layout known))
-              (subst (λ n. length layout.members < layout.k + n)
-              (sym (count_is fragment run call test Says of_call says local.reports)) enough);
-        }
+  abbrev unset : Report → Bool
+  unset report = tells_unset call.id call.phase.number report
+
+  of_unset : (report : Report) → unset report ≡ true → of_phase report ≡ true
+  of_unset report e = (both (of_phase report) (is_unset report.telling.status) e).0
+
+  -- what a report of an unset pointer leaves out is unset, too
+  is_unset_there : (report : Report) (whole : Telling) → unset report ≡ true → SaysNoMore report.telling whole →
+      whole.status ≡ status.Unset
+  is_unset_there report whole e less =
+      sym less.status ∙ unset_of report.telling.status (both (of_phase report) (is_unset report.telling.status) e).1
+
+  module _ (layout : Layout) (known : layout_here local call.phase.position ≡ Some layout) where
+    -- more than n - k told that the tag is held, as far as a test says
+    module _ (tag : Tag) (test : Report → Bool) (of_call : (report : Report) → test report ≡ true → of_phase report ≡ true)
+        (says : (report : Report) (whole : Telling) → test report ≡ true → SaysNoMore report.telling whole →
+        TellsHeld call.phase.kind tag report.member whole) where
+      told_held : length layout.members < layout.k + count_by test local.reports → IsToldHeld fragment run call tag
+      told_held enough =
+          let Says : ℕ → Telling → Type 0 = TellsHeld call.phase.kind tag in record {
+            members = map (λ (r : Report). r.member) (filter test local.reports);
+            told = have_told fragment run call test Says of_call says local.reports are apart;
+            enough = subst (λ (l : Layout). length l.members < l.k + length (map (λ (r : Report). r.member) (filter test local.reports)))
+                (sym (asked_is layout known))
+                (subst (λ n. length layout.members < layout.k + n)
+                (sym (count_is fragment run call test Says of_call says local.reports)) enough);
+          }
+
+    -- a request that finalizes the tag, and an unset pointer
+    held_by_request : (tag : Tag) → Finalizes call.phase.kind tag →
+        length layout.members < layout.k + count_by unset local.reports → IsToldHeld fragment run call tag
+    held_by_request tag puts enough =
+        told_held tag unset of_unset (λ report whole e less. (is_unset_there report whole e less, inr puts)) enough
+
+    module _ (tag : Tag) where
+      abbrev held : Report → Bool
+      held report = tells_held tag call.id call.phase.number report
+
+      -- the tag is the greatest finalized one, and an unset pointer
+      held_before : length layout.members < layout.k + count_by held local.reports → IsToldHeld fragment run call tag
+      held_before enough =
+          told_held tag held
+          (λ report e. of_unset report (both (unset report) (tag_eq report.telling.greatest tag) e).0)
+          (λ report whole e less.
+          let parts = both (unset report) (tag_eq report.telling.greatest tag) e in
+          (is_unset_there report whole parts.0 less, inl (sym less.greatest ∙ tag_eq-true report.telling.greatest tag parts.1))) enough
+
+      abbrev no_greater : Report → Bool
+      no_greater report = tells_no_greater tag call.id call.phase.number report
+
+      told_greatest : quorum_of layout ≤ count_by no_greater local.reports → IsToldGreatest fragment run call tag
+      told_greatest enough =
+          let of_call : (report : Report) → no_greater report ≡ true → of_phase report ≡ true =
+          λ report e. (both (of_phase report) (not (tag_lt tag report.telling.greatest)) e).0 in
+          let says : (report : Report) (whole : Telling) → no_greater report ≡ true → SaysNoMore report.telling whole →
+          TellsNoGreater tag report.member whole =
+          λ report whole e less. ap (tag_lt tag) (sym less.greatest)
+          ∙ not_true (tag_lt tag report.telling.greatest) (both (of_phase report) (not (tag_lt tag report.telling.greatest)) e).1 in
+          record {
+            members = map (λ (r : Report). r.member) (filter no_greater local.reports);
+            told = have_told fragment run call no_greater (TellsNoGreater tag) of_call says local.reports are apart;
+            enough = subst (λ (l : Layout). quorum_of l ≤ length (map (λ (r : Report). r.member) (filter no_greater local.reports)))
+                (sym (asked_is layout known))
+                (subst (λ n. quorum_of layout ≤ n)
+                (sym (count_is fragment run call no_greater (TellsNoGreater tag) of_call says local.reports)) enough);
+          }
+
+      -- a told piece is the one that the whole telling has
+      module _ (value : List ℕ) (member : ℕ) (has : HasToldPieceHere fragment local call layout tag value member) where
+        whole_piece : (whole : Telling) → SaysNoMore has.report.telling whole → whole.piece ≡ Some has.piece
+        whole_piece whole less = go less.piece
+          where
+            go : (has.report.telling.piece ≡ None) ⊎ (has.report.telling.piece ≡ whole.piece) → whole.piece ≡ Some has.piece
+            go (inl none) = absurd (let wrong : None ≡ Some has.piece = sym none ∙ has.told in none-some has.piece wrong)
+            go (inr same) = sym same ∙ has.told
+
+        piece_there : (telling : Telling) × HasTold fragment run call member telling
+            × TellsPiece fragment asked tag value member telling
+        piece_there =
+            let told = told_by_report fragment run call has.report
+            (all_get (IsTrueReport fragment run) local.reports has.place has.report are has.at)
+            (are_both (eqb has.report.call call.id) (eqb has.report.phase call.phase.number)
+            (eq-eqb has.report.call call.id has.same_call) (eq-eqb has.report.phase call.phase.number has.same_phase)) in (
+              told.0,
+              subst (λ m. HasTold fragment run call m told.0) has.same_member told.2,
+              (
+                sym told.1.greatest ∙ has.greatest,
+                (
+                  has.piece,
+                  whole_piece told.0 told.1,
+                  subst (λ (l : Layout). IsFragment fragment l member value has.piece) (sym (asked_is layout known)) has.fits,
+                ),
+              ),
+            )
+
+      told_value : (value : List ℕ) → HaveToldValueHere fragment local call layout tag value → IsToldValue fragment run call tag value
+      told_value value here = record {
+        members = here.members;
+        told = record {
+          distinct = here.distinct;
+          each = all_weaker (HasToldPieceHere fragment local call layout tag value)
+              (λ member. (telling : Telling) × HasTold fragment run call member telling
+              × TellsPiece fragment asked tag value member telling)
+              (λ member has. piece_there value member has) here.members here.each;
+        };
+        enough = subst (λ (l : Layout). l.k ≤ length here.members) (sym (asked_is layout known)) here.enough;
+        is_value = here.is_value;
+      }
+
+    has_value : (value : List ℕ) → HasValueHere fragment call layout value → HasValue fragment (world_of fragment run) call value
+    has_value value (inl settled) = inl settled
+    has_value value (inr has) =
+        inr (has.0, has.2 (parts_of (world_of fragment run) call.node) (asked_is layout known), has.1)
+
+-- what the node knows to be enough for an early answer is enough in the run
+pub held_there : (fragment : Code) (run : Run) (local : LocalObject) (call : NodeCall) (value : Option (List ℕ)) →
+    IsPartOf (world_of fragment run) local → call.node ≡ local.node →
+    AllByRecursion (IsTrueReport fragment run) local.reports → AreApart local.reports →
+    EndsHeldHere fragment local call value → EndsHeld fragment run call value
+held_there fragment run local call value part own are apart here =
+    let put = put_of call.phase.kind here.puts in record {
+      client = here.client;
+      last = last_is call.stage call.phase.position here.last;
+      tag = put.0;
+      puts = put.1;
+      held = held_by_request fragment run local call part own are apart here.layout here.known put.0 put.1 here.held;
+      returns = λ reads.
+          let has = here.returns reads in
+          (has.0, has.1, has_value fragment run local call part own are apart here.layout here.known has.0 has.2);
+    }
+
+pub at_once_there : (fragment : Code) (run : Run) (local : LocalObject) (call : NodeCall) (value : Option (List ℕ)) →
+    IsPartOf (world_of fragment run) local → call.node ≡ local.node →
+    AllByRecursion (IsTrueReport fragment run) local.reports → AreApart local.reports →
+    EndsAtOnceHere fragment local call value → EndsAtOnce fragment run call value
+at_once_there fragment run local call value part own are apart here =
+    let first = first_is call.stage here.first in record {
+      reads = here.reads;
+      position = first.0;
+      stage = first.1;
+      tag = here.tag;
+      greatest = told_greatest fragment run local call part own are apart here.layout here.known here.tag here.greatest;
+      held = held_before fragment run local call part own are apart here.layout here.known here.tag here.held;
+      value = here.value;
+      is_returned = here.is_returned;
+      pieces = told_value fragment run local call part own are apart here.layout here.known here.tag here.value here.pieces;
+    }

@@ -15,6 +15,7 @@ use Rattle.refinement.specs.Parts.{IsPartOf, WasSentAs}
 use Rattle.refinement.specs.Refined.{IsRefined}
 use Rattle.refinement.specs.Starting.{HasEvents}
 use Rattle.refinement.specs.WellFormed.{IsWellFormed}
+use Rattle.refinement.proofs.BegunCallLemmas.{ticked}
 use Rattle.refinement.proofs.PartLemmas.{changed_world, kept_after, refined}
 use Rattle.refinement.proofs.RefinedEventLemmas.{then_refined}
 
@@ -35,17 +36,23 @@ none_open [] id all = refl
 none_open (call ∷ calls) id all =
     ap (λ b. cond b (Some call) (open_call calls id)) (differs call.id id (apart call.id id all.0)) ∙ none_open calls id all.1
 
-waits : (fragment : Code) (world : World) (after : Outcome) → IsWellFormed fragment world → IsPartOf world after.local →
-    AllByRecursion (WasSentAs world) after.sent → HasEvents fragment world after world.history 1
+-- an event after which the world is as it was, one event later
+pub record Waits (fragment : Code) (world : World) (after : Outcome) : Type 0 where
+  pub event : Event
+  pub refined : IsRefined fragment world (event ∷ []) after
+  pub later : world_after fragment (event ∷ []) world ≡ ticked world
+
+pub waits : (fragment : Code) (world : World) (after : Outcome) → IsWellFormed fragment world → IsPartOf world after.local →
+    AllByRecursion (WasSentAs world) after.sent → Waits fragment world after
 waits fragment world after formed part sent =
     let free = over_all world.calls in
     let events = Event.GiveUp free.0 ∷ [] in
     let one : world.now + 1 ≡ suc world.now = omega arith in
+    let later : ticked world ≡ world_after fragment events world =
+    ap (λ calls. changed_world world calls world.sent world.history (suc world.now))
+    (sym (nothing_without world.calls free.0 (none_open world.calls free.0 free.1))) in
     let done = refined fragment world events (changed_world world world.calls world.sent world.history (world.now + 1)) after after
-    world.history
-    (ap (changed_world world world.calls world.sent world.history) one
-    ∙ ap (λ calls. changed_world world calls world.sent world.history (suc world.now))
-    (sym (nothing_without world.calls free.0 (none_open world.calls free.0 free.1)))) refl (
+    world.history (ap (changed_world world world.calls world.sent world.history) one ∙ later) refl (
       all_weaker (λ (c : NodeCall). c.id < free.0) (λ (c : NodeCall). c.id ≡ free.0 → c.kind ≡ Move → ⊥)
           (λ c less same move. apart c.id free.0 less same) world.calls free.1,
       record { network = tt; log = tt; ids = tt },
@@ -61,7 +68,7 @@ waits fragment world after formed part sent =
       now = omega arith;
       entries = refl;
     })) in
-    record { events = events; number = refl; refined = done.0; entries = done.1 }
+    record { event = Event.GiveUp free.0; refined = done.0; later = sym later }
 
 -- with this many more events that change nothing
 padded : (fragment : Code) (world : World) (after : Outcome) (history : List Entry) (more count : ℕ) →
@@ -71,11 +78,13 @@ padded fragment world after history zero count has =
 padded fragment world after history (suc more) count has =
     let later = world_after fragment has.events world in
     let one = waits fragment later after has.refined.formed has.refined.part has.refined.sent in
+    let still : HasEvents fragment later after later.history 1 =
+    record { events = one.event ∷ []; number = refl; refined = one.refined; entries = ap (λ (w : World). w.history) one.later } in
     let same : (length has.events + 1) + more ≡ count + suc more = let e = has.number in omega arith in
     subst (HasEvents fragment world after history) same
     (padded fragment world after history more (length has.events + 1)
     (then_refined fragment world has.events after after history 1 refl has.refined
-    (subst (λ h. HasEvents fragment later after h 1) has.entries one)))
+    (subst (λ h. HasEvents fragment later after h 1) has.entries still)))
 
 -- events, and then as many that change nothing as are left
 pub filled : (fragment : Code) (world : World) (after : Outcome) (history : List Entry) (events : List Event) (count : ℕ) →

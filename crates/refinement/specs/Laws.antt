@@ -35,8 +35,8 @@ IsPlainEventOfWorld event = (fragment : Code) (world : World) (local : LocalObje
     × ((world_after fragment (world_events local event) world).history
     ≡ history_after local event (suc world.now) world.history)
 
--- unless a call begins or goes on at the node's start, or the node raises a pointer, what a node does is what the
--- events of `world_events` do
+-- unless a call begins or goes on at the node's start, or ends early, or the node raises a pointer, what a node does is
+-- what the events of `world_events` do
 abbrev pub PlainEventsAreWorldEvents : Type 0
 PlainEventsAreWorldEvents = (event : LocalEvent) → is_known_by_count event ≡ false → IsPlainEventOfWorld event
 
@@ -101,8 +101,8 @@ AnswersAreInHistory = (fragment : Code) (system : System) (node id : ℕ) (call 
 abbrev pub EarlyAnswersAreInHistory : Type 0
 EarlyAnswersAreInHistory = (fragment : Code) (system : System) (node id : ℕ) (call : NodeCall)
     (value : Option (List ℕ)) → IsReachedSystem fragment system → open_call (system.objects node).calls id ≡ Some call →
-    HasEarlyAnswer (system_after fragment system (SystemEvent.Acts node (LocalEvent.EndEarly id value))).history call value
-    (suc system.now)
+    HasEarlyAnswer (system_after fragment system (SystemEvent.Acts node (LocalEvent.EndEarly id value))).history call
+    value (suc system.now)
 
 -- several things that a node does in a row are events of all nodes
 abbrev pub EventsInARowAreEvents : Type 0

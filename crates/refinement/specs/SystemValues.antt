@@ -44,8 +44,8 @@ abbrev pub kept_piece : KeptBank → Tag → Option Piece
 kept_piece (kept.Open bank) tag = piece_of bank tag
 kept_piece (kept.Closed closed) tag = None
 
--- a tag has one value; each piece in a bank that a node keeps, and each piece in a letter ever sent or told by one, is its
--- member's fragment of its tag's value; and each answered read of the history returned the value of a tag
+-- a tag has one value; each piece in a bank that a node keeps, and each piece in a letter ever sent or told by one, is
+-- its member's fragment of its tag's value; and each answered read of the history returned the value of a tag
 pub record KeepsValuesIn (fragment : Code) (system : System) : Type 0 where
   pub unique : (tag : Tag) (v w : List ℕ) → IsValueIn system.history tag v → IsValueIn system.history tag w → v ≡ w
   pub banks : (node position member : ℕ) (layout : Layout) (tag : Tag) (piece : Piece) →
@@ -81,13 +81,14 @@ pub record HasAnswer (history : List Entry) (call : NodeCall) (now : ℕ) : Type
 
 -- the history has this early answer of the call at this event, with what the client is told; and each entry with its id
 -- has this answer
-pub record HasEarlyAnswer (history : List Entry) (call : NodeCall) (value : Option (List ℕ)) (now : ℕ) : Type 0 where
+pub record HasEarlyAnswer (history : List Entry) (call : NodeCall) (returned : Option (List ℕ)) (now : ℕ) : Type 0 where
   pub place : ℕ
   pub entry : Entry
   pub at : slice_get history place ≡ Some entry
   pub same_id : entry.call ≡ call.id
   pub kind : entry.kind ≡ operation_of call.kind
   pub answered : entry.answered ≡ Some now
-  pub value : entry.value ≡ early_value_of call.kind value
+  pub value : entry.value ≡ early_value_of call.kind returned
   pub each : AllByRecursion
-      (λ other. other.call ≡ call.id → (other.answered ≡ Some now) × (other.value ≡ early_value_of call.kind value)) history
+      (λ other. other.call ≡ call.id → (other.answered ≡ Some now) × (other.value ≡ early_value_of call.kind returned))
+      history

@@ -145,7 +145,7 @@ pub record AreEarlyAnswers (fragment : Code) (run : Run) (answers : List EarlyAn
 pub record IsRunOf (fragment : Code) (run : Run) (answers : List EarlyAnswer) (system : System) : Type 0 where
   pub parts : HasPartsOf (world_of fragment run) system
   pub told : IsToldTruth fragment run system
-  pub answers : AreEarlyAnswers fragment run answers system.history
+  pub early : AreEarlyAnswers fragment run answers system.history
 
 -- What a node does in a row
 

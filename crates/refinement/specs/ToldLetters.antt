@@ -21,10 +21,11 @@ pub record IsTrueTelling (fragment : Code) (run : Run) (call phase member : ℕ)
   pub same_phase : request.phase ≡ phase
   pub same_member : request.member ≡ member
 
--- what the letter tells is true, if it tells anything
+-- what the letter tells is true, if it tells anything, and is told of a bank of the letter's position
 abbrev pub TellsTruth : Code → Run → Letter → Type 0
 TellsTruth fragment run letter = (telling : Telling) → letter.told ≡ Some telling →
-    IsTrueTelling fragment run letter.message.call letter.message.phase letter.message.member telling
+    (true_telling : IsTrueTelling fragment run letter.message.call letter.message.phase letter.message.member telling)
+    × (true_telling.request.position ≡ letter.message.position)
 
 -- what the report says was told
 abbrev pub IsTrueReport : Code → Run → Report → Type 0

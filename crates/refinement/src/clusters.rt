@@ -19,7 +19,7 @@ pub fn seen_histories_are_atomic()
     ensures { SeenHistoriesAreAtomic }
 {}
 
-/// A law: each piece that a node keeps or sends is its member's fragment of its tag's value.
+/// A law: each piece that a node keeps, sends or tells is its member's fragment of its tag's value.
 pub fn clusters_keep_values()
     ensures { ClustersKeepValues }
 {}

@@ -14,8 +14,8 @@ pub use events::{
 };
 pub use starting::starts_grow;
 pub use systems::{
-    answered_reads_have_values, answers_are_in_history, events_in_a_row_are_events,
-    systems_are_atomic, systems_have_worlds, systems_keep_values,
+    answered_reads_have_values, answers_are_in_history, early_answers_are_in_history,
+    events_in_a_row_are_events, systems_are_atomic, systems_have_worlds, systems_keep_values,
 };
 
 mod clusters;

@@ -1,9 +1,9 @@
 //! What worlds promise holds of all nodes together.
-ghost use Rattle.refinement.specs.Laws.{AnsweredReadsHaveValues, AnswersAreInHistory, EventsInARowAreEvents};
-ghost use Rattle.refinement.specs.Laws.{SystemsAreAtomic, SystemsHaveWorlds, SystemsKeepValues};
+ghost use Rattle.refinement.specs.Laws.{AnsweredReadsHaveValues, AnswersAreInHistory, EarlyAnswersAreInHistory};
+ghost use Rattle.refinement.specs.Laws.{EventsInARowAreEvents, SystemsAreAtomic, SystemsHaveWorlds, SystemsKeepValues};
 
-/// A law: whatever nodes do, and however often they stop and start again, there is a reached world of which each node
-/// keeps its part.
+/// A law: whatever nodes do, and however often they stop and start again, there is a run to a world of which each node
+/// keeps its part. What letters tell is true in the run, and calls that ended early were answered early in it.
 pub fn systems_have_worlds()
     ensures { SystemsHaveWorlds }
 {}
@@ -13,8 +13,8 @@ pub fn systems_are_atomic()
     ensures { SystemsAreAtomic }
 {}
 
-/// A law: a tag has one value. Each piece in a bank that a node keeps, and each piece in a letter ever sent, is its
-/// member's fragment of its tag's value, and each answered read returned the value of a tag.
+/// A law: a tag has one value. Each piece in a bank that a node keeps, and each piece in a letter ever sent or told by
+/// one, is its member's fragment of its tag's value, and each answered read returned the value of a tag.
 pub fn systems_keep_values()
     ensures { SystemsKeepValues }
 {}
@@ -27,6 +27,11 @@ pub fn answered_reads_have_values()
 /// A law: after a node answers a call, the history has the answer, with the value that the client is told.
 pub fn answers_are_in_history()
     ensures { AnswersAreInHistory }
+{}
+
+/// A law: after a call ends early, the history has its answer, with the value that the client is told.
+pub fn early_answers_are_in_history()
+    ensures { EarlyAnswersAreInHistory }
 {}
 
 /// A law: several things that a node does in a row, each allowed by what it keeps at that moment, are events of all

@@ -43,7 +43,7 @@ early_answers_told fragment world code reached =
     traced = record_of fragment world code reached
 
 -- what the journal has for a tag is the tag's value
-value_there : (world : World) (object : Object) → IsLegal object → Follows world object → (tag : Tag) (value : List ℕ) →
+pub value_there : (world : World) (object : Object) → IsLegal object → Follows world object → (tag : Tag) (value : List ℕ) →
     IsJournaled object tag value → IsValueOf world tag value
 value_there world object legal follows tag value (inl opening) = inl opening
 value_there world object legal follows tag value (inr written) =

@@ -15,7 +15,7 @@ use Rattle.letter.specs.declared.letter.Letter.{Letter}
 use Rattle.letter.specs.declared.letter.NamedLetter.{NamedLetter}
 use Rattle.node_keeper.specs.Fitting.{HasFrame, IsLoggable, IsSendable}
 use Rattle.node_keeper.specs.Sendings.{Sending, asked, going, member_or, message_of, one_or, reply_sendings, sending, to_itself, to_others}
-use Rattle.node_messages.specs.Strings.{body_piece, piece_strings, strings_of}
+use Rattle.node_messages.specs.Strings.{body_piece, piece_strings, strings_of, told_piece}
 use Rattle.node_messages.specs.declared.message.NodeMessage.{NodeMessage}
 use Rattle.node_strings.specs.Arrival.{node_address}
 use Rattle.node_strings.specs.Layouts.{layout_string}
@@ -49,8 +49,13 @@ pieces_few : (o : Option Piece) → length (piece_strings o) ≤ 1
 pieces_few None = omega arith
 pieces_few (Some piece) = omega arith
 
-strings_few : (m : NodeMessage) → length (strings_of m) ≤ 3
-strings_few m = let few = pieces_few (body_piece m.named.letter.message.body) in omega arith
+strings_few : (m : NodeMessage) → length (strings_of m) ≤ 4
+strings_few m =
+    let own = body_piece m.named.letter.message.body in
+    let told = told_piece m.named.letter.told in
+    let few = pieces_few own in
+    let more = pieces_few told in
+    omega (arith, length-append (piece_strings own) (piece_strings told))
 
 -- one more short string before the strings of a message
 framed_behind : (first : List ℕ) (m : NodeMessage) → IsShort first → IsFrame (strings_of m) → IsFrame (first ∷ strings_of m)

@@ -140,7 +140,7 @@ behind_all P (x ∷ xs) ys all = let rest = behind_all P xs ys all.1 in ((all.0,
 sender_small : (keeper : Keeper) (sender : ℕ) (message : NodeMessage) → IsFitKeeper keeper → is_admitted keeper sender message ≡ true →
     sender < 2 ^ 8
 sender_small keeper sender message fit admitted =
-    let parts = and_parts (is_from_cluster keeper sender message) (has_low_tags message.named.letter.message.body) admitted in
+    let parts = and_parts (is_from_cluster keeper sender message) (has_low_tags message.named.letter) admitted in
     let named = and_parts (has keeper.file.fixed.nodes sender || has keeper.file.later sender)
     (bytes_eq message.digest keeper.digest) parts.0 in
     go (has keeper.file.fixed.nodes sender) refl named.0

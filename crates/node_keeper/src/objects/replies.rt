@@ -5,7 +5,7 @@ ghost use Rattle.layout.specs.Layout.{Layout};
 ghost use Rattle.local_object.specs.Doing.{give_up_events, gives_up, is_taken};
 ghost use Rattle.local_object.specs.Going.{IsSomeOutcome};
 ghost use Rattle.local_object.specs.Local.{new_local};
-ghost use Rattle.local_object.specs.Taking.{IsReplyOutcome};
+ghost use Rattle.local_object.specs.Replies.{IsReplyOutcome};
 ghost use Rattle.node_keeper.specs.Doing.{IsOutcomeAt, IsReplyOutcomeAt};
 ghost use Rattle.node_keeper.specs.Objects.{IsAbsentIfNew, objects_of};
 ghost use Rattle.node_keeper.specs.NewObjects.{IsToldIfNew};
@@ -17,9 +17,10 @@ use local_object::{LocalObject, Progress};
 use tag::{CallId, Refusal};
 
 impl Objects {
-    /// Has a call of the object of a name take a reply and go on as far as it can: the call settles the value that it
-    /// fetched, and begins its next phase or is answered. No object changes if the letter is no reply to a call that is
-    /// open at this node, or if there is no number in 32 bits for the next position.
+    /// Has a call of the object of a name take a reply. If what the members told is enough, the call ends early.
+    /// Otherwise it goes on as far as it can: it settles the value that it fetched, and begins its next phase or is
+    /// answered. No object changes if the letter is no reply to a call that is open at this node, or if there is no
+    /// number in 32 bits for the next position.
     ///
     /// `NoMemory` is the only refusal.
     pub fn take(&mut self, name: &Bytes, letter: Letter) -> Result<Progress, Refusal>

@@ -1,5 +1,7 @@
 //! A log that is cut or damaged.
-use super::sample::{FORM_2_HEAD, FORM_3_HEAD, OLD_HEAD, SET, SET_AND_NOTHING, with_zeros};
+use super::sample::{
+    FORM_2_HEAD, FORM_3_HEAD, FORM_4_HEAD, OLD_HEAD, SET, SET_AND_NOTHING, with_zeros,
+};
 use node_log::{Chain, Damage, Entry, HEAD_LENGTH, LogError, is_old_head, read_entry};
 use std::alloc::Global;
 
@@ -77,18 +79,18 @@ fn a_changed_byte(rt: HostRuntime) {
 static NO_ENTRIES: [(&str, &[u8], Damage); 4] = [
     (
         "a body with a right digest that is no frame",
-        b"\x04\x00\x00\x00\x00\x00\x00\x0f\xf26\xd2e\xf3\xa2\xfa\xc2SET photo hello",
+        b"\x05\x00\x00\x00\x00\x00\x00\x0f\xf26\xd2e\xc2\xd3.\xf2SET photo hello",
         Damage::NoFrame,
     ),
     (
         "a body with a right digest that is two frames",
-        b"\x04\x00\x00\x00\x00\x00\x00\x08\xdc\xd3\x00}\xae\xba\xc9A*0\r\n*0\r\n",
+        b"\x05\x00\x00\x00\x00\x00\x00\x08\xdc\xd3\x00}\x9f\xcb\x1dq*0\r\n*0\r\n",
         Damage::NoFrame,
     ),
     (
         "an empty body with a right digest, and the entry without strings behind it",
-        b"\x04\x00\x00\x00\x00\x00\x00\x00\x00\x00\x00\x00\xee\xa7\xe5\x9d\
-            \x04\x00\x00\x00\x00\x00\x00\x04\xecY\x8b\x9e\xa6\xec\xb6\x02*0\r\n",
+        b"\x05\x00\x00\x00\x00\x00\x00\x00\x00\x00\x00\x00\xdf\xd61\xad\
+            \x05\x00\x00\x00\x00\x00\x00\x04\xecY\x8b\x9e-\xd2\xa0\xbc*0\r\n",
         Damage::NoFrame,
     ),
     (
@@ -115,7 +117,7 @@ fn an_entry_in_another_place(rt: HostRuntime) {
 /// A head of an older form is known as one, and is no head today. A changed one is neither.
 #[test]
 fn a_head_of_an_older_form(rt: HostRuntime) {
-    for head in [&OLD_HEAD, &FORM_2_HEAD, &FORM_3_HEAD] {
+    for head in [&OLD_HEAD, &FORM_2_HEAD, &FORM_3_HEAD, &FORM_4_HEAD] {
         assert!(rt; is_old_head(head));
         assert!(rt; is_damaged(rt.alloc(), head, Damage::WrongHead));
     }

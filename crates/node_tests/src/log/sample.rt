@@ -7,7 +7,10 @@ use std::process::Abort;
 /// The entry of the strings `SET`, `photo` and `hello`, at the beginning of a log. The body has 35 bytes. All digests
 /// were computed with a Python function that shifts one bit at a time and gives the sums of RFC 3720.
 pub(crate) const SET: &[u8] =
-    b"\x04\x00\x00\x00\x00\x00\x00#\xbde\x19o\x12\xe6<\xbb*3\r\n$3\r\nSET\r\n$5\r\nphoto\r\n$5\r\nhello\r\n";
+    b"\x05\x00\x00\x00\x00\x00\x00#\xbde\x19o#\x97\xe8\x8b*3\r\n$3\r\nSET\r\n$5\r\nphoto\r\n$5\r\nhello\r\n";
+
+/// The head of that entry in form 4.
+pub(crate) const FORM_4_HEAD: [u8; 16] = *b"\x04\x00\x00\x00\x00\x00\x00#\xbde\x19o\x12\xe6<\xbb";
 
 /// The head of that entry in form 3.
 pub(crate) const FORM_3_HEAD: [u8; 16] = *b"\x03\x00\x00\x00\x00\x00\x00#\xbde\x19o\x84\xb3\x10+";
@@ -20,9 +23,9 @@ pub(crate) const FORM_2_HEAD: [u8; 16] =
 pub(crate) const OLD_HEAD: [u8; 16] = *b"\x00\x00\x00\x00\x00\x00\x00#\xbde\x19o\xd7!l{";
 
 /// That entry, and behind it the one without strings.
-pub(crate) const SET_AND_NOTHING: &[u8] = b"\x04\x00\x00\x00\x00\x00\x00#\xbde\x19o\x12\xe6<\xbb\
+pub(crate) const SET_AND_NOTHING: &[u8] = b"\x05\x00\x00\x00\x00\x00\x00#\xbde\x19o#\x97\xe8\x8b\
     *3\r\n$3\r\nSET\r\n$5\r\nphoto\r\n$5\r\nhello\r\n\
-    \x04\x00\x00\x00\x00\x00\x00\x04\xecY\x8b\x9e\xb9\xe4\x22\x8b*0\r\n";
+    \x05\x00\x00\x00\x00\x00\x00\x04\xecY\x8b\x9e2\xda45*0\r\n";
 
 /// Returns the entry of `SET photo hello`, made of its strings.
 pub(crate) fn set<R: Abort>(rt: &R, alloc: Global) -> Entry {

@@ -122,7 +122,8 @@ const WHOLE: &str = "NodeMessage { \
     digest: [48, 49, 50, 51, 52, 53, 54, 55, 56, 57, 97, 98, 99, 100, 101, 102], \
     named: NamedLetter { name: b\"photo\", letter: Letter { \
     layout: SharedLayout { shared: Layout { k: 2, members: [3, 4, 5, 6] } }, next: None, \
-    start: None, message: Message { call: 7, phase: 2, position: 1, member: 3, body: Request(Next) } } } }";
+    start: None, asks_piece: false, told: None, \
+    message: Message { call: 7, phase: 2, position: 1, member: 3, body: Request(Next) } } } }";
 
 #[test]
 fn what_stands_before_the_body(rt: HostRuntime) {

@@ -182,7 +182,7 @@ static ROWS: [Row; 21] = [
     ),
 ];
 
-/// The strings of a request Next in the form before.
+/// The strings of a request Next in form 2.
 static OLD: [&[u8]; 9] = [
     b"0123456789abcdef",
     b"photo",
@@ -225,10 +225,10 @@ fn assert_cut<R: Abort>(rt: &R, alloc: Global, sample: &Sample, len: usize, want
 
 #[test]
 fn a_head_that_is_cut(rt: HostRuntime) {
-    for len in 0..67usize {
+    for len in 0..90usize {
         assert_cut(&rt, rt.alloc(), &SPREAD, len, Fault::OtherForm);
     }
-    for len in 67..77usize {
+    for len in 90..100usize {
         assert_cut(&rt, rt.alloc(), &SPREAD, len, Fault::BadLayout);
     }
 }
@@ -240,7 +240,7 @@ fn a_start_that_is_cut(rt: HostRuntime) {
         start: START,
         ..SPREAD
     };
-    for len in 78..86usize {
+    for len in 101..109usize {
         assert_cut(&rt, rt.alloc(), &sample, len, Fault::BadLayout);
     }
 }
@@ -265,7 +265,7 @@ fn a_long_name(rt: HostRuntime) {
 }
 
 #[test]
-fn the_form_before(rt: HostRuntime) {
+fn an_older_form(rt: HostRuntime) {
     let mut list = Vec::new(rt.alloc());
     for string in OLD {
         list.push(Bytes::from_static(string)).expect(&rt, "memory");

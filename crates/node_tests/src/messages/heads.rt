@@ -6,11 +6,12 @@ use node_messages::Fault;
 /// The place of a byte in the head of `ASK_NEXT`, another byte, and the fault.
 struct Change(usize, u8, Fault);
 
-static CHANGES: [Change; 25] = [
+static CHANGES: [Change; 34] = [
     Change(0, 0, Fault::OtherForm),
     Change(0, 2, Fault::OtherForm),
     Change(0, 3, Fault::OtherForm),
-    Change(0, 5, Fault::OtherForm),
+    Change(0, 4, Fault::OtherForm),
+    Change(0, 6, Fault::OtherForm),
     Change(0, b'0', Fault::OtherForm),
     Change(17, 4, Fault::NoMember),
     Change(17, 255, Fault::NoMember),
@@ -27,11 +28,19 @@ static CHANGES: [Change; 25] = [
     Change(45, 2, Fault::UnknownCode),
     Change(46, 1, Fault::UnusedPlace),
     Change(50, 1, Fault::UnusedPlace),
-    Change(67, 5, Fault::BadLayout),
-    Change(67, 3, Fault::BadLayout),
-    Change(68, 0, Fault::BadLayout),
-    Change(68, 5, Fault::BadLayout),
-    Change(69, 6, Fault::BadLayout),
+    Change(51, 2, Fault::BadTelling),
+    Change(51, 3, Fault::WrongCount),
+    Change(51, 4, Fault::UnknownCode),
+    Change(52, 1, Fault::UnusedPlace),
+    Change(60, 1, Fault::UnusedPlace),
+    Change(68, 1, Fault::UnusedPlace),
+    Change(69, 1, Fault::UnusedPlace),
+    Change(73, 1, Fault::UnusedPlace),
+    Change(90, 5, Fault::BadLayout),
+    Change(90, 3, Fault::BadLayout),
+    Change(91, 0, Fault::BadLayout),
+    Change(91, 5, Fault::BadLayout),
+    Change(92, 6, Fault::BadLayout),
 ];
 
 fn put(head: &mut [u8], change: &Change) {

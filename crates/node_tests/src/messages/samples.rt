@@ -16,16 +16,20 @@ pub(crate) struct Sample {
     pub(crate) step: [u8; 8],
     /// Whether there is a piece, its point, and the length of its value.
     pub(crate) piece: [u8; 6],
+    /// What is asked and told besides the message: the mark, the status, the tag, the point, and the length of a value.
+    pub(crate) besides: [u8; 23],
     /// The bytes of the next layout.
     pub(crate) next: &'static [u8],
     /// The bytes of the start.
     pub(crate) start: &'static [u8],
     /// The bytes of the piece.
     pub(crate) bytes: Option<&'static [u8]>,
+    /// The bytes of the piece that is told.
+    pub(crate) told: Option<&'static [u8]>,
 }
 
-/// Form 4, call 7, phase 2, position 1 and member 3.
-const FRONT: [u8; 18] = [4, 0, 0, 0, 0, 0, 0, 0, 7, 0, 0, 0, 2, 0, 0, 0, 1, 3];
+/// Form 5, call 7, phase 2, position 1 and member 3.
+const FRONT: [u8; 18] = [5, 0, 0, 0, 0, 0, 0, 0, 7, 0, 0, 0, 2, 0, 0, 0, 1, 3];
 
 const DIGEST: [u8; 16] = *b"0123456789abcdef";
 
@@ -55,9 +59,11 @@ pub(crate) const ASK_NEXT: Sample = Sample {
     tag: [0; 16],
     step: [0; 8],
     piece: [0; 6],
+    besides: [0; 23],
     next: b"",
     start: b"",
     bytes: None,
+    told: None,
 };
 
 /// Returns the head of a sample.
@@ -68,6 +74,7 @@ pub(crate) fn head<R: Abort>(rt: &R, alloc: Global, sample: &Sample) -> Vec<u8> 
     push(rt, &mut head, &sample.tag);
     push(rt, &mut head, &sample.step);
     push(rt, &mut head, &sample.piece);
+    push(rt, &mut head, &sample.besides);
     push(rt, &mut head, &DIGEST);
     push(rt, &mut head, &LAYOUT);
     push(rt, &mut head, sample.next);
@@ -100,7 +107,11 @@ pub(crate) fn strings<R: Abort>(
 
 /// Returns the strings of a sample.
 pub(crate) fn sample_strings<R: Abort>(rt: &R, alloc: Global, sample: &Sample) -> Vec<Bytes> {
-    strings(rt, alloc, head(rt, alloc, sample), NAME, sample.bytes)
+    let mut list = strings(rt, alloc, head(rt, alloc, sample), NAME, sample.bytes);
+    if let Some(told) = sample.told {
+        list.push(Bytes::from_static(told)).expect(rt, "memory");
+    }
+    list
 }
 
 /// Returns the frame of a sample.

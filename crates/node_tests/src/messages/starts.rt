@@ -12,20 +12,20 @@ use std::process::Abort;
 
 /// The parts of a head that are worked out by hand:
 ///
-/// - the form 4; the call 258, which is 1 * 256 + 2; the phase 3; the position 66052, which is
+/// - the form 5; the call 258, which is 1 * 256 + 2; the phase 3; the position 66052, which is
 ///   1 * 65536 + 2 * 256 + 4; and the member 1;
-/// - 0 for a request, 1 for Spread, and 1 for pending; and 30 places that are not used, for a tag (16), a step (8) and
-///   a piece (6);
+/// - 0 for a request, 1 for Spread, and 1 for pending; and 53 places that are not used, for a tag (16), a step (8), a
+///   piece (6), and what is asked and told besides the message (23);
 /// - the digest, `abcdefghijklmnop`;
 /// - the layout: two members, k = 1, and the members 20 and 10;
 /// - the next layout: one member, k = 1, and the member 30;
 /// - the position 66051 of the start, which is 1 * 65536 + 2 * 256 + 3;
 /// - the layout of the start: five members, k = 3, and the members 4, 255, 0, 7 and 6.
 static PARTS: [&[u8]; 7] = [
-    &[4, 0, 0, 0, 0, 0, 0, 1, 2, 0, 0, 0, 3, 0, 1, 2, 4, 1],
+    &[5, 0, 0, 0, 0, 0, 0, 1, 2, 0, 0, 0, 3, 0, 1, 2, 4, 1],
     &[
         0, 1, 1, 0, 0, 0, 0, 0, 0, 0, 0, 0, 0, 0, 0, 0, 0, 0, 0, 0, 0, 0, 0, 0, 0, 0, 0, 0, 0, 0,
-        0, 0, 0,
+        0, 0, 0, 0, 0, 0, 0, 0, 0, 0, 0, 0, 0, 0, 0, 0, 0, 0, 0, 0, 0, 0, 0, 0, 0, 0,
     ],
     b"abcdefghijklmnop",
     &[2, 1, 20, 10],
@@ -52,6 +52,8 @@ fn letter<R: Abort>(rt: &R, alloc: Global) -> Letter {
             position: 66051,
             layout: shared_layout(rt, alloc, 3, &[4, 255, 0, 7, 6]),
         }),
+        asks_piece: false,
+        told: None,
         message: Message {
             call: 258,
             phase: 3,
@@ -83,6 +85,7 @@ const LETTER: &str = "Letter { \
     next: Some(SharedLayout { shared: Layout { k: 1, members: [30] } }), \
     start: Some(Start { position: 66051, \
     layout: SharedLayout { shared: Layout { k: 3, members: [4, 255, 0, 7, 6] } } }), \
+    asks_piece: false, told: None, \
     message: Message { call: 258, phase: 3, position: 66052, member: 1, \
     body: Request(Spread(Pending)) } }";
 

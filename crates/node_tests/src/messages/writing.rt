@@ -12,7 +12,7 @@ use std::process::Abort;
 use tag::Tag;
 
 /// A message about the object of this name to this member of four.
-fn message<R: Abort>(
+pub(crate) fn message<R: Abort>(
     rt: &R,
     alloc: Global,
     name: &'static [u8],
@@ -31,6 +31,8 @@ fn message<R: Abort>(
         layout: shared_layout(rt, alloc, 2, &[3, 4, 5, 6]),
         next,
         start: None,
+        asks_piece: false,
+        told: None,
         message,
     };
     let name = Bytes::from_static(name);
@@ -41,7 +43,12 @@ fn message<R: Abort>(
 }
 
 /// The message has this fault, or none and a frame.
-fn assert_fault<R: Abort>(rt: &R, alloc: Global, message: NodeMessage, wanted: Option<Fault>) {
+pub(crate) fn assert_fault<R: Abort>(
+    rt: &R,
+    alloc: Global,
+    message: NodeMessage,
+    wanted: Option<Fault>,
+) {
     let found = match frame_of(alloc, &message).err() {
         None => None,
         Some(MessageError::Fault(fault)) => Some(fault),

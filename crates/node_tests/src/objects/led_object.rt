@@ -27,6 +27,8 @@ pub(crate) fn letter(layout: SharedLayout, next: Option<SharedLayout>, request: 
         layout,
         next,
         start: None,
+        asks_piece: false,
+        told: None,
         message: Message {
             call: 9,
             phase: 3,
