@@ -7,6 +7,8 @@ mod alone;
 #[cfg(test)]
 mod anew;
 #[cfg(test)]
+mod carried;
+#[cfg(test)]
 mod checks;
 #[cfg(test)]
 mod clients;
@@ -20,6 +22,8 @@ mod declines;
 mod deletions;
 #[cfg(test)]
 mod disk;
+#[cfg(test)]
+mod early;
 #[cfg(test)]
 mod files;
 #[cfg(test)]
