@@ -120,6 +120,8 @@ class BadFrames(unittest.TestCase):
         great = [message(b"a", b"finalize", number) for number in (2**64 - 1, 2**62 + 1)]
         great += [message(b"a", b"pre-write", 2**64 - 1, piece=(0, 1, b"x")), message(b"a", b"fetch", 2**64 - 1),
                   message(b"a", b"query", 2**64 - 1, is_reply=True), message(b"a", b"finalize", 2**64 - 1, is_reply=True)]
+        great += [message(b"a", b"finalize", 1, is_reply=True, told=(b"unset", (number, 1), None))
+                  for number in (2**64 - 1, 2**62 + 1)]
         for count, frame in enumerate(great, 1):
             self.assertEqual(node.give(frame), [], frame)
             self.assertEqual(self.dropped(node), count, frame)
@@ -132,7 +134,8 @@ class BadFrames(unittest.TestCase):
     def test_letters_that_are_not_heeded(self):
         """A letter with another layout than the node knows, or about a position of which the mover has not heard, is
         dropped and counts once, as one that is not heeded; so is one that tells a start with such a layout or position.
-        One about a member that there is not, or with a start whose layout is not lawful, counts as unreadable."""
+        One about a member that there is not, or with a start whose layout is not lawful, counts as unreadable; so does a
+        request that tells of a member, and a reply that asks for a piece."""
         node = self.start(CLUSTER.replace("later", "later 2"))
         self.assertEqual(self.answer(node, b"SET", b"a", b"1"), b"+OK\r\n")
         digest = bytes.fromhex(self.line(node, b"cluster").decode())
@@ -143,7 +146,8 @@ class BadFrames(unittest.TestCase):
         sent = node.give([b"node 2", *Message(digest, b"a", b"query").strings()])
         self.assertEqual([frame[0] for frame in sent], [b"node 2"])
         self.assertEqual((self.dropped(node), self.dropped_for(node, b"not_heeded")), (len(wrong), len(wrong)))
-        unlawful = [{"member": 1}, {"start": (1, b"\x02\x01")}]
+        unlawful = [{"member": 1}, {"start": (1, b"\x02\x01")}, {"told": (b"unset", (0, 0), None)},
+                    {"is_reply": True, "asks_piece": True}]
         for count, changed in enumerate(unlawful, 1):
             self.assertEqual(node.give([b"node 2", *Message(digest, b"a", b"query", **changed).strings()]), [], changed)
             self.assertEqual((self.dropped(node), self.dropped_for(node, b"unreadable")), (len(wrong) + count, count))

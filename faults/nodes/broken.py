@@ -144,11 +144,11 @@ class Between:
         too early, or one that tells a false pointer or tag."""
         if self.kind == "none" and made.is_reply and made.kind == b"fetch" and made.piece:
             self.fetched += 1
-            return replace(made, piece=None) if self.fetched % 3 == 0 else made
+            return replace(made, piece=None, told=None) if self.fetched % 3 == 0 else made
         if self.kind == "old" and made.is_reply and made.kind == b"query":
             told = self.greatest.get((made.name, made.position), made.tag)
             self.greatest[made.name, made.position] = made.tag
-            return replace(made, tag=told)
+            return replace(made, tag=told, told=None)
         if self.kind == "early" and made.is_reply and made.kind == b"next" and made.status == b"pending":
             return replace(made, start=(made.position + 1, made.next))
         if self.kind == "unset" and made.told:

@@ -8,6 +8,7 @@ import shlex
 import sys
 import tempfile
 import unittest
+from dataclasses import replace
 from pathlib import Path
 
 sys.path[:0] = [str(Path(__file__).resolve().parent), str(Path(__file__).resolve().parents[2] / "deploy" / "test")]
@@ -62,7 +63,7 @@ class LostPieces(unittest.TestCase):
         """Node 2 sends a request of this kind about the object of this name, and the node replies to it."""
         asked = Message(read(request[1:]).digest, name, kind, tag=TAG, piece=piece)
         [[_, *reply]] = node.give([b"node 2", *asked.strings()])
-        self.assertEqual(reply, Message(asked.digest, name, kind, tag=TAG, is_reply=True).strings())
+        self.assertEqual(replace(read(reply), told=None), Message(asked.digest, name, kind, tag=TAG, is_reply=True))
 
     def test_own_piece(self):
         """All letters of the read go to the node itself: it hears others meanwhile, and gives the read up in time."""
@@ -103,7 +104,7 @@ class LostPieces(unittest.TestCase):
             it = read(strings)
             phase = it.phase
             kinds.append(it.kind)
-            it.is_reply, it.tag = True, TAG if it.kind == b"query" else it.tag
+            it.is_reply, it.asks_piece, it.tag = True, False, TAG if it.kind == b"query" else it.tag
             sent = node.give([address, *it.strings()])
         return kinds, phase
 

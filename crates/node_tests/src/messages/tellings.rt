@@ -159,26 +159,27 @@ fn what_is_no_telling(rt: HostRuntime) {
     }
 }
 
-/// A place of what a reply tells without a piece, another byte there, and the fault.
-static BYTES: [(usize, u8, Fault); 5] = [
+/// The place of a byte of what a reply tells, another byte, and the fault.
+static CHANGES: [(usize, u8, Fault); 5] = [
+    (0, 0, Fault::UnusedPlace),
     (0, 4, Fault::UnknownCode),
     (1, 3, Fault::UnknownCode),
     (18, 5, Fault::UnusedPlace),
     (22, 1, Fault::UnusedPlace),
-    (0, 0, Fault::UnusedPlace),
 ];
 
 #[test]
-fn one_other_byte(rt: HostRuntime) {
-    for (place, byte, fault) in &BYTES {
-        let mut besides = TELLS;
-        *besides.get_mut(*place).expect(&rt, "a place") = *byte;
-        let sample = Sample {
-            besides,
+fn a_byte_of_what_is_told(rt: HostRuntime) {
+    for &(place, byte, wanted) in &CHANGES {
+        let mut tells = Sample {
+            besides: TELLS,
             ..GREATEST
         };
-        let list = sample_strings(&rt, rt.alloc(), &sample);
-        assert_fault(&rt, rt.alloc(), list, *fault);
+        if let Some(at) = tells.besides.get_mut(place) {
+            *at = byte;
+        }
+        let list = sample_strings(&rt, rt.alloc(), &tells);
+        assert_fault(&rt, rt.alloc(), list, wanted);
     }
 }
 
