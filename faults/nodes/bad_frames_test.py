@@ -13,7 +13,7 @@ from pathlib import Path
 sys.path[:0] = [str(Path(__file__).resolve().parent), str(Path(__file__).resolve().parents[2] / "deploy" / "test")]
 sys.dont_write_bytecode = True
 
-from messages import Message, read  # noqa: E402
+from messages import Message, Telling, read  # noqa: E402
 from node_pipes import Node  # noqa: E402
 from one_node import CLUSTER  # noqa: E402
 
@@ -120,7 +120,7 @@ class BadFrames(unittest.TestCase):
         great = [message(b"a", b"finalize", number) for number in (2**64 - 1, 2**62 + 1)]
         great += [message(b"a", b"pre-write", 2**64 - 1, piece=(0, 1, b"x")), message(b"a", b"fetch", 2**64 - 1),
                   message(b"a", b"query", 2**64 - 1, is_reply=True), message(b"a", b"finalize", 2**64 - 1, is_reply=True)]
-        great += [message(b"a", b"finalize", 1, is_reply=True, told=(b"unset", (number, 1), None))
+        great += [message(b"a", b"finalize", 1, is_reply=True, told=Telling(b"unset", (number, 1)))
                   for number in (2**64 - 1, 2**62 + 1)]
         for count, frame in enumerate(great, 1):
             self.assertEqual(node.give(frame), [], frame)
@@ -146,7 +146,7 @@ class BadFrames(unittest.TestCase):
         sent = node.give([b"node 2", *Message(digest, b"a", b"query").strings()])
         self.assertEqual([frame[0] for frame in sent], [b"node 2"])
         self.assertEqual((self.dropped(node), self.dropped_for(node, b"not_heeded")), (len(wrong), len(wrong)))
-        unlawful = [{"member": 1}, {"start": (1, b"\x02\x01")}, {"told": (b"unset", (0, 0), None)},
+        unlawful = [{"member": 1}, {"start": (1, b"\x02\x01")}, {"told": Telling(b"unset", (0, 0))},
                     {"is_reply": True, "asks_piece": True}]
         for count, changed in enumerate(unlawful, 1):
             self.assertEqual(node.give([b"node 2", *Message(digest, b"a", b"query", **changed).strings()]), [], changed)

@@ -21,8 +21,8 @@ from dataclasses import replace
 import messages
 from frames import frame_at
 from log_form import HEAD
-from whole_bank import (FINAL, WITH_TAG, WholeBank, is_for, is_message, is_of_the_node_itself, is_reply_as, is_sent_back,
-                        message_in, messages_in, said, start_in)
+from whole_bank import (FINAL, WITH_TAG, WholeBank, is_for, is_message, is_of_the_node_itself, is_sent_back, message_in,
+                        messages_in, said, start_in, told)
 
 MOST_FAULTS = 3
 
@@ -37,9 +37,9 @@ class WholeBanks:
         self.reached = {}    # of each call the last position at which it asked
         self.closed = set()  # the banks that nodes have closed: node, name and position
         self.faults = []
-        self.counts = {"replies compared": 0, "requests without a reply": 0, "late pre-writes": 0, "late finalizes": 0,
-                       "late fetches": 0, "starts told": 0, "calls begun at a start": 0, "requests sent back": 0,
-                       "pointers raised": 0, "banks closed": 0}
+        self.counts = {"replies compared": 0, "tellings compared": 0, "requests without a reply": 0, "late pre-writes": 0,
+                       "late finalizes": 0, "late fetches": 0, "starts told": 0, "calls begun at a start": 0,
+                       "requests sent back": 0, "pointers raised": 0, "banks closed": 0}
 
     def fault(self, text):
         if len(self.faults) < MOST_FAULTS:
@@ -178,14 +178,17 @@ class WholeBanks:
         """The node handled a frame, and wrote these, or its computer stopped meanwhile. Each reply among them has to be
         that to the request that came. What the node did is in its log, if this is given."""
         it, sent = message_in(came), messages_in(written)
-        asked, expected = None if it is None or it.is_reply else it, None
+        asked, expected, telling = None if it is None or it.is_reply else it, None, None
         if asked is not None and is_for(node, asked):
             bank = self.bank(node, asked)
             is_late = bank.forgets(asked)
             expected = bank.reply_to(asked, self.layouts.get((asked.name, asked.position + 1), b""))
+            is_closed = (node, asked.name, asked.position) in self.closed
+            telling = None if is_closed else bank.telling_after(asked)
         if log is not None:
             self.read_log(node, log)
         if self.compare_messages(node, came[0], asked, sent, expected):
+            self.compare_tellings(node, asked, sent, telling)
             self.serve(node, asked)
             self.counts["replies compared"] += 1
             if is_late:
@@ -211,8 +214,17 @@ class WholeBanks:
             replies += 1
             if expected is None or replies > 1 or address != sender:
                 self.fault(f"node {node} replies to no request: {said(made)}")
-            elif not is_reply_as(made, expected):
+            elif replace(made, start=None, told=None) != expected:
                 what = f"{asked.kind.decode()}{f' {asked.tag}' if asked.kind in WITH_TAG else ''}"
                 self.fault(f"node {node} replies to {what} of {asked.name.decode()} at position {asked.position}: "
                            f"{said(made)}; its whole bank replies: {said(expected)}")
         return expected is not None and replies > 0
+
+    def compare_tellings(self, node, asked, sent, telling):
+        """What a node tells with a reply, if it tells anything, is what its bank is like once it has served the request.
+        The reply of a closed bank tells nothing."""
+        for made in (it for _, it in sent if it.is_reply):
+            self.counts["tellings compared"] += made.told is not None
+            if made.told not in (None, telling):
+                self.fault(f"node {node} tells with its reply to {asked.kind.decode()} of {asked.name.decode()} at position "
+                           f"{asked.position}: {told(made.told)}; its whole bank tells: {told(telling)}")

@@ -3,6 +3,7 @@
 What a bank does is in crates/bank/specs: `served_bank` and `answer_to` of Serve.antt, `fetched_piece` of Collect.antt,
 and `is_forgotten` of Floor.antt. A node keeps a bank from the first request on that changes it."""
 import bisect
+import copy
 from dataclasses import replace
 
 import messages
@@ -46,19 +47,10 @@ class WholeBank:
                 self.finals.insert(place, asked.tag)
         self.is_changed |= self.size() != before
 
-    def telling_after(self, asked):
-        """What a reply tells of the bank, as it is once it has served this request: the status, the greatest finalized
-        tag, and the piece of it, if the request asks for it."""
-        status = max(self.status, messages.STATUSES.index(asked.status) if asked.kind == b"spread" else 0)
-        greatest = max(self.finals[-1], asked.tag if asked.kind in (b"finalize", b"fetch") else OPENING)
-        came = asked.piece if asked.kind == b"pre-write" and asked.tag == greatest else None
-        piece = self.pieces.get(greatest, came) if asked.asks_piece else None
-        return messages.STATUSES[status], greatest, piece
-
     def reply_to(self, asked, next_layout):
-        """The reply to a request. `next_layout` is that of the next position, if the bank has heard of one."""
-        made = replace(asked, is_reply=True, piece=None, next=b"", step=0, start=None, asks_piece=False,
-                       told=self.telling_after(asked))
+        """The reply to a request, but for what it tells. `next_layout` is that of the next position, if the bank has heard
+        of one."""
+        made = replace(asked, is_reply=True, piece=None, next=b"", step=0, start=None, asks_piece=False)
         if asked.kind == b"next":
             return replace(made, status=messages.STATUSES[self.status], next=next_layout if self.status else b"")
         if asked.kind == b"query":
@@ -66,6 +58,17 @@ class WholeBank:
         if asked.kind == b"fetch" and not self.is_below(asked.tag):
             return replace(made, piece=self.pieces.get(asked.tag))
         return made
+
+    def telling(self, asks_piece):
+        """What a reply tells of the bank as it is now."""
+        piece = self.pieces.get(self.finals[-1]) if asks_piece else None
+        return messages.Telling(messages.STATUSES[self.status], self.finals[-1], piece)
+
+    def telling_after(self, asked):
+        """What the reply to a request tells: how the bank is once it has served the request."""
+        after = copy.deepcopy(self)
+        after.serve(asked)
+        return after.telling(asked.asks_piece)
 
 
 def is_message(strings):
@@ -88,12 +91,6 @@ def is_for(node, asked):
     return asked.layout[1 + asked.member] == node
 
 
-def is_reply_as(made, expected):
-    """Whether a message is this reply, besides its start. It may tell nothing of its member: a closed bank tells
-    nothing."""
-    return replace(made, start=None) in (expected, replace(expected, told=None))
-
-
 def is_sent_back(made, asked):
     """Whether a message is a request that a node sends back: it differs from the one that came in its start alone."""
     return asked is not None and replace(made, start=asked.start) == asked
@@ -110,14 +107,17 @@ def start_in(it):
 
 
 def said(it):
-    """What a reply says, in words."""
-    answer = {b"next": f"{it.status.decode()} {list(it.next)}", b"query": f"the greatest tag is {it.tag}",
-              b"fetch": piece_said(it.piece)}.get(it.kind, f"done, for the tag {it.tag}")
-    if it.told is None:
-        return answer
-    status, tag, piece = it.told
-    return f"{answer}; it tells {status.decode()}, {tag}, {piece_said(piece)}"
+    """What a reply answers, in words."""
+    return {b"next": f"{it.status.decode()} {list(it.next)}", b"query": f"the greatest tag is {it.tag}",
+            b"fetch": said_of_piece(it.piece)}.get(it.kind, f"done, for the tag {it.tag}")
 
 
-def piece_said(piece):
+def said_of_piece(piece):
     return "none" if piece is None else f"the piece of point {piece[0]} and {len(piece[2])} bytes"
+
+
+def told(telling):
+    """What a reply tells besides, in words."""
+    if telling is None:
+        return "nothing"
+    return f"{telling.status.decode()}, the greatest tag {telling.greatest}, {said_of_piece(telling.piece)}"

@@ -125,26 +125,6 @@ class Answers(unittest.TestCase):
         banks.compare(2, frame(3, asked("N")), [frame(3, fallen)])
         self.assertIn("its whole bank replies: final", banks.faults[0])
 
-    def test_what_is_told(self):
-        """A reply may tell the status, the greatest tag and, if it is asked for, the piece of it, as they are after the
-        request; or nothing. Anything else is a fault."""
-        served = {"Pa": (b"unset", TAGS["0"], PIECES["0"]), "Fa": (b"unset", TAGS["a"], PIECES["a"]),
-                  "Fb": (b"unset", TAGS["b"], None), "Pb": (b"unset", TAGS["b"], PIECES["b"]),
-                  "Gc": (b"unset", TAGS["c"], None), "S": (b"final", TAGS["c"], None)}
-        banks = WholeBanks(2)
-        for word, (status, tag, piece) in served.items():
-            for asks in (True, False):
-                it = asked(word, asks_piece=asks, **({"next": NEXT, "status": b"final"} if word == "S" else {}))
-                made = replace(answer(it, "-"), asks_piece=False)
-                told = (status, tag, piece if asks else None)
-                for right in (told, None):
-                    banks.compare(2, frame(3, it), [frame(3, replace(made, told=right))])
-                    self.assertEqual(banks.faults, [], (word, right))
-                for wrong in ((b"pending", *told[1:]), (status, (9, 9), told[2]), (status, tag, PIECES["d"])):
-                    banks.compare(2, frame(3, it), [frame(3, replace(made, told=wrong))])
-                    self.assertEqual(len(banks.faults), 1, (word, wrong))
-                    banks.faults.clear()
-
     def test_what_came_late_is_counted(self):
         banks = WholeBanks(0)
         self.play(banks, "Pb Fb Pa Fa Ga=- Gb=b Q=b")

@@ -1,9 +1,8 @@
 -- What the entries of the log record, and what the objects of a node are once it has carried records out again.
 use Rattle.std.proofs.Common.{◌≡◌, ◌≤◌, ◌+◌, if◌then◌else◌, ℕ, zero, suc, List, [], ◌∷◌, ◌++◌}
-use Rattle.std.proofs.Common.{None, length, take, drop, refl, ap, ◌∙◌, arith}
+use Rattle.std.proofs.Common.{None, false, length, take, drop, refl, ap, ◌∙◌, arith}
 use Rattle.std.proofs.lemmas.List.{take_all}
-use Rattle.std.specs.List.{AllByRecursion, IsDistinct}
-use Rattle.std.specs.Prelude.{nat_eq}
+use Rattle.std.specs.List.{AllByRecursion}
 use Rattle.layout.specs.Layout.{IsLawful}
 use Rattle.encoder.specs.Fragment.{fragment}
 use Rattle.bank.specs.declared.request.Request.TheVariants as request
@@ -27,6 +26,7 @@ use Rattle.node_keeper.specs.Logging.{deeds_if, letter_records, records_in}
 use Rattle.processes.proofs.LogLemmas.{all_records, all_records_append, cluster_recorded, take_beyond}
 use Rattle.example_tests.specs.Scripts.{three_nodes, to_keep, write_tag}
 use Rattle.example_tests.specs.StoppedSync.{served_entry, some_digest, stopped_log, synced_entries, unsynced_entry}
+use Rattle.example_tests.proofs.EventRunLemmas.{three_distinct}
 
 -- Objects that serve letters again
 
@@ -74,7 +74,8 @@ records_carried (it ∷ records) plain old new recovers objects same name =
 -- What the entries record
 
 abbrev pub letter_with : Message → Letter
-letter_with message = record { layout = three_nodes; next = None; start = None; message = message }
+letter_with message =
+    record { layout = three_nodes; next = None; start = None; asks_piece = false; told = None; message = message }
 
 abbrev pub named_message : (name : List ℕ) → Message → NodeMessage
 named_message name message =
@@ -98,10 +99,6 @@ finalizes = LogRecord.Serves (97 ∷ []) (letter_with finalize_message)
 
 abbrev pub keeps_other : LogRecord
 keeps_other = LogRecord.Serves (98 ∷ []) (letter_with other_message)
-
-three_distinct : IsDistinct nat_eq (0 ∷ 1 ∷ 2 ∷ [])
-unfolding IsDistinct
-three_distinct = ((refl, (refl, tt)), ((refl, tt), (tt, tt)))
 
 three_lawful : IsLawful three_nodes
 three_lawful =

@@ -30,6 +30,10 @@ pub one_distinct : (member : ℕ) → IsDistinct nat_eq (member ∷ [])
 unfolding IsDistinct
 one_distinct member = (tt, tt)
 
+pub three_distinct : IsDistinct nat_eq (0 ∷ 1 ∷ 2 ∷ [])
+unfolding IsDistinct
+three_distinct = ((refl, (refl, tt)), ((refl, tt), (tt, tt)))
+
 -- the second call has the id 3, and the first, the only one before it, has 7
 pub other_id : (◌≡◌ {A = ℕ} 7 3 → ⊥) × Unit {0}
 other_id = (λ same. absurd (omega arith), tt)

@@ -22,12 +22,12 @@ use Rattle.example_tests.specs.Scripts.{three_nodes}
 use Rattle.example_tests.specs.Forgetting.{empty_read}
 use Rattle.example_tests.specs.LostEntry.{RestLacksFinalize, entry_lost, unfinalized_bank, written}
 use Rattle.example_tests.specs.StoppedSync.{calls_of_others, entries_of, object_of, open_or_lost, some_digest}
-use Rattle.example_tests.proofs.KeptRowLemmas.{opened_greatest, opened_piece, wrote_greatest, wrote_opening_piece}
+use Rattle.example_tests.proofs.KeptRowLemmas.{none_forgotten, opened_greatest, opened_piece, wrote_greatest, wrote_opening_piece}
 use Rattle.example_tests.proofs.EventRunLemmas.{empty_is_value, fetched_once, other_id, ready, ready_settled}
 use Rattle.example_tests.proofs.ReadLemmas.{read_runs}
 use Rattle.example_tests.proofs.CarriedRecordLemmas.{keep_is, keep_message, keeps, letter_with, records_carried, served}
 use Rattle.example_tests.proofs.CarriedRecordLemmas.{served_recorded}
-use Rattle.example_tests.proofs.RestartedObjectLemmas.{new_object, none_forgotten}
+use Rattle.example_tests.proofs.RestartedObjectLemmas.{new_object}
 
 -- What the other entries give back
 

@@ -17,6 +17,7 @@ restarts = (
     layouts = λ position layout e. e;
     first = refl;
     banks = λ position member layout known holds. refl;
+    reports = refl;
     calls = refl;
     mover = λ moves position layout e. e;
   },

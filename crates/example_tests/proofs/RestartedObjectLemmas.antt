@@ -1,16 +1,13 @@
 -- What a node has of the object of the write, once it has started from what a stop left of its log.
-use Rattle.std.proofs.Common.{◌≡◌, ◌+◌, ◌&&◌, not, ℕ, zero, suc, Bool, true, false, List, [], ◌∷◌, ◌++◌}
+use Rattle.std.proofs.Common.{◌≡◌, ◌+◌, ℕ, zero, suc, List, [], ◌∷◌, ◌++◌}
 use Rattle.std.proofs.Common.{Option, None, length, take, get_or, slice_set, refl, sym, subst, ap, ◌∙◌}
 use Rattle.std.specs.List.{AllByRecursion}
-use Rattle.tag.specs.Tag.{opening_tag, tag_eq}
 use Rattle.layout.specs.Layout.{Layout}
 use Rattle.bank.specs.Bank.{Bank, finalized, opened_bank}
 use Rattle.bank.specs.Collect.{collected}
 use Rattle.bank.specs.Floor.{remembered}
-use Rattle.bank.specs.Knowledge.{exceeds, finals_above}
 use Rattle.bank.specs.Serve.{served_bank}
 use Rattle.bank.specs.declared.request.Request.TheVariants as request
-use Rattle.bank.proofs.RememberedBankLemmas.{all_remembered}
 use Rattle.record.specs.Records.{no_bank}
 use Rattle.open_calls.specs.OpenCalls.{NodeCall}
 use Rattle.open_calls.proofs.ListLemmas.{all_append}
@@ -37,6 +34,7 @@ use Rattle.example_tests.specs.Forgetting.{write_to_two}
 use Rattle.example_tests.specs.StoppedSync.{StartedNodeHasWrite, calls_of_others, object_of, open_or_lost, restarted_as}
 use Rattle.example_tests.specs.StoppedSync.{stop_after_write, stop_after_write_as, stop_after_write_entries, stopped_log}
 use Rattle.example_tests.specs.StoppedSync.{stopped_process, synced_entries, unsynced_entry}
+use Rattle.example_tests.proofs.KeptRowLemmas.{none_forgotten}
 use Rattle.example_tests.proofs.StoppedSyncLemmas.{every_event, synced_frames, unsynced_frame}
 use Rattle.example_tests.proofs.CarriedRecordLemmas.{finalize_message, keep_message, known_plain, known_records, letter_with}
 use Rattle.example_tests.proofs.CarriedRecordLemmas.{log_recorded, objects_after, records_carried, served}
@@ -51,17 +49,6 @@ known_object : (more : ℕ) (objects : List ℕ → LocalObject) →
     objects_after (known_records more) objects (97 ∷ []) ≡ after_write (objects (97 ∷ []))
 known_object zero objects = refl
 known_object (suc more) objects = refl
-
-and_false : (b : Bool) → (b && false) ≡ false
-and_false true = refl
-and_false false = refl
-
--- a bank without a delta forgets nothing
-pub none_forgotten : (bank : Bank) → bank.delta ≡ None → remembered bank ≡ bank
-none_forgotten bank none =
-    sym (all_remembered bank (λ tag.
-    ap (λ (delta : Option ℕ). not (tag_eq tag opening_tag) && exceeds delta (finals_above bank tag)) none
-    ∙ and_false (not (tag_eq tag opening_tag))))
 
 abbrev kept_bank : Bank
 kept_bank = served_bank (opened_bank 0 None 0) (to_keep 0) 0

@@ -6,14 +6,14 @@ use Rattle.piece.specs.declared.piece.Piece.{Piece}
 use Rattle.bank.specs.declared.kind.Kind.{Kind}
 use Rattle.bank.specs.declared.kind.Kind.TheVariants.{Fetch, Next, Query}
 use Rattle.bank.specs.declared.reply.Answer.TheVariants as answer
-use Rattle.bank.specs.declared.status.Status.{Status}
-use Rattle.mail.specs.declared.message.Body.TheVariants as body
+use Rattle.bank.specs.declared.status.Status.TheVariants.{Unset}
+use Rattle.bank.specs.Bank.{Bank, piece_of}
+use Rattle.bank.specs.Serve.{greatest_final}
 use Rattle.letter.specs.declared.letter.Letter.{Letter}
-use Rattle.local_object.specs.Outcomes.{if_pointed}
 use Rattle.local_object.specs.Local.{LocalObject, layout_here}
 use Rattle.refinement.specs.Systems.{MayRunIn, System, SystemEvent, system_after, system_run}
 use Rattle.example_tests.specs.RecordExamples.{whole}
-use Rattle.example_tests.specs.RefinedExamples.{about}
+use Rattle.example_tests.specs.RefinedExamples.{replied, telling}
 
 -- events, and then others
 pub may_append : (first second : List SystemEvent) (system : System) → MayRunIn whole first system →
@@ -32,17 +32,26 @@ pub knows : (local : LocalObject) (o : Option (Kind × ℕ)) (next : Kind × ℕ
 knows local o next e known kind position is =
     subst (λ n. IsSome (layout_here local n)) (ap (λ (pair : Kind × ℕ). pair.1) (same_Some next (kind, position) (sym e ∙ is))) known
 
--- a letter with the answer to a question for the pointer, one with an answer to a query, and one with an answer to a fetch
-abbrev pub pointer_told : (call phase : ℕ) → Status → Option Letter
-pointer_told call phase found =
-    Some (record (about call phase (body.Reply Next (record { step = 0; answer = answer.Pointer found }))) {
-      next = if_pointed found None;
-    })
+-- a letter with the answer that the pointer is unset, one with the answer to a query, one with the answer to a fetch, and
+-- one with the answer that all is done; each tells this greatest tag
+abbrev pub pointer_told : (call phase : ℕ) → Tag → Option Letter
+pointer_told call phase tag = Some (replied call phase Next (answer.Pointer Unset) (telling tag None))
 
 abbrev pub tag_told : (call phase : ℕ) → Tag → Option Letter
-tag_told call phase tag =
-    Some (about call phase (body.Reply Query (record { step = 0; answer = answer.Greatest tag })))
+tag_told call phase tag = Some (replied call phase Query (answer.Greatest tag) (telling tag None))
 
-abbrev pub piece_told : (call phase : ℕ) → Tag → Option Piece → Option Letter
-piece_told call phase tag piece =
-    Some (about call phase (body.Reply (Fetch tag) (record { step = 0; answer = answer.Piece piece })))
+abbrev pub piece_told : (call phase : ℕ) → Tag → Option Piece → Tag → Option Letter
+piece_told call phase fetched piece tag = Some (replied call phase (Fetch fetched) (answer.Piece piece) (telling tag None))
+
+abbrev pub done_told : (call phase : ℕ) → Kind → Tag → Option Letter
+done_told call phase kind tag = Some (replied call phase kind answer.Done (telling tag None))
+
+-- the first answer to a read, from a node that keeps this bank and tells its piece of its greatest tag
+abbrev pub first_told : Bank → Option Letter
+first_told bank = Some (replied 3 1 Next (answer.Pointer Unset) (telling (greatest_final bank) (piece_of bank (greatest_final bank))))
+
+pub told_piece : (bank : Bank) (tag : Tag) (piece : Piece) → greatest_final bank ≡ tag → piece_of bank tag ≡ Some piece →
+    first_told bank ≡ Some (replied 3 1 Next (answer.Pointer Unset) (telling tag (Some piece)))
+told_piece bank tag piece greatest is =
+    ap (λ (t : Tag). Some (replied 3 1 Next (answer.Pointer Unset) (telling t (piece_of bank t)))) greatest
+    ∙ ap (λ (o : Option Piece). Some (replied 3 1 Next (answer.Pointer Unset) (telling tag o))) is

@@ -48,7 +48,14 @@ served_entry name message = record_strings (record_of.Serve (strings_of (record 
   digest = some_digest;
   named = record {
     name = name;
-    letter = record { layout = three_nodes; next = None; start = None; message = message };
+    letter = record {
+      layout = three_nodes;
+      next = None;
+      start = None;
+      asks_piece = false;
+      told = None;
+      message = message;
+    };
   };
 })))
 

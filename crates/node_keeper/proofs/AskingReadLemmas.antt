@@ -33,7 +33,8 @@ use Rattle.node_keeper.specs.declared.objects.Objects.{Objects}
 use Rattle.node_keeper.proofs.AskedAllLemmas.{asks_at, first_is, same_requests}
 
 -- requests for the next position
-all_next : (local : LocalObject) (asks : Bool) (layout : Layout) (call number position : ℕ) (members : List ℕ) (member : ℕ) (f : ℕ → Piece) →
+all_next : (local : LocalObject) (asks : Bool) (layout : Layout) (call number position : ℕ) (members : List ℕ) (member : ℕ)
+    (f : ℕ → Piece) →
     AllByRecursion (λ letter. asks_next letter.message.body ≡ true)
     (map (letter_of local asks layout) (requests call number Next position members member f))
 all_next local asks layout call number position [] member f = tt

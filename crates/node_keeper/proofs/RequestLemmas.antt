@@ -176,8 +176,8 @@ pub resent_ask : (local : LocalObject) (letters : List Letter) → AllByRecursio
 resent_ask local letters resent =
     all_weaker (IsResent fragment local) Asks
     (λ letter is. all_at Asks (current_letters fragment local is.call is.layout)
-    (requests_ask local (asks_piece is.call.kind is.call.stage) is.layout is.call.id is.call.phase.number is.call.phase.kind is.call.phase.position
-    is.layout.members 0 (pieces_here fragment is.layout is.call))
+    (requests_ask local (asks_piece is.call.kind is.call.stage) is.layout is.call.id is.call.phase.number is.call.phase.kind
+    is.call.phase.position is.layout.members 0 (pieces_here fragment is.layout is.call))
     is.place letter is.at) letters resent
 
 -- Replies, and requests that are sent back

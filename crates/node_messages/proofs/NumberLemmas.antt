@@ -98,13 +98,16 @@ numbers_say m said more fits = record {
 pub call_again : (m : Message) (said : Said) (more : SaidBesides) → m.call < 2 ^ 64 → long_in CALL_PLACE (number_bytes m said more) ≡ m.call
 call_again m said more lt = long_again m.call lt
 
-pub phase_again : (m : Message) (said : Said) (more : SaidBesides) → m.phase < 2 ^ 32 → short_in PHASE_PLACE (number_bytes m said more) ≡ m.phase
+pub phase_again : (m : Message) (said : Said) (more : SaidBesides) → m.phase < 2 ^ 32 →
+    short_in PHASE_PLACE (number_bytes m said more) ≡ m.phase
 phase_again m said more lt = short_again m.phase lt
 
-pub position_again : (m : Message) (said : Said) (more : SaidBesides) → m.position < 2 ^ 32 → short_in POSITION_PLACE (number_bytes m said more) ≡ m.position
+pub position_again : (m : Message) (said : Said) (more : SaidBesides) → m.position < 2 ^ 32 →
+    short_in POSITION_PLACE (number_bytes m said more) ≡ m.position
 position_again m said more lt = short_again m.position lt
 
-pub member_again : (m : Message) (said : Said) (more : SaidBesides) → m.member < 2 ^ 8 → byte_in MEMBER_PLACE (number_bytes m said more) ≡ m.member
+pub member_again : (m : Message) (said : Said) (more : SaidBesides) → m.member < 2 ^ 8 →
+    byte_in MEMBER_PLACE (number_bytes m said more) ≡ m.member
 member_again m said more lt = byte_same m.member lt
 
 -- ---- what is said of a body is within its bits

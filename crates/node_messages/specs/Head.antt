@@ -1,5 +1,6 @@
 -- The head of a message, which is the first string of its frame: numbers at fixed places, the digest, and the layouts.
-use Rattle.std.specs.Prelude.{◌%◌, ◌^◌, ℕ, List, [], ◌∷◌, ◌++◌, length, take, drop, slice_index, Option, Some, None, Bool}
+use Rattle.std.specs.Prelude.{◌%◌, ◌^◌, ℕ, List, [], ◌∷◌, ◌++◌, length, take, drop, slice_index}
+use Rattle.std.specs.Prelude.{Option, Some, None, Bool}
 use Rattle.std.specs.Int.{w32, w64, to_be_bytes, from_be_bytes}
 use Rattle.tag.specs.declared.tag.Tag.{Tag}
 use Rattle.piece.specs.declared.piece.Piece.{Piece}
@@ -88,7 +89,8 @@ abbrev pub said_of : Body → Said
 said_of (body.Request q) = with_piece (request_piece q) (said_of_kind (kind_of q))
 said_of (body.Reply k r) = with_answer r.answer (record (said_of_kind k) { is_reply = 1; step = r.step })
 
--- What a head says of what a letter asks and tells besides its message. A place that the letter does not use holds zeros.
+-- What a head says of what a letter asks and tells besides its message. A place that the letter does not use holds
+-- zeros.
 
 -- what a head says of a letter that tells nothing: whether it asks for a piece
 abbrev pub said_of_asking : (asks_piece : Bool) → SaidBesides

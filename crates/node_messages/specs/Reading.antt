@@ -19,7 +19,8 @@ use Rattle.node_strings.specs.Strings.{Strings}
 use Rattle.words.specs.Parts.{and_then}
 use Rattle.node_messages.specs.declared.besides.Besides.{Besides}
 use Rattle.node_messages.specs.declared.error.Fault.{Fault}
-use Rattle.node_messages.specs.declared.error.Fault.TheVariants.{UnknownCode, NoPiece, NoMember, BadTelling, UnusedPlace}
+use Rattle.node_messages.specs.declared.error.Fault.TheVariants.{BadTelling, NoMember, NoPiece, UnknownCode}
+use Rattle.node_messages.specs.declared.error.Fault.TheVariants.{UnusedPlace}
 use Rattle.node_messages.specs.declared.layouts.Layouts.{Layouts}
 use Rattle.node_messages.specs.declared.message.NodeMessage.{NodeMessage}
 use Rattle.node_messages.specs.declared.places.TheConstants.{CALL_PLACE, PHASE_PLACE, POSITION_PLACE, MEMBER_PLACE}

@@ -14,8 +14,8 @@ pub enum Fault {
     /// The object's name is longer than `LONGEST_NAME`.
     #[error("name too long")]
     NameTooLong,
-    /// A code stands for neither a request nor a reply, for no kind, for no status, for neither a piece nor none, or for
-    /// nothing that a letter asks or tells besides its message.
+    /// A code stands for neither a request nor a reply, for no kind, for no status, for neither a piece nor none, or
+    /// for nothing that a letter asks or tells besides its message.
     #[error("unknown code")]
     UnknownCode,
     /// A request to pre-write has no piece.

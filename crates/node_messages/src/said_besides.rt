@@ -13,8 +13,8 @@ use tag::Tag;
 /// What a head says of what a letter asks and tells besides its message. What the letter does not have is zero.
 #[derive(Clone, Copy)]
 pub struct SaidBesides {
-    /// 0 if the letter asks for no piece and tells nothing, 1 if it asks for the piece of the member's greatest finalized
-    /// tag, 2 if it tells no piece, and 3 if it tells one.
+    /// 0 if the letter asks for no piece and tells nothing, 1 if it asks for the piece of the member's greatest
+    /// finalized tag, 2 if it tells no piece, and 3 if it tells one.
     pub mark: u8,
     /// The code of the status that is told.
     pub status: u8,

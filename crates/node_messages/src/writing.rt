@@ -24,7 +24,8 @@ const MOST_MESSAGE_STRINGS: usize = 4;
 
 /// Returns the frame of a message. The frame shares the bytes of the name and of the pieces, and copies none.
 ///
-/// A `Fault` is the first one in this order: `NameTooLong`, `NoMember`, `BadAnswer`, `BadNext`, `BadTelling`, `PieceTooLong`.
+/// A `Fault` is the first one in this order: `NameTooLong`, `NoMember`, `BadAnswer`, `BadNext`, `BadTelling`,
+/// `PieceTooLong`.
 pub fn frame_of(alloc: Global, message: &NodeMessage) -> Result<Frame, MessageError>
     // What has a frame is a message.
     ensures fits { IfOk result (λ _. IsMessage message.now) }

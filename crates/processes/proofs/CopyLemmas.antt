@@ -44,6 +44,7 @@ kept_twice moves then a b c also first second = record {
       (λ other there. subst (λ (l : Layout). slice_get l.members member ≡ Some b.node)
       (some_layout layout other (sym is ∙ first.layouts position other there)) (own ∙ ap Some (sym first.node)))
       ∙ first.banks position member layout is own;
+  reports = second.reports;
   calls = second.calls ∙ ap (λ xs. filter (λ call. is_move call.kind) xs) first.calls ∙ moves_twice a.calls;
   mover = λ here position layout is. second.mover (also here) position layout (first.mover here position layout is);
 }

@@ -70,6 +70,8 @@ event_begun name local (LocalEvent.BeginAnew given) place id begins = absurd (no
 event_begun name local (LocalEvent.Raise position) place id begins = absurd (none_told name [] place id begins)
 event_begun name local (LocalEvent.Answer given) place id begins =
     absurd (none_told name (told local (LocalEvent.Answer given)) place id begins)
+event_begun name local (LocalEvent.EndEarly given value) place id begins =
+    absurd (none_told name (told local (LocalEvent.EndEarly given value)) place id begins)
 
 deed_begun : (fragment : Code) (objects : List ℕ → LocalObject) (deed : Deed) (place id : ℕ) →
     BeginsAt (after_deed fragment objects deed).notices place id → (place ≡ 0) × (deed_id deed ≡ Some id)

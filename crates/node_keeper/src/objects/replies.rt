@@ -17,10 +17,10 @@ use local_object::{LocalObject, Progress};
 use tag::{CallId, Refusal};
 
 impl Objects {
-    /// Has a call of the object of a name take a reply. If what the members told is enough, the call ends early. Otherwise
-    /// it goes on as far as it can: it settles the value that it fetched, and begins its next phase or is answered. No
-    /// object changes if the letter is no reply to a call that is
-    /// open at this node, or if there is no number in 32 bits for the next position.
+    /// Has a call of the object of a name take a reply. If what the members told is enough, the call ends early.
+    /// Otherwise it goes on as far as it can: it settles the value that it fetched, and begins its next phase or is
+    /// answered. No object changes if the letter is no reply to a call that is open at this node, or if there is no
+    /// number in 32 bits for the next position.
     ///
     /// `NoMemory` is the only refusal.
     pub fn take(&mut self, name: &Bytes, letter: Letter) -> Result<Progress, Refusal>
