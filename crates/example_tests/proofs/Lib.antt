@@ -8,8 +8,6 @@ pub mod KeptRowLemmas
 pub mod LostEntryLemmas
 pub mod MoveLemmas
 pub mod MovedBankLemmas
-pub mod OneRoundLemmas
-pub mod OneRoundReplyLemmas
 pub mod PhaseLemmas
 pub mod ReadLemmas
 pub mod ReadOfProcessLemmas

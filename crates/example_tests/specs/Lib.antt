@@ -4,7 +4,6 @@ pub mod Inventing
 pub mod LostEntry
 pub mod Moving
 pub mod NodeExamples
-pub mod OneRound
 pub mod ReadsOfProcesses
 pub mod RecordExamples
 pub mod RefinedExamples

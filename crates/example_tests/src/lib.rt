@@ -13,7 +13,7 @@ pub use records::{
     a_read_from_the_base, a_read_that_begins_anew, a_stale_read_is_not_atomic,
     a_write_a_move_and_a_read, a_write_and_a_read, the_bound_is_met_exactly,
 };
-pub use refined::{a_read_in_one_round, a_read_of_a_new_object, a_write_and_a_restart};
+pub use refined::{a_read_of_a_new_object, a_write_and_a_restart};
 pub use wrong_rule::{
     a_lost_entry_loses_a_write, forgetting_loses_a_write, inventing_loses_a_write,
     two_files_lose_a_write, two_processes_lose_a_write,

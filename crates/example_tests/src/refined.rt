@@ -1,5 +1,4 @@
-//! Runs of nodes that act by what they keep, event by event.
-ghost use Rattle.example_tests.specs.OneRound.{AReadInOneRound};
+//! Runs of two nodes that act by what they keep, event by event.
 ghost use Rattle.example_tests.specs.RefinedExamples.{AReadOfANewObject, AWriteAndARestart};
 
 /// A law: node 1 writes a value, which node 0 keeps, and node 0 stops and starts again. Each event may happen, and the
@@ -12,10 +11,4 @@ pub fn a_write_and_a_restart()
 /// empty value.
 pub fn a_read_of_a_new_object()
     ensures { AReadOfANewObject }
-{}
-
-/// A law: four of five members keep a write, three of them finalize its tag, and the write ends. A read asks four
-/// members once, three of which tell the tag and their pieces; it ends with the value. Each event may happen.
-pub fn a_read_in_one_round()
-    ensures { AReadInOneRound }
 {}
