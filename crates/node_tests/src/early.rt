@@ -74,7 +74,9 @@ fn a_read_beside_a_write(rt: HostRuntime) {
 }
 
 // The move has made the pointers of the first five nodes pending, and all that it sends then is lost. So the replies tell
-// no unset pointer, and the read goes on, as if they told nothing.
+// no unset pointer, and the read goes on. It spreads the status, asks for the greatest tag, and fetches it: four rounds.
+// Node 6, which is the new layout, it asks for the next position and for the greatest tag, and to pre-write and to
+// finalize the tag. It does not ask for the next position again, since node 6 tells that its pointer is unset.
 static BESIDE_A_MOVE: [Step; 3] = [
     A_WRITE,
     Step {
@@ -86,7 +88,7 @@ static BESIDE_A_MOVE: [Step; 3] = [
         sent: None,
     },
     Step {
-        sent: Some(0),
+        sent: Some(4 * ROUND + 4 * 2),
         ..A_READ
     },
 ];

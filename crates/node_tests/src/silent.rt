@@ -93,6 +93,7 @@ static ALL_HEAR_OF_A_MOVE: [Step; 4] = [
         lost: ALL_HEAR,
         answers: "[Frame { strings: [b\"client 3\", b\"$35\\r\\n\", b\"# Memory\\r\\nused_memory_dataset:0\\r\\n\
             \\r\\n\", b\"\\r\\n\"] }]",
+        sent: None,
     },
 ];
 
