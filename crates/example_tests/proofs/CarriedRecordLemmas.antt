@@ -117,6 +117,8 @@ keep_is member small = record {
   named = refl;
   next = tt;
   start = tt;
+  role = refl;
+  told = tt;
 }
 
 finalize_is : IsMessage (named_message (97 ∷ []) finalize_message)
@@ -132,6 +134,8 @@ finalize_is = record {
   named = refl;
   next = tt;
   start = tt;
+  role = refl;
+  told = tt;
 }
 
 other_is : IsMessage (named_message (98 ∷ []) other_message)
@@ -147,6 +151,8 @@ other_is = record {
   named = refl;
   next = tt;
   start = tt;
+  role = refl;
+  told = tt;
 }
 
 -- the records of the log, of which so many entries behind the synced ones are left
