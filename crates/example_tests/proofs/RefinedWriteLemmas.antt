@@ -44,12 +44,30 @@ keeps = (
   (
     (((_, refl), (_, refl, refl)), (4, refl)),
     (
-      ((_, _, refl), (5, ap (λ (bank : Bank). done_told 7 3 (PreWrite write_tag) (greatest_final bank)) (kept_wrote 0)
-      ∙ ap (done_told 7 3 (PreWrite write_tag)) (wrote_greatest 0))),
+      (
+        (_, _, refl),
+        (
+          5,
+          ap (λ (bank : Bank). done_told 7 3 (PreWrite write_tag) (greatest_final bank)) (kept_wrote 0)
+              ∙ ap (done_told 7 3 (PreWrite write_tag)) (wrote_greatest 0),
+        ),
+      ),
       (
         ((_, refl, inl (ready _ refl refl, refl), knows ((system_run whole write_sent after_asked).objects 1) _ _ refl refl), tt),
-        ((((_, refl), (_, refl, refl)), (6, refl)), (((_, _, refl), (7, ap (λ (bank : Bank). done_told 7 4 (Finalize write_tag) (greatest_final bank)) (kept_final 0)
-        ∙ ap (done_told 7 4 (Finalize write_tag)) (final_greatest 0))), tt)),
+        (
+          (((_, refl), (_, refl, refl)), (6, refl)),
+          (
+            (
+              (_, _, refl),
+              (
+                7,
+                ap (λ (bank : Bank). done_told 7 4 (Finalize write_tag) (greatest_final bank)) (kept_final 0)
+                    ∙ ap (done_told 7 4 (Finalize write_tag)) (final_greatest 0),
+              ),
+            ),
+            tt,
+          ),
+        ),
       ),
     ),
   ),
@@ -60,7 +78,16 @@ ends = (
   ((_, refl, inl (ready _ refl refl, refl), knows (after_kept.objects 1) _ _ refl refl), tt),
   (
     (((_, refl), (_, refl, refl)), (8, refl)),
-    (((_, _, refl), (9, ap (λ (bank : Bank). pointer_told 7 5 (greatest_final bank)) (still_final 0)
-    ∙ ap (pointer_told 7 5) (final_greatest 0))), (((_, refl, ready _ refl refl, refl), tt), tt)),
+    (
+      (
+        (_, _, refl),
+        (
+          9,
+          ap (λ (bank : Bank). pointer_told 7 5 (greatest_final bank)) (still_final 0)
+              ∙ ap (pointer_told 7 5) (final_greatest 0),
+        ),
+      ),
+      (((_, refl, ready _ refl refl, refl), tt), tt),
+    ),
   ),
 )

@@ -90,16 +90,19 @@ write_sent =
     SystemEvent.Acts 5 (LocalEvent.Advance 7)
     ∷ by_four (exchanged false 7 3 to_keep Done (λ member. telling opening_tag None))
 
--- three of them finalize the tag of the write, and tell that they know of no later position: the write ends
+-- three of them finalize the tag of the write, and tell that they know of no later position
 abbrev pub write_held : List SystemEvent
 write_held =
     SystemEvent.Acts 5 (LocalEvent.Advance 7)
-    ∷ (by_three (exchanged false 7 4 (λ member. request.Finalize write_tag) Done (λ member. telling write_tag None))
-    ++ (SystemEvent.Acts 5 (LocalEvent.EndEarly 7 None) ∷ []))
+    ∷ by_three (exchanged false 7 4 (λ member. request.Finalize write_tag) Done (λ member. telling write_tag None))
+
+-- the write ends
+abbrev pub write_ended : List SystemEvent
+write_ended = SystemEvent.Acts 5 (LocalEvent.EndEarly 7 None) ∷ []
 
 -- the whole write
 abbrev pub write : List SystemEvent
-write = write_begun ++ (write_asked ++ (write_sent ++ write_held))
+write = write_begun ++ (write_asked ++ (write_sent ++ (write_held ++ write_ended)))
 
 -- The read
 
@@ -113,14 +116,18 @@ read_told =
     ++ exchanged true 3 1 (λ member. request.Next) (Pointer Unset)
     (λ member. telling opening_tag (Some (empty_piece member))) 3)
 
--- the whole read: with these answers to its first requests, it ends
-abbrev pub read_at_once : List SystemEvent
-read_at_once = read_told ++ (SystemEvent.Acts 5 (LocalEvent.EndEarly 3 (Some letter)) ∷ [])
+-- with these answers to its first requests, the read ends
+abbrev pub read_ended : List SystemEvent
+read_ended = SystemEvent.Acts 5 (LocalEvent.EndEarly 3 (Some letter)) ∷ []
+
+-- the whole read
+abbrev pub read : List SystemEvent
+read = read_told ++ read_ended
 
 -- each event may happen. The write has the events 1 to 35; event 36 is that the node is rid of its call. The read has the
 -- events 37 to 46, and returns the value.
 abbrev pub AReadInOneRound : Type 0
-AReadInOneRound = MayRunIn whole (write ++ read_at_once) start
-    × ((system_run whole (write ++ read_at_once) start).history
+AReadInOneRound = MayRunIn whole (write ++ read) start
+    × ((system_run whole (write ++ read) start).history
     ≡ record { call = 7; kind = operation.Write; called = 1; answered = Some 35; value = Some letter }
     ∷ record { call = 3; kind = operation.Read; called = 37; answered = Some 46; value = Some letter } ∷ [])
