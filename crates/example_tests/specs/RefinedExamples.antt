@@ -50,8 +50,8 @@ about call phase said = record {
   message = record { call = call; phase = phase; position = 0; member = 0; body = said };
 }
 
--- what node 0 tells of its bank: it knows of no later position, and this is its greatest finalized tag; and its piece of
--- the tag, if it tells one
+-- what node 0 tells of its bank: it knows of no later position, and this is its greatest finalized tag; and its piece
+-- of the tag, if it tells one
 abbrev pub telling : Tag → Option Piece → Telling
 telling greatest piece = record { status = Unset; greatest = greatest; piece = piece }
 
@@ -60,8 +60,8 @@ abbrev pub replied : (call phase : ℕ) → Kind → Answer → Telling → Lett
 replied call phase kind said told =
     record (about call phase (body.Reply kind (record { step = 0; answer = said }))) { told = Some told }
 
--- node 0 serves the request of a phase of a call of node 1, and the call takes the answer; this is then the greatest tag
--- that node 0 has finalized
+-- node 0 serves the request of a phase of a call of node 1, and the call takes the answer; this is then the greatest
+-- tag that node 0 has finalized
 abbrev pub exchanged : (call phase : ℕ) → Request → Answer → (greatest : Tag) → List SystemEvent
 exchanged call phase asked said greatest =
     SystemEvent.Acts 0 (LocalEvent.Serve (about call phase (body.Request asked)))
@@ -73,7 +73,8 @@ begins_phase call = SystemEvent.Acts 1 (LocalEvent.Advance call)
 
 -- node 1 begins to write the value: node 0 knows of no later position
 abbrev pub write_begun : List SystemEvent
-write_begun = SystemEvent.Acts 1 (LocalEvent.BeginWrite 7 letter) ∷ exchanged 7 1 request.Next (Pointer Unset) opening_tag
+write_begun =
+    SystemEvent.Acts 1 (LocalEvent.BeginWrite 7 letter) ∷ exchanged 7 1 request.Next (Pointer Unset) opening_tag
 
 -- node 1 begins to write: node 0 knows of no later position and, when asked next, of no tag but the opening tag
 abbrev pub write_asked : List SystemEvent
