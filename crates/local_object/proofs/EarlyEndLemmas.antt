@@ -1,6 +1,6 @@
 -- A call that ends early by the tests of its node may end early.
-use Rattle.std.proofs.Common.{◌≡◌, ◌⊎◌, ◌&&◌, ◌+◌, ◌<◌, ◌≤◌, ℕ, zero, suc, nat_eq, eqb, eqb-true, Bool, true, false, cond, not, leb}
-use Rattle.std.proofs.Common.{List, [], ◌∷◌, ◌++◌, length, slice_get, Option, Some, None, inl, inr, refl, sym, subst, ap, ◌∙◌, arith}
+use Rattle.std.proofs.Common.{◌≡◌, ◌⊎◌, ◌&&◌, ◌+◌, ◌<◌, ℕ, nat_eq, Bool, true, false, not, leb}
+use Rattle.std.proofs.Common.{List, [], ◌∷◌, length, Option, Some, None, inl, inr, refl, sym, subst, ap, ◌∙◌, arith}
 use Rattle.std.specs.List.{AllByRecursion, count_by}
 use Rattle.std.proofs.lemmas.Bool.{leb-true, ltb-true}
 use Rattle.std.proofs.lemmas.Bool.Decides.{Decides-eqb}
@@ -17,14 +17,11 @@ use Rattle.decoder.specs.Pieces.{points_of}
 use Rattle.record.specs.declared.call.CallKind.{CallKind}
 use Rattle.record.specs.declared.call.CallKind.TheVariants.{Read, Write, Move}
 use Rattle.record.specs.declared.call.Operation.TheVariants as operation
-use Rattle.record.specs.Fragments.{HasPieces, IsFetch, IsValue}
+use Rattle.record.specs.Fragments.{IsFetch, IsValue}
 use Rattle.record.specs.Journals.{entry_value, operation_of}
 use Rattle.record.specs.Legal.{is_move}
-use Rattle.record.specs.Records.{Object, layout_at}
 use Rattle.record.specs.Wants.{is_fetch}
-use Rattle.call.specs.Call.{OpenCall as Machine}
 use Rattle.open_calls.specs.OpenCalls.{NodeCall}
-use Rattle.local_object.specs.declared.report.Report.{Report}
 use Rattle.local_object.specs.Early.{EndsAtOnceHere, EndsHeldHere, HasToldPieceHere, HasValueHere, HaveToldValueHere}
 use Rattle.local_object.specs.Early.{ends_at_once, ends_held, exceeds_rest, greatest_of, is_finalizing, is_first_counting}
 use Rattle.local_object.specs.Early.{is_held_by_quorum, is_last_at}
@@ -32,10 +29,10 @@ use Rattle.local_object.specs.EarlyEnds.{CanEndEarly, IsEarlyValue, IsHeldValue,
 use Rattle.local_object.specs.Ended.{early_value_of}
 use Rattle.local_object.specs.Events.{LocalEvent}
 use Rattle.local_object.specs.Going.{IsFetchedValue, IsOnlyValue}
-use Rattle.local_object.specs.Local.{LocalObject, Place, heard_place, layout_here, layout_in}
+use Rattle.local_object.specs.Local.{LocalObject, layout_here}
 use Rattle.local_object.specs.May.{MayHappenHere}
 use Rattle.local_object.specs.Outcomes.{is_read}
-use Rattle.local_object.specs.Reports.{first_told, is_of, tells_held, tells_no_greater, tells_unset, told_of_tag, told_pieces}
+use Rattle.local_object.specs.Reports.{first_told, tells_held, tells_no_greater, tells_unset, told_pieces}
 use Rattle.local_object.specs.Taking.{machine_of}
 use Rattle.local_object.proofs.FetchedLemmas.{all_by, all_take, has_pieces, length_points}
 use Rattle.local_object.proofs.NewObjectLemmas.{both}

@@ -4,7 +4,7 @@ use Rattle.std.specs.List.{AllByRecursion}
 use Rattle.record.specs.Legal.{is_move}
 use Rattle.record.specs.declared.call.CallKind.TheVariants.{Move}
 use Rattle.call.specs.Call.{OpenCall as Machine}
-use Rattle.open_calls.specs.OpenCalls.{NodeCall, open_call, without_call}
+use Rattle.open_calls.specs.OpenCalls.{NodeCall, open_call}
 use Rattle.local_object.specs.Codes.{carried}
 use Rattle.local_object.specs.Distinct.{HaveOtherIds, DifferInIds}
 use Rattle.local_object.specs.Doing.{IsOutcome, give_up_events, gives_up, is_client_call}

@@ -6,6 +6,8 @@ pub mod LastPositionLemmas
 pub mod OneMemberLemmas
 pub mod PieceLemmas
 pub mod ReportLemmas
+pub mod ApartReportLemmas
+pub mod HeedingLemmas
 pub mod TellingLemmas
 pub mod LearntLemmas
 pub mod ServeLemmas
@@ -32,6 +34,7 @@ pub mod EarlyCallLemmas
 pub mod ResentLemmas
 pub mod NewObjectLemmas
 pub mod ReadingTestLemmas
+pub mod QueryingLemmas
 pub mod ReadingLemmas
 pub mod StartLemmas
 pub mod PassedLemmas

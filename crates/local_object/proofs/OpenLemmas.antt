@@ -10,7 +10,7 @@ use Rattle.record.specs.PhaseOrder.{due}
 use Rattle.call.specs.declared.next.Next.TheVariants as next
 use Rattle.call.specs.Call.{OpenCall as Machine, reached}
 use Rattle.call.specs.Steps.{entered, phase_next, taken_call}
-use Rattle.open_calls.specs.OpenCalls.{taking_open, NodeCall, open_call, due_phase, with_open, without_call}
+use Rattle.open_calls.specs.OpenCalls.{NodeCall, open_call, due_phase, with_open, without_call}
 use Rattle.letter.specs.declared.letter.Letter.{Letter}
 use Rattle.letter.specs.declared.telling.Telling.{Telling}
 use Rattle.local_object.specs.declared.report.Report.{Report}

@@ -15,7 +15,8 @@ use Rattle.local_object.specs.Events.{LocalEvent, all_done, taking_here}
 use Rattle.local_object.specs.Outcomes.{learnt_from}
 use Rattle.local_object.specs.Going.{taken_here}
 use Rattle.local_object.specs.EarlyEnds.{CanEndEarly, EndedIf}
-use Rattle.local_object.specs.Replies.{IsReplyOutcome}
+use Rattle.local_object.specs.Querying.{query_events}
+use Rattle.local_object.specs.Replies.{IsReplyOutcome, taking_events}
 use Rattle.local_object.specs.Taking.{AreSettling, IsOutcomeWithAnswers, SettlesFetched, going_events, grow_events}
 use Rattle.local_object.specs.Taking.{lead_events, repeats}
 use Rattle.local_object.specs.Local.{LocalObject}
@@ -59,13 +60,21 @@ taken_none old letter new letters ended taken same sent tells =
     subst (λ b. IsReplyOutcome b old letter new letters ended) taken (by_none old new letters ended same sent tells)
 
 -- what was done after a reply was taken
-module _ {old mid settled grown new : LocalObject} {letter : Letter} {letters : List Letter} {ended : List Ended}
+module _ {old mid asked settled grown new : LocalObject} {letter : Letter} {letters : List Letter} {ended : List Ended}
     (again : Bool) (first : IsOutcomeWithAnswers old (LocalEvent.Take letter ∷ []) mid [] [])
-    (second : SettlesFetched mid letter.message.call settled)
+    (query : IsOutcomeWithAnswers mid (query_events mid letter.message.call) asked [] [])
+    (second : SettlesFetched asked letter.message.call settled)
     (third : IsOutcomeWithAnswers settled (grow_events settled letter.message.call) grown [] [])
     (fourth : IsOutcomeWithAnswers grown (lead_events again grown letter.message.call) new letters ended) where
-  both : IsOutcomeWithAnswers old (LocalEvent.Take letter ∷ second.events) settled [] []
-  both = by_then old mid settled (LocalEvent.Take letter ∷ []) second.events [] [] [] [] first second.done
+  -- the call takes the reply, and its first reading stands for its query, if it does
+  taking : IsOutcomeWithAnswers old (taking_events old letter) asked [] []
+  taking =
+      subst (λ (l : LocalObject). IsOutcomeWithAnswers old (LocalEvent.Take letter ∷ query_events l letter.message.call) asked [] [])
+      first.done.local
+      (by_then old mid asked (LocalEvent.Take letter ∷ []) (query_events mid letter.message.call) [] [] [] [] first query)
+
+  both : IsOutcomeWithAnswers old (taking_events old letter ++ second.events) settled [] []
+  both = by_then old asked settled (taking_events old letter) second.events [] [] [] [] taking second.done
 
   -- the start grows, and then the call goes on
   going : IsOutcomeWithAnswers settled (going_events again settled letter.message.call) new letters ended
@@ -77,10 +86,10 @@ module _ {old mid settled grown new : LocalObject} {letter : Letter} {letters : 
       ended third fourth)
 
   pub all_by : IsOutcomeWithAnswers old
-      (LocalEvent.Take letter ∷ second.events ++ going_events again settled letter.message.call) new letters ended
-  all_by = by_then old settled new (LocalEvent.Take letter ∷ second.events) (going_events again settled letter.message.call) [] letters []
-      ended
-      both going
+      (taking_events old letter ++ second.events ++ going_events again settled letter.message.call) new letters ended
+  all_by =
+      by_then old settled new (taking_events old letter ++ second.events) (going_events again settled letter.message.call) [] letters []
+      ended both going
 
   pub goes_on : is_taken old letter ≡ true → again ≡ repeats old letter
       → ((returned : Option (List ℕ)) → CanEndEarly mid letter.message.call returned → ⊥)
@@ -90,12 +99,12 @@ module _ {old mid settled grown new : LocalObject} {letter : Letter} {letters : 
         waits = subst (λ (l : LocalObject). (returned : Option (List ℕ)) → CanEndEarly l letter.message.call returned → ⊥)
             first.done.local waits;
         settling = second.events;
-        settles = subst (λ (l : LocalObject). AreSettling l letter.message.call second.events) first.done.local second.settles;
+        settles = subst (λ (l : LocalObject). AreSettling l letter.message.call second.events) taking.done.local second.settles;
         leads = subst (λ (b : Bool). IsOutcomeWithAnswers old
-            (LocalEvent.Take letter ∷ second.events ++ going_events b (all_done fragment old
-            (LocalEvent.Take letter ∷ second.events)).local letter.message.call) new letters ended) repeated
+            (taking_events old letter ++ second.events ++ going_events b (all_done fragment old
+            (taking_events old letter ++ second.events)).local letter.message.call) new letters ended) repeated
             (subst (λ (l : LocalObject). IsOutcomeWithAnswers old
-            (LocalEvent.Take letter ∷ second.events ++ going_events again l letter.message.call) new letters ended)
+            (taking_events old letter ++ second.events ++ going_events again l letter.message.call) new letters ended)
             both.done.local all_by);
       }))
 

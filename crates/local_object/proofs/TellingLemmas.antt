@@ -1,7 +1,7 @@
 -- What a node tells of a bank.
-use Rattle.std.proofs.Common.{◌≡◌, ℕ, Bool, true, false, cond, List, [], ◌∷◌, Option, None, Some, refl, sym, ap, ◌∙◌}
+use Rattle.std.proofs.Common.{◌≡◌, ℕ, Bool, true, cond, List, [], Option, Some, sym, ap, ◌∙◌}
 use Rattle.std.specs.FinMap as map
-use Rattle.tag.specs.Tag.{opening_tag, tag_cmp, tag_eq}
+use Rattle.tag.specs.Tag.{opening_tag, tag_cmp}
 use Rattle.tag.proofs.TagOrderLemmas.{eq_by_cmp-tag, tag_cmp_total, tag_eq-same}
 use Rattle.bank.specs.Bank.{empty_piece, opened_bank, opening_row, piece_of, piece_of_row}
 use Rattle.bank.specs.Serve.{greatest_final}

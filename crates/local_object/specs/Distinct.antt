@@ -1,6 +1,8 @@
 -- The contracts that docs/trusted.md lists do not depend on this file; other contracts and proofs do.
 -- What is true of the parts of a node's object at any time.
-use Rattle.std.specs.Prelude.{◌≡◌, ◌≢◌, ◌<◌, ◌^◌, ℕ, List, [], ◌∷◌, Option, None, Some, IsSome, slice_get, slice_set}
+use Rattle.std.specs.Prelude.{◌≡◌, ◌≢◌, ◌<◌, ◌^◌, ℕ, false, List, [], ◌∷◌, Option, None, Some, IsSome}
+use Rattle.std.specs.Prelude.{slice_get, slice_set}
+use Rattle.std.specs.List.{AllByRecursion}
 use Rattle.tag.specs.Tag.{opening_tag}
 use Rattle.bank.specs.Bank.{Bank}
 use Rattle.bank.specs.Collect.{IsCollected}
@@ -9,7 +11,9 @@ use Rattle.bank.specs.Knowledge.{finalized_at}
 use Rattle.call.specs.Call.{OpenCall as Machine}
 use Rattle.local_object.specs.declared.kept_bank.KeptBank.{KeptBank}
 use Rattle.local_object.specs.declared.kept_bank.KeptBank.TheVariants as kept
+use Rattle.local_object.specs.declared.report.Report.{Report}
 use Rattle.local_object.specs.Local.{Place, heard_place, layout_in, with_bank_here}
+use Rattle.local_object.specs.Reports.{is_same}
 
 -- none of the calls has this id
 abbrev pub HaveOtherIds : (id : ℕ) → List Machine → Type 0
@@ -30,6 +34,16 @@ pub record IsCallAt (calls : List Machine) (id index : ℕ) : Type 0 where
   pub call : Machine
   pub there : slice_get calls index ≡ Some call
   pub named : call.id ≡ id
+
+-- no two of the reports are of the same member, to the same phase of the same call
+abbrev pub DifferInMembers : List Report → Type 0
+DifferInMembers [] = Unit {0}
+DifferInMembers (report ∷ reports) =
+    AllByRecursion (λ other. is_same other report ≡ false) reports × DifferInMembers reports
+
+-- no two of the reports are of the same member, to the same phase of the same call
+pub record AreOfOtherMembers (reports : List Report) : Type 0 where
+  pub apart : DifferInMembers reports
 
 -- the place of a position is at this index, and another bank at the position would change this place
 pub record IsPlaceAt (places : List Place) (number index : ℕ) : Type 0 where

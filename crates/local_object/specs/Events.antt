@@ -19,6 +19,7 @@ use Rattle.record.specs.Sending.{fragment_piece, sent_value, value_or_empty}
 use Rattle.record.specs.Steps.{new_phase}
 use Rattle.open_calls.specs.OpenCalls.{NodeCall, open_call, with_open, without_call, stage_reached, due_phase}
 use Rattle.open_calls.specs.OpenCalls.{taking_open}
+use Rattle.open_calls.specs.Queries.{queried}
 use Rattle.letter.specs.declared.letter.Letter.{Letter}
 use Rattle.letter.specs.declared.telling.Telling.{Telling}
 use Rattle.mail.specs.declared.message.Message.{Message}
@@ -28,7 +29,7 @@ use Rattle.local_object.specs.Local.{LocalObject, layout_here, bank_here, bank_i
 use Rattle.local_object.specs.Local.{last_position, told_start, with_heard}
 use Rattle.local_object.specs.Outcomes.{Outcome, begun_here, learnt_from, letter_of, on_open_call, phase_letters}
 use Rattle.local_object.specs.Outcomes.{silent}
-use Rattle.local_object.specs.Reports.{reports_after, told_by, told_to, without_reports}
+use Rattle.local_object.specs.Reports.{reports_after, tags_told, told_by, told_to, without_reports}
 use Rattle.local_object.specs.Starting.{anew_number, called_at, number_at, reads_here}
 
 -- what a node does with one object; a call is named by its id, and a bank by its position
@@ -50,6 +51,7 @@ pub data LocalEvent : Type 0 where
   BeginAnew : (id : ℕ) → LocalEvent
   Raise : (position : ℕ) → LocalEvent
   EndEarly : (id : ℕ) → Option (List ℕ) → LocalEvent
+  Query : (id : ℕ) → LocalEvent
 
 -- Calls
 
@@ -94,6 +96,15 @@ taking_here local call message told = record local {
   calls = with_open (taking_open message call) local.calls;
   reports = reports_after call.phase.number message (told_to call.kind told) local.reports;
 }
+
+-- after the first reading of a call at a position with this layout, if the node has heard of it, stands for its query
+-- too, with the tags that it was told
+abbrev pub queried_here : LocalObject → NodeCall → Option Layout → Outcome
+queried_here local call None = silent local
+queried_here local call (Some layout) =
+    silent (record local {
+      calls = with_open (queried call layout (tags_told layout call.id call.phase.number local.reports)) local.calls;
+    })
 
 -- after a call has ended, and what it was told is dropped
 abbrev pub ended_here : LocalObject → (id : ℕ) → LocalObject
@@ -175,6 +186,9 @@ done_here fragment local (LocalEvent.BeginAnew id) =
     on_open_call local (open_call local.calls id) (λ call. reads_here local call (anew_number call local.start))
 done_here fragment local (LocalEvent.Raise position) = silent (raised_here local position)
 done_here fragment local (LocalEvent.EndEarly id value) = silent (ended_here local id)
+done_here fragment local (LocalEvent.Query id) =
+    on_open_call local (open_call local.calls id)
+    (λ call. queried_here local call (layout_here local call.phase.position))
 
 -- after these events, one after another, with all letters in the order in which they were sent
 abbrev pub all_done : Code → LocalObject → List LocalEvent → Outcome

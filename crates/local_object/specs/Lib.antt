@@ -19,6 +19,8 @@ pub mod Coding
 pub mod Going
 pub mod Taking
 pub mod EarlyEnds
+pub mod Querying
+pub mod Queried
 pub mod Replies
 pub mod Agreement
 pub mod Changing

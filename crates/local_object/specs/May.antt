@@ -1,16 +1,17 @@
 -- When an event may happen at a node's object, as far as the node can tell from what it keeps.
-use Rattle.std.specs.Prelude.{◌≡◌, ◌≢◌, ◌⊎◌, ◌<◌, ℕ, suc, List, [], ◌∷◌, None, Some, IsSome, false, slice_get}
-use Rattle.std.specs.List.{AllByRecursion}
-use Rattle.layout.specs.Layout.{Layout, IsLawful}
+use Rattle.std.specs.Prelude.{◌≡◌, ◌≢◌, ◌⊎◌, ◌<◌, ◌≤◌, ℕ, suc, List, [], ◌∷◌, None, Some, IsSome, false, slice_get}
+use Rattle.std.specs.List.{AllByRecursion, count_by}
+use Rattle.layout.specs.Layout.{Layout, IsLawful, quorum_of}
 use Rattle.bank.specs.declared.kind.Kind.{Kind}
-use Rattle.bank.specs.declared.kind.Kind.TheVariants.{Spread}
+use Rattle.bank.specs.declared.kind.Kind.TheVariants.{Next, Spread}
 use Rattle.bank.specs.declared.reply.Reply.{Reply}
 use Rattle.bank.specs.declared.request.Request.{Request}
 use Rattle.bank.specs.declared.status.Status.TheVariants.{Final}
 use Rattle.mail.specs.declared.message.Body.TheVariants as body
 use Rattle.mail.specs.Phase.{lacks_pieces}
 use Rattle.record.specs.declared.call.CallKind.TheVariants.{Move}
-use Rattle.record.specs.declared.stage.Stage.TheVariants.{ReadBegin}
+use Rattle.record.specs.declared.stage.Stage.TheVariants.{ReadBegin, ReadNext}
+use Rattle.record.specs.Legal.{is_move}
 use Rattle.record.specs.Fragments.{Code, IsValue, IsFetch, HasPieces}
 use Rattle.record.specs.Records.{Object, layout_at}
 use Rattle.open_calls.specs.OpenCalls.{NodeCall, open_call, due_phase, stage_reached, IsReady, IsLacking}
@@ -18,6 +19,7 @@ use Rattle.letter.specs.declared.letter.Letter.{Letter}
 use Rattle.local_object.specs.KeptBanks.{closing}
 use Rattle.local_object.specs.Local.{LocalObject, bank_in, heard_place, layout_here}
 use Rattle.local_object.specs.Early.{EndsAtOnceHere, EndsHeldHere}
+use Rattle.local_object.specs.Reports.{tells_unset}
 use Rattle.local_object.specs.Starting.{IsReadingHere}
 use Rattle.local_object.specs.Events.{LocalEvent, done_here}
 use Rattle.local_object.specs.Outcomes.{learnt_from}
@@ -59,6 +61,16 @@ pub record IsMemberBefore (local : LocalObject) (position : ℕ) : Type 0 where
   pub server : slice_get layout.members member ≡ Some local.node
   pub next : IsSome (layout_here local (suc position))
 
+-- the call is a read or a write that asks for the pointers of the first position that counts, and as many members as
+-- are a quorum told it that theirs are unset
+pub record IsToldByQuorum (local : LocalObject) (call : NodeCall) : Type 0 where
+  pub client : is_move call.kind ≡ false
+  pub stage : call.stage ≡ ReadNext call.phase.position call.phase.position
+  pub kind : call.phase.kind ≡ Next
+  pub layout : Layout
+  pub known : layout_here local call.phase.position ≡ Some layout
+  pub quorum : quorum_of layout ≤ count_by (tells_unset call.id call.phase.number) local.reports
+
 -- the event may happen, as far as the node can tell
 abbrev pub MayHappenHere : Code → LocalObject → LocalEvent → Type 0
 MayHappenHere fragment local (LocalEvent.BeginRead id) = IsSome (layout_here local local.start)
@@ -94,6 +106,8 @@ MayHappenHere fragment local (LocalEvent.Raise position) = IsMemberBefore local 
 MayHappenHere fragment local (LocalEvent.EndEarly id value) =
     (call : NodeCall) × IsCarriedOut local id call
     × (EndsHeldHere fragment local call value ⊎ EndsAtOnceHere fragment local call value)
+MayHappenHere fragment local (LocalEvent.Query id) =
+    (call : NodeCall) × IsCarriedOut local id call × IsToldByQuorum local call
 
 -- these events may happen here one after another
 abbrev pub MayAllHappen : Code → LocalObject → List LocalEvent → Type 0

@@ -1,9 +1,10 @@
 -- What members told the calls of a node, and how a node keeps it.
 use Rattle.std.specs.Prelude.{ℕ, ◌==◌, ◌&&◌, ◌||◌, not, Bool, true, false, if◌then◌else◌}
-use Rattle.std.specs.Prelude.{List, [], ◌∷◌, ◌++◌, Option, None, Some, filter, option_to_list, take}
+use Rattle.std.specs.Prelude.{List, [], ◌∷◌, ◌++◌, Option, None, Some, filter, map, option_to_list, take}
 use Rattle.std.specs.List.{list_any}
 use Rattle.tag.specs.declared.tag.Tag.{Tag}
 use Rattle.tag.specs.Tag.{later_tag, tag_eq, tag_lt}
+use Rattle.layout.specs.Layout.{Layout, quorum_of}
 use Rattle.piece.specs.declared.piece.Piece.{Piece}
 use Rattle.bank.specs.Bank.{Bank, piece_of}
 use Rattle.bank.specs.Pointer.{status_of}
@@ -13,6 +14,7 @@ use Rattle.bank.specs.declared.status.Status.TheVariants as status
 use Rattle.mail.specs.declared.message.Message.{Message}
 use Rattle.record.specs.declared.call.CallKind.{CallKind}
 use Rattle.record.specs.Legal.{is_move}
+use Rattle.open_calls.specs.Queries.{ToldTag}
 use Rattle.letter.specs.declared.telling.Telling.{Telling}
 use Rattle.local_object.specs.declared.kept_bank.KeptBank.{KeptBank}
 use Rattle.local_object.specs.declared.kept_bank.KeptBank.TheVariants as kept
@@ -87,6 +89,16 @@ is_unset status.Final = false
 -- whether a member told this phase of a call an unset pointer
 abbrev pub tells_unset : (call phase : ℕ) → Report → Bool
 tells_unset call phase report = is_of call phase report && is_unset report.telling.status
+
+-- the greatest finalized tag that a member told
+abbrev pub tag_told : Report → ToldTag
+tag_told report = record { member = report.member; tag = report.telling.greatest }
+
+-- the greatest finalized tags that members told this phase of a call with unset pointers, in the order in which they
+-- told them, but no more of them than a quorum has members
+abbrev pub tags_told : Layout → (call phase : ℕ) → List Report → List ToldTag
+tags_told layout call phase reports =
+    take (quorum_of layout) (map tag_told (filter (tells_unset call phase) reports))
 
 -- whether a member told this phase of a call an unset pointer, and that this tag is its greatest finalized one
 abbrev pub tells_held : Tag → (call phase : ℕ) → Report → Bool

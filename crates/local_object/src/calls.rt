@@ -13,13 +13,17 @@ ghost use Rattle.local_object.specs.Distinct.{HaveOtherIds, HaveDistinctIds, IsC
 ghost use Rattle.local_object.specs.Anew.{reading_machine};
 ghost use Rattle.local_object.specs.Leaving.{if_final, is_at};
 ghost use Rattle.local_object.specs.Outcomes.{is_read};
+ghost use Rattle.local_object.specs.Queried.{querying};
 
+use crate::querying::query_by;
+use crate::reading::kind_of;
+use crate::report::Report;
 use bank::{Kind, Status};
 use bytes::Bytes;
 use call::Call;
 use layout::Layout;
 use mail::{Ask, Message};
-use record::{CallKind, Operation, Stage};
+use record::{Operation, Stage};
 use std::alloc::Global;
 use std::marker::Model;
 use tag::{CallId, Refusal};
@@ -137,6 +141,27 @@ impl Calls {
         Ok(())
     }
 
+    /// The call at an index begins a query of its position, and takes replies to it that say what its phase before was
+    /// told. `NoMemory` is the only refusal.
+    pub(crate) fn query(
+        &mut self,
+        index: usize,
+        layout: &Layout,
+        reports: &[Report],
+    ) -> Result<(), Refusal>
+        requires within { index < length self.old }
+        requires limits { (call : Machine) → slice_get self.old index ≡ Some call → IsWithinLimits call }
+        requires number { (call : Machine) → slice_get self.old index ≡ Some call → suc call.phase.number < 2 ^ 32 }
+        ensures queried { OnOk result ((call : Machine) → slice_get self.old index ≡ Some call
+            → self.new ≡ slice_set self.old index (querying call layout.now reports.now)) }
+
+        ensures refused { IfErr result (λ e. e ≡ NoMemory) }
+    {
+        let alloc = *self.calls.allocator();
+        query_by(alloc, &mut self.calls[index], layout, reports)?;
+        Ok(())
+    }
+
     /// The call at an index, which has settled nothing, begins to read the sequence of layouts with what is asked.
     /// `NoMemory` is the only refusal.
     pub(crate) fn read_at(&mut self, index: usize, ask: Ask, layout: &Layout) -> Result<(), Refusal>
@@ -189,21 +214,6 @@ pub(crate) fn is_read(call: &Call) -> bool
     match call.operation() {
         Operation::Read => true,
         Operation::Write | Operation::Move => false,
-    }
-}
-
-// The kind of the call, whose value shares its bytes.
-fn kind_of(call: &Call) -> Result<CallKind, Refusal>
-    ensures kind { IfOk result (λ kind. kind ≡ call.now.kind) }
-    ensures refused { IfErr result (λ e. e ≡ NoMemory) }
-{
-    match call.operation() {
-        Operation::Read => Ok(CallKind::Read),
-        Operation::Write => match call.value() {
-            Some(value) => Ok(CallKind::Write(value.clone()?)),
-            None => unreachable!(),
-        },
-        Operation::Move => Ok(CallKind::Move),
     }
 }
 

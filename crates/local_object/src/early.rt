@@ -1,6 +1,6 @@
 //! Whether a call ends early, by what members told its current phase, and which value it returns.
 
-ghost use Rattle.std.specs.Prelude.{◌≡◌, ℕ, List, Option, Some, nat_le, IfOk, IfErr, MatchOption};
+ghost use Rattle.std.specs.Prelude.{◌≡◌, ◌≤◌, ℕ, List, Option, Some, nat_le, IfOk, IfErr, MatchOption};
 ghost use Rattle.layout.specs.Layout.{quorum_of};
 ghost use Rattle.tag.specs.declared.refusal.Refusal.TheVariants.{NoMemory};
 ghost use Rattle.record.specs.declared.call.CallKind.TheVariants.{Read};
@@ -152,9 +152,10 @@ fn is_held_by_quorum(call: &Call, layout: &Layout, reports: &[Report], tag: Tag)
     exceeds_rest(layout, count_held(reports, tag, id, phase))
 }
 
-// Whether a layout has a quorum of at most this many members.
-fn is_quorum(layout: &Layout, count: usize) -> bool
-    ensures { result ≡ nat_le (quorum_of layout.now) count }
+/// Whether a layout has a quorum of at most this many members.
+pub(crate) fn is_quorum(layout: &Layout, count: usize) -> bool
+    ensures value { result ≡ nat_le (quorum_of layout.now) count }
+    ensures some { 1 ≤ quorum_of layout.now }
 {
     usize::from(layout.quorum()) <= count
 }
@@ -209,8 +210,8 @@ fn is_last_at(stage: Stage, position: u32) -> bool
     }
 }
 
-// Whether a call at this stage asks for the pointer of the first position that counts.
-fn is_first_counting(stage: Stage) -> bool
+/// Whether a call at this stage asks for the pointer of the first position that counts.
+pub(crate) fn is_first_counting(stage: Stage) -> bool
     ensures { result ≡ is_first_counting stage }
 {
     match stage {

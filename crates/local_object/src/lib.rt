@@ -21,6 +21,7 @@ mod pieces;
 mod place;
 mod places;
 mod progress;
+mod querying;
 mod reading;
 mod report;
 mod reports;

@@ -22,13 +22,14 @@ mod early;
 mod go_on;
 mod hear;
 mod passed;
+mod querying;
 mod resend;
 mod starts;
 mod take;
 mod views;
 
 /// What one node of a cluster keeps of one object: the positions that it has heard of, with their layouts; its banks;
-/// and the calls that it carries out.
+/// the calls that it carries out; and what members told these calls with their replies.
 ///
 /// If a function is refused with `NoMemory`, an allocation was refused, and its contract says nothing of the object:
 /// the node stops, and starts again from its log. Every other refusal changes nothing. If several refusals apply, the

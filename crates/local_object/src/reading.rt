@@ -21,7 +21,7 @@ use call::{Call, requests};
 use layout::Layout;
 use letter::Letter;
 use mail::Ask;
-use record::Stage;
+use record::{CallKind, Operation, Stage};
 use std::alloc::Global;
 use tag::Refusal;
 
@@ -117,6 +117,21 @@ pub(crate) fn read_at(
     Ok(letters)
 }
 
+/// The kind of the call, whose value shares its bytes. `NoMemory` is the only refusal.
+pub(crate) fn kind_of(call: &Call) -> Result<CallKind, Refusal>
+    ensures kind { IfOk result (λ kind. kind ≡ call.now.kind) }
+    ensures refused { IfErr result (λ e. e ≡ NoMemory) }
+{
+    match call.operation() {
+        Operation::Read => Ok(CallKind::Read),
+        Operation::Write => match call.value() {
+            Some(value) => Ok(CallKind::Write(value.clone()?)),
+            None => unreachable!(),
+        },
+        Operation::Move => Ok(CallKind::Move),
+    }
+}
+
 /// Returns whether the call is no move and has settled nothing, and its phase reads the sequence of layouts at a
 /// position of which the node has heard, and still lacks a quorum of replies.
 pub(crate) fn is_reading(places: &Places, call: &Call) -> bool
@@ -138,8 +153,8 @@ pub(crate) fn is_reading(places: &Places, call: &Call) -> bool
         )
 }
 
-// Whether the first reading of the sequence of layouts is at this position.
-fn is_reading_at(stage: Stage, position: u32) -> bool
+/// Whether the first reading of the sequence of layouts is at this position.
+pub(crate) fn is_reading_at(stage: Stage, position: u32) -> bool
     ensures { result ≡ is_reading_at stage position }
 {
     match stage {
@@ -151,8 +166,8 @@ fn is_reading_at(stage: Stage, position: u32) -> bool
     }
 }
 
-// Whether a phase of this kind asks for a pointer.
-fn is_next(kind: Kind) -> bool
+/// Whether a phase of this kind asks for a pointer.
+pub(crate) fn is_next(kind: Kind) -> bool
     ensures { result ≡ is_next kind }
 {
     match kind {

@@ -5,6 +5,7 @@ ghost use Rattle.std.specs.Prelude.{filter};
 ghost use Rattle.std.specs.List.{count_by, list_any};
 ghost use Rattle.tag.specs.Tag.{opening_tag};
 ghost use Rattle.tag.specs.declared.refusal.Refusal.TheVariants.{NoMemory};
+ghost use Rattle.local_object.specs.Distinct.{AreOfOtherMembers};
 ghost use Rattle.local_object.specs.Reports.{greatest_told, is_kept_beside, is_of, is_same, is_unset, later_told};
 ghost use Rattle.local_object.specs.Reports.{reports_after};
 ghost use Rattle.local_object.specs.Reports.{tells_held, tells_no_greater, tells_unset, with_report, without_reports};
@@ -17,7 +18,8 @@ use std::alloc::Global;
 use std::marker::Model;
 use tag::{CallId, Refusal, Tag};
 
-/// What members told the current phases of a node's calls, in the order in which the node took the replies.
+/// What members told the current phases of a node's calls, in the order in which the node took the replies. No two
+/// reports are of the same member, to the same phase of the same call.
 #[derive(Debug)]
 pub struct Reports {
     reports: Vec<Report>,
@@ -32,10 +34,13 @@ impl Drop for Reports {
 impl Model for Reports {
     ghost use Rattle.std.specs.Prelude.{List};
     ghost use Rattle.local_object.specs.declared.report.Report.{Report as Told};
+    ghost use Rattle.local_object.specs.Distinct.{AreOfOtherMembers};
 
     ghost Value = { List Told };
 
     ghost view = { λ r. r.reports.items };
+
+    ghost invariant = { λ r. AreOfOtherMembers r.reports.items };
 }
 
 impl Reports {
@@ -57,7 +62,8 @@ impl Reports {
 
     /// Returns the reports.
     pub(crate) fn all(&self) -> &[Report]
-        ensures { result.now ≡ self.now }
+        ensures all { result.now ≡ self.now }
+        ensures apart { AreOfOtherMembers self.now }
     {
         &self.reports
     }
@@ -146,8 +152,8 @@ pub(crate) fn is_of(call: CallId, phase: u32, report: &Report) -> bool
     report.call == call && report.phase == phase
 }
 
-// Whether a member told this phase of a call an unset pointer.
-fn tells_unset(call: CallId, phase: u32, report: &Report) -> bool
+/// Whether a member told this phase of a call an unset pointer.
+pub(crate) fn tells_unset(call: CallId, phase: u32, report: &Report) -> bool
     ensures { result ≡ tells_unset call phase report.now }
 {
     is_of(call, phase, report) && is_unset(report.telling.status)

@@ -23,6 +23,10 @@ impl LocalObject {
     /// has raised the pointer of the object's start to final at a quorum, the start grows by one. Nothing changes if
     /// the letter is no reply to a call that is open here, or if there is no number in 32 bits for the next position.
     ///
+    /// A read or a write that asked for the pointers of the first position that counts sends no query to its members if
+    /// as many of them as are a quorum told it unset pointers. They told their greatest finalized tags with the same
+    /// replies, so the call goes on as after a query that they answered with these tags.
+    ///
     /// If its complete fetch lacks pieces, the call does not begin anew at once. It waits until its requests are sent
     /// again (`resend`), and begins anew when it takes a reply to this fetch from a member whose reply it had recorded.
     /// A read then reads the sequence of layouts from the start on.
@@ -50,6 +54,7 @@ impl LocalObject {
         if let Some(ended) = self.end_early(id)? {
             return Ok(Progress::answered(self.alloc, ended));
         }
+        self.query(id)?;
         self.settle(id)?;
         self.grow(id);
         self.lead(id, again)

@@ -1,4 +1,4 @@
-use Rattle.std.proofs.Common.{◌≡◌, ◌&&◌, true, ap, leb, sym, ◌∙◌}
+use Rattle.std.proofs.Common.{◌&&◌, ap, leb, sym, ◌∙◌}
 use Rattle.std.specs.List.{count_by}
 use Rattle.layout.specs.Layout.{quorum_of}
 use Rattle.mail.specs.Phase.{Phase}
@@ -18,7 +18,7 @@ returns-then-not-is_quorum c =
     ∙ ap (λ i. count_by (tells_no_greater tag i c.number-phase.result) reports) c.id-id.ensures
     ∙ ap (λ n. count_by (tells_no_greater tag call.id n) reports) number in
     sym (ap (λ b. b && exceeds_rest layout held)
-    (ap (leb (quorum_of layout)) (sym counted) ∙ sym c.is_quorum.ensures ∙ c.if-not-is_quorum.true))
+    (ap (leb (quorum_of layout)) (sym counted) ∙ sym c.is_quorum.ensures.value ∙ c.if-not-is_quorum.true))
 
 pub returns : goal.returns
 returns c =
@@ -36,4 +36,4 @@ returns c =
     ∙ ap (λ i. count_by (tells_held tag i c.number-phase.result) reports) c.id-id.ensures
     ∙ ap (λ n. count_by (tells_held tag call.id n) reports) number)
     ∙ sym (ap (λ b. b && exceeds_rest layout held)
-    (ap (leb (quorum_of layout)) (sym counted) ∙ sym c.is_quorum.ensures ∙ c.if-not-is_quorum.false))
+    (ap (leb (quorum_of layout)) (sym counted) ∙ sym c.is_quorum.ensures.value ∙ c.if-not-is_quorum.false))

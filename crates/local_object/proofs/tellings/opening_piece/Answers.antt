@@ -1,7 +1,4 @@
-use Rattle.std.proofs.Common.{sym, ap, ◌∙◌}
-use Rattle.bank.specs.Bank.{opened_bank}
-use Rattle.local_object.specs.Reports.{piece_if}
-use Rattle.local_object.proofs.TellingLemmas.{opened_if, opened_piece}
+use Rattle.local_object.proofs.TellingLemmas.{opened_if}
 use Rattle.local_object.proofs.tellings.opening_piece.Goals as goal
 
 pub returns-then-asks_piece : goal.returns-then-asks_piece

@@ -1,7 +1,6 @@
 use Rattle.std.proofs.Common.{List, ℕ, IfOk, Option, MatchOption, ap, sym, subst, ◌∙◌}
 use Rattle.std.proofs.lemmas.Option.{slice_get_within}
 use Rattle.std.proofs.lemmas.Result.{IfOk-weaker}
-use Rattle.layout.specs.Layout.{Layout}
 use Rattle.mail.specs.Phase.{Phase}
 use Rattle.local_object.specs.declared.report.Report.{Report}
 use Rattle.local_object.specs.EarlyEnds.{CanEndEarly, EndsEarlyWith}
@@ -43,4 +42,4 @@ returns-clause-value c =
     (early_is o.node o.delta o.start o.reports o.places distinct at call c.at-call.ensures layout known value is))
     (subst (λ (reports : List Report). IfOk c.early_value.result (λ value. MatchOption value
     ((r : Option (List ℕ)) → EndsEarlyWith o.places call layout reports r → ⊥) (EndsEarlyWith o.places call layout reports)))
-    c.all.ensures c.early_value.ensures.value)
+    c.all.ensures.all c.early_value.ensures.value)

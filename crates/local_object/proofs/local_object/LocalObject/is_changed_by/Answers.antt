@@ -1,6 +1,5 @@
 use Rattle.std.proofs.Common.{◌||◌, ap, sym, subst, ◌∙◌}
 use Rattle.local_object.specs.Changing.{changes_in_body}
-use Rattle.local_object.specs.Codes.{carried}
 use Rattle.local_object.specs.Distinct.{IsBankInOrderIfOpen}
 use Rattle.local_object.specs.Local.{LocalObject, bank_in, bank_or_opened, heard_place, is_later_start_if}
 use Rattle.local_object.proofs.ChangingLemmas.{changed_is, unchanged, unserved, unserved_is}

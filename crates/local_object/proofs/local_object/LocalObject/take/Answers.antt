@@ -31,7 +31,8 @@ returns-clause-done c =
     let first = subst (λ (l : LocalObject). IsOutcomeWithAnswers c.args.self.now (LocalEvent.Take c.args.letter ∷ []) l [] [])
     (sym stays.0) c.in_ok-take_reply.ensures.done in
     IfOk-weaker c.lead.result _ _
-    (λ progress led. done_by (all_by {letter = c.args.letter} c.repeats-again.result first c.in_ok-settle.ensures.done c.grow.ensures led))
+    (λ progress led. done_by (all_by {letter = c.args.letter} c.repeats-again.result first c.in_ok-query.ensures.done
+    c.in_ok-settle.ensures.done c.grow.ensures led))
     c.lead.ensures.done
 
 pub returns-clause-taken : goal.returns-clause-taken
@@ -42,8 +43,8 @@ returns-clause-taken c =
     (sym stays.0) c.in_ok-take_reply.ensures.done in
     let waits = subst (λ (l : LocalObject). (returned : Option (List ℕ)) → CanEndEarly l id returned → ⊥) (sym stays.0) stays.1 in
     IfOk-weaker c.lead.result _ _
-    (λ progress led. goes_on {letter = c.args.letter} c.repeats-again.result first c.in_ok-settle.ensures.done c.grow.ensures led
-    (sym c.is_taken.ensures ∙ c.if-not-is_taken.false) c.repeats-again.ensures waits)
+    (λ progress led. goes_on {letter = c.args.letter} c.repeats-again.result first c.in_ok-query.ensures.done
+    c.in_ok-settle.ensures.done c.grow.ensures led (sym c.is_taken.ensures ∙ c.if-not-is_taken.false) c.repeats-again.ensures waits)
     c.lead.ensures.done
 
 pub returns-then-not-is_taken-clause-taken : goal.returns-then-not-is_taken-clause-taken
