@@ -10,10 +10,10 @@ use Rattle.bank.specs.declared.reply.Reply.{Reply}
 use Rattle.encoder.specs.Fragment.{fragment}
 use Rattle.layout.specs.Layout.{Layout}
 use Rattle.local_object.specs.declared.report.Report.{Report}
-use Rattle.local_object.specs.Events.{advanced_at, advanced_here, ended_here, pieces_here}
+use Rattle.local_object.specs.Events.{advanced_at, advanced_here, ended_here, pieces_here, queried_here}
 use Rattle.local_object.specs.Local.{LocalObject, Place, layout_here}
 use Rattle.local_object.specs.Outcomes.{Outcome, begun_here, is_read, on_open_call}
-use Rattle.local_object.specs.Reports.{without_reports}
+use Rattle.local_object.specs.Reports.{tags_told, without_reports}
 use Rattle.local_object.specs.Starting.{reading_call, reads_at}
 use Rattle.local_object.specs.Taking.{knows_next}
 use Rattle.mail.specs.Phase.{Phase, after_body, has_taken, is_current, with_reply}
@@ -22,6 +22,7 @@ use Rattle.mail.specs.declared.message.Body.TheVariants as body
 use Rattle.mail.specs.declared.message.Message.{Message}
 use Rattle.node_messages.specs.Message.{IsAnswer, IsBody, IsKind}
 use Rattle.open_calls.specs.OpenCalls.{NodeCall, due_phase, open_call, stage_reached, taking_open, with_open, without_call}
+use Rattle.open_calls.specs.Queries.{queried}
 use Rattle.open_calls.proofs.OpenCallLemmas.{all_filter, all_with, found}
 use Rattle.record.specs.PhaseOrder.{begun_at}
 use Rattle.record.specs.Steps.{new_phase}
@@ -30,9 +31,11 @@ use Rattle.record.specs.declared.stage.Stage.{Stage}
 use Rattle.fitting.specs.Calls.{IsFitCall, IsFitStage, IsFitTaken, WritesShort}
 use Rattle.fitting.specs.Events.{HasRoomFor}
 use Rattle.fitting.specs.Letters.{IsFitLayout, IsFitLetter}
-use Rattle.fitting.specs.Objects.{IsFitObject}
+use Rattle.fitting.specs.Objects.{IsFitObject, IsFitReport}
+use Rattle.fitting.proofs.BankLemmas.{opening_fit}
 use Rattle.fitting.proofs.ListLemmas.{all_push}
 use Rattle.fitting.proofs.KnownLemmas.{known_fit, known_small}
+use Rattle.fitting.proofs.ReportLemmas.{reports_filter, told_taken}
 use Rattle.fitting.proofs.RequestLemmas.{IsFitFor, knows_fit, pieces_fit, requests_fit}
 use Rattle.fitting.proofs.StageLemmas.{begun_stage, due_kind}
 
@@ -41,22 +44,25 @@ pub record IsFitOutcome (done : Outcome) : Type 0 where
   pub local : IsFitObject done.local
   pub sent : AllByRecursion IsFitLetter done.sent
 
--- other calls are open, which were told anything
+-- other calls are open, which were told these
 pub calls_fit : (local : LocalObject) (calls : List NodeCall) (reports : List Report) → IsFitObject local →
-    AllByRecursion (IsFitCall local.places) calls → IsFitObject (record local { calls = calls; reports = reports })
-calls_fit local calls reports fit new = record { start = fit.start; places = fit.places; calls = new }
+    AllByRecursion IsFitReport reports → AllByRecursion (IsFitCall local.places) calls →
+    IsFitObject (record local { calls = calls; reports = reports })
+calls_fit local calls reports fit told new = record { start = fit.start; places = fit.places; calls = new; reports = told }
 
 -- one call changed
-pub call_fit : (local : LocalObject) (call : NodeCall) (reports : List Report) → IsFitObject local → IsFitCall local.places call →
+pub call_fit : (local : LocalObject) (call : NodeCall) (reports : List Report) → IsFitObject local →
+    AllByRecursion IsFitReport reports → IsFitCall local.places call →
     IsFitObject (record local { calls = with_open call local.calls; reports = reports })
-call_fit local call reports fit new =
-    calls_fit local (with_open call local.calls) reports fit
+call_fit local call reports fit told new =
+    calls_fit local (with_open call local.calls) reports fit told
     (all_with (IsFitCall local.places) (IsFitCall local.places) call local.calls fit.calls new (λ other apart is. is))
 
 -- a call ended
 pub ended_fit : (local : LocalObject) (id : ℕ) → IsFitObject local → IsFitObject (ended_here local id)
 ended_fit local id fit =
     calls_fit local (without_call id local.calls) (without_reports id local.reports) fit
+    (reports_filter (λ report. not (report.call == id)) local.reports fit.reports)
     (all_filter (IsFitCall local.places) (λ call. not (call.id == id)) local.calls fit.calls)
 
 -- what is done with an open call
@@ -97,7 +103,8 @@ begun_fit local id call_kind at k number q (Some layout) fit known small short r
       next = next;
       replies = tt;
     } in record {
-      local = calls_fit local (local.calls ++ new ∷ []) local.reports fit (all_push (IsFitCall local.places) local.calls new fit.calls is);
+      local = calls_fit local (local.calls ++ new ∷ []) local.reports fit fit.reports
+          (all_push (IsFitCall local.places) local.calls new fit.calls is);
       sent = requests_fit local (knows_fit local fit) (is_read call_kind) layout id number k q empty_piece
           (subst (λ (l : Option Layout). IfSome l IsFitLayout) known (known_fit local fit q)) small room
           (known_small local fit q layout known) tag next (λ m within. pieces m);
@@ -123,7 +130,7 @@ advanced_fit local call k q (Some layout) fit known is due room =
       next = room.next;
       replies = tt;
     } in record {
-      local = call_fit local new local.reports fit new_is;
+      local = call_fit local new local.reports fit fit.reports new_is;
       sent = requests_fit local (knows_fit local fit) false layout call.id (suc call.phase.number) k q
           (pieces_here fragment layout call) lawful is.id room.number
           (known_small local fit q layout known) tag room.next (pieces_fit layout call k lawful room.sendable);
@@ -151,12 +158,30 @@ reads_fit local call number q (Some layout) fit known is room =
       next = refl;
       replies = tt;
     } in record {
-      local = call_fit local (reading_call call number q layout) local.reports fit new_is;
+      local = call_fit local (reading_call call number q layout) local.reports fit fit.reports new_is;
       sent = requests_fit local (knows_fit local fit) (is_read call.kind) layout call.id number kind.Next q empty_piece
           (subst (λ (l : Option Layout). IfSome l IsFitLayout) known (known_fit local fit q)) is.id room
           (known_small local fit q layout known)
           tt refl (λ m within. tt);
     }
+
+-- the first reading of a call stands for its query
+pub asked_fit : (local : LocalObject) (call : NodeCall) (o : Option Layout) → IsFitObject local → IsFitCall local.places call →
+    suc call.phase.number < 2 ^ 32 → IsFitOutcome (queried_here local call o)
+asked_fit local call None fit is room = record { local = fit; sent = tt }
+asked_fit local call (Some layout) fit is room =
+    let told = tags_told layout call.id call.phase.number local.reports in
+    let new_is : IsFitCall local.places (queried call layout told) =
+    record {
+      id = is.id;
+      written = is.written;
+      settled = is.settled;
+      stage = opening_fit;
+      number = room;
+      kind = tt;
+      next = refl;
+      replies = told_taken layout call.id call.phase.number local.reports fit.reports;
+    } in record { local = call_fit local (queried call layout told) local.reports fit fit.reports new_is; sent = tt }
 
 -- Replies that are taken
 

@@ -4,7 +4,7 @@ use Rattle.bank.specs.declared.kind.Kind.TheVariants as kind
 use Rattle.bank.specs.declared.status.Status.TheVariants as status
 use Rattle.encoder.specs.Fragment.{fragment}
 use Rattle.letter.specs.declared.letter.Letter.{Letter}
-use Rattle.local_object.specs.Events.{LocalEvent, advanced_here, all_done, done_here, taking_here}
+use Rattle.local_object.specs.Events.{LocalEvent, advanced_here, all_done, done_here, queried_here, taking_here}
 use Rattle.local_object.specs.Local.{LocalObject, last_position, layout_here, told_start, with_heard}
 use Rattle.local_object.specs.Outcomes.{learnt_from, silent}
 use Rattle.local_object.specs.Starting.{anew_number, first_number, number_at, reads_here}
@@ -18,7 +18,9 @@ use Rattle.fitting.specs.Laws.{AllStayFit, StaysFit}
 use Rattle.fitting.specs.Letters.{IsFitLetter}
 use Rattle.fitting.specs.Objects.{IsFitObject}
 use Rattle.fitting.proofs.PlaceLemmas.{heard_fit, heard_known, learnt_fit}
-use Rattle.fitting.proofs.CallLemmas.{IsFitOutcome, begun_fit, call_fit, due_done, ended_fit, open_fit, reads_fit, taken_call}
+use Rattle.fitting.proofs.CallLemmas.{IsFitOutcome, asked_fit, begun_fit, call_fit, due_done, ended_fit, open_fit, reads_fit}
+use Rattle.fitting.proofs.CallLemmas.{taken_call}
+use Rattle.fitting.proofs.ReportLemmas.{reports_fit}
 use Rattle.fitting.proofs.RequestLemmas.{knows_fit, starts_fit}
 use Rattle.fitting.proofs.ServingLemmas.{served_fit}
 use Rattle.fitting.proofs.ClosingLemmas.{close_fit, raise_fit}
@@ -67,13 +69,15 @@ event_done local (LocalEvent.Take letter) fit room =
     open_fit next letter.message.call
     (λ call. silent (taking_here next call letter.message letter.told)) heard_is
     (λ call e is. record {
-      local = call_fit next (taking_open letter.message call) _ heard_is (taken_call next.places call letter.message room.0.body is);
+      local = call_fit next (taking_open letter.message call) _ heard_is
+          (reports_fit call.kind call.phase.number letter.message letter.told next.reports room.0.told heard_is.reports)
+          (taken_call next.places call letter.message room.0.body is);
       sent = tt;
     })
 event_done local (LocalEvent.Settle id value) fit room =
     open_fit local id (λ call. silent (record local { calls = with_open (record call { settled = Some value }) local.calls })) fit
     (λ call e is. record {
-      local = call_fit local (record call { settled = Some value }) local.reports fit (record {
+      local = call_fit local (record call { settled = Some value }) local.reports fit fit.reports (record {
         id = is.id;
         written = is.written;
         settled = room;
@@ -90,7 +94,7 @@ event_done local (LocalEvent.GiveUp id) fit room = record { local = ended_fit lo
 event_done local (LocalEvent.EndEarly id value) fit room = record { local = ended_fit local id fit; sent = tt }
 event_done local (LocalEvent.Close position) fit room = record { local = close_fit local position fit; sent = tt }
 event_done local (LocalEvent.Grow id) fit room = record {
-  local = record { start = omega (arith, room); places = fit.places; calls = fit.calls };
+  local = record { start = omega (arith, room); places = fit.places; calls = fit.calls; reports = fit.reports };
   sent = tt;
 }
 event_done local (LocalEvent.Hear letter) fit room = record { local = learnt_fit local letter room.0 room.1 fit; sent = tt }
@@ -101,6 +105,9 @@ event_done local (LocalEvent.ReadOn id) fit room =
 event_done local (LocalEvent.BeginAnew id) fit room =
     open_fit local id (λ call. reads_here local call (anew_number call local.start)) fit
     (λ call e is. reads_fit local call (anew_number call local.start) local.start (layout_here local local.start) fit refl is (room call e))
+event_done local (LocalEvent.Query id) fit room =
+    open_fit local id (λ call. queried_here local call (layout_here local call.phase.position)) fit
+    (λ call e is. asked_fit local call (layout_here local call.phase.position) fit is (room call e))
 event_done local (LocalEvent.Raise position) fit room = record { local = raise_fit local position room fit; sent = tt }
 
 pub event_fit : StaysFit

@@ -17,6 +17,7 @@ use Rattle.local_object.specs.Events.{LocalEvent, all_done, done_here}
 use Rattle.local_object.specs.Going.{next_here, next_if, unless_unsettled}
 use Rattle.local_object.specs.Leaving.{final_position, is_at}
 use Rattle.local_object.specs.Local.{LocalObject, layout_here}
+use Rattle.local_object.specs.Querying.{is_to_query, is_told_by_quorum, query_by, query_events, stands_for_query}
 use Rattle.local_object.specs.Starting.{first_number}
 use Rattle.local_object.specs.Taking.{AreSettling, begin_anew_events, begin_events, call_events, can_begin, can_begin_anew, grow_events}
 use Rattle.local_object.specs.Taking.{grows_by, is_read_begin, knows_next, lead_events, machine_of, step_events}
@@ -186,3 +187,31 @@ grow_room local id = go (open_call local.calls id)
 pub settle_room : (local : LocalObject) (id : ℕ) (events : List LocalEvent) → AreSettling local id events → HaveRoom local events
 settle_room local id events (inl none) = subst (HaveRoom local) (sym none.0) tt
 settle_room local id events (inr some) = subst (HaveRoom local) (sym some.2) (some.1.fetched.decoded.lawful.longest, tt)
+
+-- The first reading of a call stands for its query only if there is a number for the query's phase
+
+standing_small : (local : LocalObject) (call : NodeCall) → stands_for_query local call ≡ true → suc call.phase.number < 2 ^ 32
+standing_small local call stands =
+    let told = is_told_by_quorum (layout_here local call.phase.position) call.id call.phase.number local.reports in
+    let rest = and_parts (is_to_query (machine_of call)) (nat_lt (call.phase.number + 1) (2 ^ 32) && told) stands in
+    let small = ltb-true (call.phase.number + 1) (2 ^ 32) (and_parts (nat_lt (call.phase.number + 1) (2 ^ 32)) told rest.1).0 in
+    omega (arith, small)
+
+pub query_room : (local : LocalObject) (id : ℕ) → IsFitObject local → HaveRoom local (query_events local id)
+query_room local id fit = go (open_call local.calls id) refl
+  where
+    room : (call : NodeCall) → open_call local.calls id ≡ Some call → stands_for_query local call ≡ true →
+        HasRoom local (LocalEvent.Query call.id)
+    room call here stands other at =
+        let own = found (IsFitCall local.places) local.calls id call fit.calls here in
+        let there : open_call local.calls call.id ≡ Some call = ap (open_call local.calls) own.1 ∙ here in
+        subst (λ (c : NodeCall). suc c.phase.number < 2 ^ 32) (same_Some call other (sym there ∙ at)) (standing_small local call stands)
+
+    test : (call : NodeCall) → open_call local.calls id ≡ Some call → (b : Bool) → stands_for_query local call ≡ b →
+        HaveRoom local (cond b (LocalEvent.Query call.id ∷ []) [])
+    test call here true stands = (room call here stands, tt)
+    test call here false stands = tt
+
+    go : (o : Option NodeCall) → open_call local.calls id ≡ o → HaveRoom local (query_by local o)
+    go None e = tt
+    go (Some call) e = test call e (stands_for_query local call) refl

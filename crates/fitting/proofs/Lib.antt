@@ -4,6 +4,7 @@ pub mod PlaceLemmas
 pub mod KnownLemmas
 pub mod StageLemmas
 pub mod RequestLemmas
+pub mod ReportLemmas
 pub mod CallLemmas
 pub mod ReplyLemmas
 pub mod ServingLemmas

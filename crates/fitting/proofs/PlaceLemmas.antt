@@ -106,6 +106,7 @@ module _ (local : LocalObject) (p : ℕ) (layout : Layout) where
     places = added_fit (heard_place local.places p) small lawful
         (places_more local.places more_places heard_more local.places fit.places);
     calls = calls_more local.places more_places heard_more local.calls fit.calls;
+    reports = fit.reports;
   }
 
 heard_if : (local : LocalObject) (p : ℕ) (o : Option Layout) → p < 2 ^ 32 → IfSome o IsFitLayout → IsFitObject local →
@@ -120,6 +121,7 @@ start_fit local start is fit = record {
   start = go (is_later_start local start) refl;
   places = heard.places;
   calls = heard.calls;
+  reports = heard.reports;
 }
   where
     heard : IsFitObject (with_heard local start.position start.layout)
@@ -203,6 +205,7 @@ module _ (local : LocalObject) (p : ℕ) (bank : Option KeptBank) where
     places = put_places put.places p bank kept (λ says. put_more (suc p) (here says)) local.places
         (places_more local.places put.places put_more local.places fit.places);
     calls = calls_more local.places put.places put_more local.calls fit.calls;
+    reports = fit.reports;
   }
 
 -- A new object
@@ -212,4 +215,5 @@ new_fit node delta first lawful = record {
   start = omega arith;
   places = (record { position = omega arith; layout = lawful; bank = tt; next = λ says. absurd (cc) }, tt);
   calls = tt;
+  reports = tt;
 }

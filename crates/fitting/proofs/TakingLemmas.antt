@@ -10,7 +10,8 @@ use Rattle.local_object.specs.Doing.{is_taken}
 use Rattle.local_object.specs.Ended.{all_told, early_value_of, told, told_early_if, told_if}
 use Rattle.local_object.specs.Events.{LocalEvent, all_done, done_here}
 use Rattle.local_object.specs.Local.{LocalObject}
-use Rattle.local_object.specs.Replies.{GoesOn, IsReplyOutcome}
+use Rattle.local_object.specs.Querying.{query_events}
+use Rattle.local_object.specs.Replies.{GoesOn, IsReplyOutcome, after_taking, taking_events}
 use Rattle.local_object.specs.Taking.{IsOutcomeWithAnswers, going_events, grow_events, lead_events, repeats}
 use Rattle.local_object.specs.declared.progress.Ended.{Ended}
 use Rattle.mail.specs.Message.{is_request}
@@ -27,7 +28,7 @@ use Rattle.fitting.specs.Objects.{IsFitObject}
 use Rattle.fitting.specs.Outcomes.{IsShortEnded, TakingStaysFit}
 use Rattle.fitting.proofs.EarlyLemmas.{early_short}
 use Rattle.fitting.proofs.EventLemmas.{event_fit}
-use Rattle.fitting.proofs.GoingLemmas.{grow_room, lead_room, leave_fit, settle_room, then_room}
+use Rattle.fitting.proofs.GoingLemmas.{grow_room, lead_room, leave_fit, query_room, settle_room, then_room}
 
 -- Replies that are taken
 
@@ -62,6 +63,7 @@ told_here local (LocalEvent.Redirect letter) fit room = tt
 told_here local (LocalEvent.ReadOn id) fit room = tt
 told_here local (LocalEvent.BeginAnew id) fit room = tt
 told_here local (LocalEvent.Raise position) fit room = tt
+told_here local (LocalEvent.Query id) fit room = tt
 told_here local (LocalEvent.EndEarly id value) fit room = go (open_call local.calls id) refl
   where
     short : (k : CallKind) → WritesShort k → IfSome (early_value_of k value) IsShortValue
@@ -91,15 +93,20 @@ answers_fit old events new sent ended fit room done =
 
 goes_on_room : (old new : LocalObject) (letter : Letter) (sent : List Letter) (ended : List Ended) → IsFitObject old →
     IsFitLetter letter → suc letter.message.position < 2 ^ 32 → (goes : GoesOn old letter new sent ended) →
-    HaveRoom old (LocalEvent.Take letter ∷ goes.settling ++ going_events (repeats old letter)
-    (all_done fragment old (LocalEvent.Take letter ∷ goes.settling)).local letter.message.call)
+    HaveRoom old (taking_events old letter ++ goes.settling ++ going_events (repeats old letter)
+    (all_done fragment old (taking_events old letter ++ goes.settling)).local letter.message.call)
 goes_on_room old new letter sent ended fit is room goes =
     let id = letter.message.call in
-    let first = LocalEvent.Take letter ∷ goes.settling in
+    let took = after_taking old letter in
+    let asked = query_events took id in
+    let taking = taking_events old letter in
+    let first = taking ++ goes.settling in
     let again = repeats old letter in
     let settled = (all_done fragment old first).local in
+    let taken = (event_fit old (LocalEvent.Take letter) fit (is, room)).0 in
     then_room old first (going_events again settled id) fit
-    ((is, room), settle_room (done_here fragment old (LocalEvent.Take letter)).local id goes.settling goes.settles)
+    (then_room old taking goes.settling fit ((is, room), query_room took id taken)
+    (λ asked_fit. settle_room (all_done fragment old taking).local id goes.settling goes.settles))
     (λ settled_fit.
     let grown = (all_done fragment settled (grow_events settled id)).local in
     then_room settled (grow_events settled id) (lead_events again grown id) settled_fit (grow_room settled id)

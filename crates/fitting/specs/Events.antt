@@ -47,6 +47,8 @@ HasRoom local (LocalEvent.BeginAnew id) =
     (call : NodeCall) → open_call local.calls id ≡ Some call → anew_number call local.start < 2 ^ 32
 HasRoom local (LocalEvent.Raise position) = IsSome (layout_here local (suc position))
 HasRoom local (LocalEvent.EndEarly id value) = IfSome value IsShortValue
+HasRoom local (LocalEvent.Query id) =
+    (call : NodeCall) → open_call local.calls id ≡ Some call → suc call.phase.number < 2 ^ 32
 
 -- each of these events has room, one after another
 abbrev pub HaveRoom : LocalObject → List LocalEvent → Type 0

@@ -12,6 +12,7 @@ use Rattle.local_object.specs.Local.{LocalObject, Place, heard_place, layout_in}
 use Rattle.local_object.specs.Starting.{first_number}
 use Rattle.local_object.specs.declared.kept_bank.KeptBank.{KeptBank}
 use Rattle.local_object.specs.declared.kept_bank.KeptBank.TheVariants as kept
+use Rattle.local_object.specs.declared.report.Report.{Report}
 use Rattle.mail.specs.Message.{status_names_next}
 use Rattle.node_messages.specs.Message.{IsTag}
 use Rattle.tag.specs.declared.tag.Tag.{Tag}
@@ -50,9 +51,14 @@ pub record IsFitPlace (places : List Place) (place : Place) : Type 0 where
   pub bank : IfSome place.bank IsFitKept
   pub next : says_next place.bank ≡ true → IsSome (layout_in (heard_place places (suc place.position)))
 
--- an object of a node is fit: its places and its calls are, and there is a number for the first phase of a call that
--- begins at its start
+-- the numbers of the tag that a member told are within their bits
+abbrev pub IsFitReport : Report → Type 0
+IsFitReport report = IsTag report.telling.greatest
+
+-- an object of a node is fit: its places and its calls are, the tags that its calls were told are within their bits,
+-- and there is a number for the first phase of a call that begins at its start
 pub record IsFitObject (local : LocalObject) : Type 0 where
   pub start : first_number local.start < 2 ^ 32
   pub places : AllByRecursion (IsFitPlace local.places) local.places
   pub calls : AllByRecursion (IsFitCall local.places) local.calls
+  pub reports : AllByRecursion IsFitReport local.reports

@@ -8,7 +8,8 @@ use Rattle.record.specs.declared.call.CallKind.{CallKind}
 use Rattle.record.specs.declared.stage.Stage.{Stage}
 use Rattle.open_calls.specs.OpenCalls.{NodeCall, due_phase, open_call, with_open}
 use Rattle.local_object.specs.Local.{LocalObject, last_position, layout_here, with_heard, new_local}
-use Rattle.local_object.specs.Events.{LocalEvent, advanced_at, advanced_here, done_here, served_here, taking_here}
+use Rattle.local_object.specs.Events.{LocalEvent, advanced_at, advanced_here, done_here, queried_here, served_here}
+use Rattle.local_object.specs.Events.{taking_here}
 use Rattle.local_object.specs.Outcomes.{Outcome, begun_here, learnt_from, on_open_call, silent}
 use Rattle.local_object.specs.Starting.{anew_number, number_at, reads_at, reads_here}
 use Rattle.local_object.specs.May.{MayHappenHere}
@@ -42,6 +43,11 @@ advanced_rebuildable local call (Some next) is = go (layout_here local next.1)
     go : (o : Option Layout) → IsRebuildable (advanced_at fragment local call next o).local
     go None = is
     go (Some layout) = record { apart = is.apart; places = is.places }
+
+queried_rebuildable : (local : LocalObject) (call : NodeCall) (o : Option Layout) → IsRebuildable local
+    → IsRebuildable (queried_here local call o).local
+queried_rebuildable local call None is = is
+queried_rebuildable local call (Some layout) is = record { apart = is.apart; places = is.places }
 
 called_rebuildable : (local : LocalObject) (o : Option NodeCall) (change : NodeCall → Outcome) → IsRebuildable local
     → ((call : NodeCall) → IsRebuildable (change call).local) → IsRebuildable (on_open_call local o change).local
@@ -90,3 +96,7 @@ stays_rebuildable local (LocalEvent.BeginAnew id) is may fit =
     (λ call. reads_rebuildable local call (anew_number call local.start) local.start (layout_here local local.start) is)
 stays_rebuildable local (LocalEvent.Raise position) is may fit = raise_rebuildable local position is may.bank
 stays_rebuildable local (LocalEvent.EndEarly id value) is may fit = record { apart = is.apart; places = is.places }
+stays_rebuildable local (LocalEvent.Query id) is may fit =
+    called_rebuildable local (open_call local.calls id)
+    (λ call. queried_here local call (layout_here local call.phase.position)) is
+    (λ call. queried_rebuildable local call (layout_here local call.phase.position) is)

@@ -27,6 +27,7 @@ use Rattle.local_object.specs.Taking.{step_events}
 use Rattle.local_object.proofs.HeardLayoutLemmas.{calls_heard}
 use Rattle.recoveries.proofs.HeardLetterLemmas.{letter_alone}
 use Rattle.recoveries.proofs.KeptCallLemmas.{IsObjectCopy, found_id, moves_call, with_client, without_client}
+use Rattle.recoveries.proofs.QueriedLemmas.{after_reply, client_queries}
 use Rattle.recoveries.proofs.TwinLemmas.{advanced_is, found_new, settled_is, taken_is}
 use Rattle.recoveries.proofs.GrownStartLemmas.{grow_alone, grown, grown_found}
 use Rattle.recoveries.proofs.TakenReplyLemmas.{going_is, gone_on, taken_to}
@@ -171,9 +172,11 @@ module _ (moves : Type 0) (local copy : LocalObject) (is : IsObjectCopy moves lo
     client_went_on : (new : LocalObject) (sent : List Letter) (ended : List Ended) → GoesOn local letter new sent ended →
         IsObjectCopy moves new copy
     client_went_on new sent ended goes =
+        let id = letter.message.call in
+        let asked = client_queries moves taken copy client_took id (taking_open letter.message call) taken_found client in
         subst (λ l. IsObjectCopy moves l copy) (sym (taken_to local letter new sent ended goes))
-        (client_goes_on (repeats local letter) moves taken copy client_took letter.message.call (taking_open letter.message call)
-        taken_found client goes.settling goes.settles)
+        (client_goes_on (repeats local letter) moves (after_reply local letter) copy asked.is id asked.call asked.found asked.client
+        goes.settling goes.settles)
 
     client_taken : (new : LocalObject) (sent : List Letter) (ended : List Ended) → IsReplyOutcome true local letter new sent ended →
         IsObjectCopy moves new copy

@@ -25,7 +25,8 @@ use Rattle.record.specs.Sending.{request_to, requests}
 use Rattle.letter.specs.declared.letter.Letter.{Letter}
 use Rattle.letter.specs.declared.start.Start.{Start}
 use Rattle.letter.specs.declared.telling.Telling.{Telling}
-use Rattle.local_object.specs.Events.{LocalEvent, advanced_at, advanced_here, done_here, pieces_here, reply_letters, served_here}
+use Rattle.local_object.specs.Events.{LocalEvent, advanced_at, advanced_here, done_here, pieces_here, queried_here}
+use Rattle.local_object.specs.Events.{reply_letters, served_here}
 use Rattle.local_object.specs.Outcomes.{begun_here, if_pointed, is_read, learnt_from, letter_of, next_in_answer, next_in_request}
 use Rattle.local_object.specs.Outcomes.{on_open_call, silent}
 use Rattle.local_object.specs.Sent.{asks_piece}
@@ -133,6 +134,17 @@ silent_lawful : (local : LocalObject) (call : Option NodeCall) (change : NodeCal
 silent_lawful local None change = tt
 silent_lawful local (Some call) change = tt
 
+queried_lawful : (local : LocalObject) (call : NodeCall) (o : Option Layout) →
+    AllByRecursion HasLawfulLayouts (queried_here local call o).sent
+queried_lawful local call None = tt
+queried_lawful local call (Some layout) = tt
+
+asked_lawful : (local : LocalObject) (call : Option NodeCall) →
+    AllByRecursion HasLawfulLayouts (on_open_call local call
+    (λ c. queried_here local c (layout_here local c.phase.position))).sent
+asked_lawful local None = tt
+asked_lawful local (Some call) = queried_lawful local call (layout_here local call.phase.position)
+
 served_lawful : (local : LocalObject) (letter : Letter) (b : Body) → IsRebuildable local → IsLawful letter.layout →
     AllByRecursion HasLawfulLayouts (served_here local letter b).sent
 served_lawful local letter (body.Request asked) is lawful = go _ (kept_reply (bank_here local q letter.message.member) asked)
@@ -175,6 +187,7 @@ event_lawful local (LocalEvent.ReadOn id) is may fit =
     reading_lawful local (open_call local.calls id) (λ call. number_at call local.start) is
 event_lawful local (LocalEvent.BeginAnew id) is may fit =
     reading_lawful local (open_call local.calls id) (λ call. anew_number call local.start) is
+event_lawful local (LocalEvent.Query id) is may fit = asked_lawful local (open_call local.calls id)
 
 -- Letters that are sent again
 

@@ -4,6 +4,7 @@ pub mod HeardLetterLemmas
 pub mod KeptCallLemmas
 pub mod EarlyMoveLemmas
 pub mod TwinLemmas
+pub mod QueriedLemmas
 pub mod GrownStartLemmas
 pub mod SameStepLemmas
 pub mod SettlingLemmas

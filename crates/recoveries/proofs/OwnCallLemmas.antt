@@ -11,7 +11,7 @@ use Rattle.deeds.proofs.IdLemmas.{given_later, later_then, next_later}
 use Rattle.open_calls.proofs.ListLemmas.{all_append, all_weaker}
 use Rattle.encoder.specs.Fragment.{fragment}
 use Rattle.layout.specs.Layout.{Layout}
-use Rattle.local_object.specs.Events.{LocalEvent, advanced_here, done_here, taking_here}
+use Rattle.local_object.specs.Events.{LocalEvent, advanced_here, done_here, queried_here, taking_here}
 use Rattle.local_object.specs.Outcomes.{begun_here, learnt_from, silent}
 use Rattle.local_object.specs.Starting.{anew_number, number_at, reads_here}
 use Rattle.local_object.specs.Local.{LocalObject, last_position, layout_here, with_heard}
@@ -21,7 +21,8 @@ use Rattle.record.specs.Legal.{is_move}
 use Rattle.record.specs.declared.call.CallKind.{CallKind}
 use Rattle.record.specs.declared.stage.Stage.{Stage}
 use Rattle.open_calls.proofs.DistinctCallLemmas.{distinct_push}
-use Rattle.recoveries.proofs.StayingCallLemmas.{due_own, filter_own, letter_same, on_open_same, reads_own, served_own, with_own}
+use Rattle.recoveries.proofs.StayingCallLemmas.{due_own, filter_own, letter_same, on_open_same, queried_own, reads_own}
+use Rattle.recoveries.proofs.StayingCallLemmas.{served_own, with_own}
 use Rattle.recoveries.specs.OwnCalls.{AreOwnCalls, HandlingKeepsOwnCalls, NewNodesHaveOwnCalls, RestartingKeepsOwnCalls, WasGiven}
 
 -- Ids
@@ -134,6 +135,10 @@ event_own local (LocalEvent.BeginAnew id) before after same within own =
     subst (λ ids. AreOwnCalls ids (done_here fragment local (LocalEvent.BeginAnew id)).local.calls) same
     (on_open_same local (open_call local.calls id) (λ call. reads_here local call (anew_number call local.start))
     (λ call. reads_own local call (anew_number call local.start) local.start (layout_here local local.start)) before own)
+event_own local (LocalEvent.Query id) before after same within own =
+    subst (λ ids. AreOwnCalls ids (done_here fragment local (LocalEvent.Query id)).local.calls) same
+    (on_open_same local (open_call local.calls id) (λ call. queried_here local call (layout_here local call.phase.position))
+    (λ call. queried_own local call (layout_here local call.phase.position)) before own)
 
 -- Deeds
 

@@ -47,6 +47,7 @@ event_fit got name (LocalEvent.Hear letter) lawful fed = of_one IsLawfulLetter g
 event_fit got name (LocalEvent.Redirect letter) lawful fed = of_one IsLawfulLetter got lawful fed.0 _ fed.1
 event_fit got name (LocalEvent.ReadOn id) lawful fed = tt
 event_fit got name (LocalEvent.BeginAnew id) lawful fed = tt
+event_fit got name (LocalEvent.Query id) lawful fed = tt
 
 named_lawful : (name : List ℕ) (letters : List Letter) → AllByRecursion HasLawfulLayouts letters →
     AllByRecursion IsLawfulLetter (with_names name letters)

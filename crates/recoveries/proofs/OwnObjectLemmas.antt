@@ -11,7 +11,8 @@ use Rattle.record.specs.declared.stage.Stage.{Stage}
 use Rattle.open_calls.specs.OpenCalls.{NodeCall, due_phase, open_call, with_open}
 use Rattle.letter.specs.declared.letter.Letter.{Letter}
 use Rattle.letter.specs.declared.start.Start.{Start}
-use Rattle.local_object.specs.Events.{LocalEvent, advanced_at, advanced_here, all_done, done_here, served_here, taking_here}
+use Rattle.local_object.specs.Events.{LocalEvent, advanced_at, advanced_here, all_done, done_here, queried_here, served_here}
+use Rattle.local_object.specs.Events.{taking_here}
 use Rattle.local_object.specs.Outcomes.{Outcome, begun_here, layouts_learnt, learnt_from, on_open_call, silent}
 use Rattle.local_object.specs.Starting.{anew_number, number_at, reads_at, reads_here}
 use Rattle.local_object.specs.Local.{LocalObject, heard_start_if, last_position, layout_here, learnt_if, with_heard}
@@ -94,6 +95,11 @@ module _ (q : ℕ) (layout : Layout) where
   reads_same local call number start None = itself local
   reads_same local call number start (Some other) = record { node = refl; delta = refl; known = λ e. e }
 
+  queried_same : (local : LocalObject) (call : NodeCall) (o : Option Layout)
+      → StaysSame q layout local (queried_here local call o).local
+  queried_same local call None = itself local
+  queried_same local call (Some other) = record { node = refl; delta = refl; known = λ e. e }
+
   served_same : (local : LocalObject) (letter : Letter) (b : Body) → StaysSame q layout local (served_here local letter b).local
   served_same local letter (body.Request asked) = record {
     node = refl;
@@ -151,6 +157,9 @@ module _ (q : ℕ) (layout : Layout) where
   event_same local (LocalEvent.BeginAnew id) =
       called_same local (open_call local.calls id) (λ call. reads_here local call (anew_number call local.start))
       (λ call. reads_same local call (anew_number call local.start) local.start (layout_here local local.start))
+  event_same local (LocalEvent.Query id) =
+      called_same local (open_call local.calls id) (λ call. queried_here local call (layout_here local call.phase.position))
+      (λ call. queried_same local call (layout_here local call.phase.position))
 
 -- Events keep an object the node's own
 

@@ -17,7 +17,8 @@ use Rattle.layout.specs.Layout.{Layout}
 use Rattle.local_object.specs.Local.{LocalObject, Place, with_heard}
 use Rattle.local_object.proofs.HeardPlaceLemmas.{layout_stays}
 use Rattle.object_letters.proofs.HeardPositionLemmas.{heard_rebuildable}
-use Rattle.local_object.specs.Replies.{IsReplyOutcome}
+use Rattle.local_object.specs.Querying.{query_by, query_events, stands_for_query}
+use Rattle.local_object.specs.Replies.{IsReplyOutcome, after_taking, taking_events}
 use Rattle.local_object.specs.Taking.{AreSettling, begin_anew_events, begin_events, call_events, can_begin}
 use Rattle.local_object.specs.Taking.{can_begin_anew, going_events, grow_events, grows_by, is_read_begin, lead_events, machine_of}
 use Rattle.local_object.specs.Taking.{repeats, restart_events, step_events}
@@ -96,6 +97,15 @@ going_fit again local id =
     all_append IsFit (grow_events local id) (lead_events again grown id) (grow_fit local id)
     (call_fit again grown (open_call grown.calls id))
 
+-- the event by which a first reading stands for its query has no letter either
+query_fit : (local : LocalObject) (call : Option NodeCall) → AllByRecursion IsFit (query_by local call)
+query_fit local None = tt
+query_fit local (Some call) = go (stands_for_query local call)
+  where
+    go : (b : Bool) → AllByRecursion IsFit (cond b (LocalEvent.Query call.id ∷ []) [])
+    go true = (tt, tt)
+    go false = tt
+
 settling_fit : (local : LocalObject) (id : ℕ) (events : List LocalEvent) → AreSettling local id events → AllByRecursion IsFit events
 settling_fit local id events (inl none) = subst (λ (es : List LocalEvent). AllByRecursion IsFit es) (sym none.0) tt
 settling_fit local id events (inr some) = subst (λ (es : List LocalEvent). AllByRecursion IsFit es) (sym some.2) (tt, tt)
@@ -112,13 +122,16 @@ take_own old new name letter local sent ended lawful put own true (inl early) =
 take_own old new name letter local sent ended lawful put own true (inr taken) =
     let before = old.objects name in
     let id = letter.message.call in
-    let first = LocalEvent.Take letter ∷ taken.settling in
+    let took = after_taking before letter in
+    let asked = query_events took id in
+    let first = taking_events before letter ++ taken.settling in
     let again = repeats before letter in
     let leads = going_events again (all_done fragment before first).local id in
-    done_own old new name local (LocalEvent.Take letter ∷ taken.settling ++ leads) sent (
+    done_own old new name local (taking_events before letter ++ taken.settling ++ leads) sent (
       lawful,
-      all_append IsFit taken.settling leads
-          (settling_fit (all_done fragment before (LocalEvent.Take letter ∷ [])).local id taken.settling taken.settles)
+      all_append IsFit (asked ++ taken.settling) leads
+          (all_append IsFit asked taken.settling (query_fit took (open_call took.calls id))
+          (settling_fit (all_done fragment before (taking_events before letter)).local id taken.settling taken.settles))
           (going_fit again (all_done fragment before first).local id),
     )
     taken.leads.done put own

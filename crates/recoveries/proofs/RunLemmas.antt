@@ -5,7 +5,7 @@ use Rattle.encoder.specs.Fragment.{fragment}
 use Rattle.letter.specs.declared.letter.Letter.{Letter}
 use Rattle.local_object.specs.declared.progress.Ended.{Ended}
 use Rattle.local_object.specs.Doing.{close_events, is_taken, serve_events}
-use Rattle.local_object.specs.Events.{LocalEvent, all_done, done_here}
+use Rattle.local_object.specs.Events.{LocalEvent, all_done}
 use Rattle.local_object.specs.Local.{LocalObject, with_heard}
 use Rattle.local_object.specs.Replies.{IsReplyOutcome}
 use Rattle.local_object.specs.Taking.{repeats}
@@ -14,6 +14,7 @@ use Rattle.deeds.specs.Kept.{KeptNode, new_node}
 use Rattle.deeds.specs.Named.{is_same_name, with_named}
 use Rattle.recoveries.specs.Laws.{CopiesRestart, MoreIsRecorded, NewIsRecorded, RecoveredNodesRestart, TwoAreLogged}
 use Rattle.recoveries.specs.Records.{IsNamedOutcome, IsKeptUnder, IsSame, LogRecord, Recovers, RecoversOne}
+use Rattle.recoveries.proofs.QueriedLemmas.{after_reply}
 use Rattle.recoveries.proofs.SettlingLemmas.{same_settling}
 use Rattle.recoveries.proofs.TakenReplyLemmas.{gone_on, taken_to}
 use Rattle.recoveries.proofs.NodeCopyLemmas.{new_copy, same_both, same_self, same_then, self_copy}
@@ -66,7 +67,7 @@ one_taken true local letter new other sent more ended told (inl first) (inr seco
 one_taken true local letter new other sent more ended told (inr first) (inl second) =
     absurd (first.waits second.returned second.can)
 one_taken true local letter new other sent more ended told (inr first) (inr second) =
-    let taken = (done_here fragment local (LocalEvent.Take letter)).local in
+    let taken = after_reply local letter in
     let id = letter.message.call in
     taken_to local letter other more told second
     ∙ ap (gone_on (repeats local letter) taken id)

@@ -8,7 +8,7 @@ use Rattle.encoder.specs.Fragment.{fragment}
 use Rattle.layout.specs.Layout.{Layout}
 use Rattle.letter.specs.declared.letter.Letter.{Letter}
 use Rattle.letter.specs.declared.start.Start.{Start}
-use Rattle.local_object.specs.Events.{advanced_at, advanced_here, served_here}
+use Rattle.local_object.specs.Events.{advanced_at, advanced_here, queried_here, served_here}
 use Rattle.local_object.specs.Outcomes.{Outcome, layouts_learnt, learnt_from, on_open_call}
 use Rattle.local_object.specs.Starting.{reads_at}
 use Rattle.local_object.specs.Local.{LocalObject, heard_start_if, layout_here, learnt_if, with_heard}
@@ -71,6 +71,10 @@ advanced_own local call next (Some layout) ids own = with_own _ local.calls ids 
 pub due_own : (local : LocalObject) (call : NodeCall) (o : Option (Kind × ℕ)) → StaysOwn local (advanced_here fragment local call o).local
 due_own local call None ids own = own
 due_own local call (Some next) ids own = advanced_own local call next (layout_here local next.1) ids own
+
+pub queried_own : (local : LocalObject) (call : NodeCall) (o : Option Layout) → StaysOwn local (queried_here local call o).local
+queried_own local call None ids own = own
+queried_own local call (Some layout) ids own = with_own _ local.calls ids own
 
 pub reads_own : (local : LocalObject) (call : NodeCall) (number start : ℕ) (o : Option Layout) →
     StaysOwn local (reads_at local call number start o).local

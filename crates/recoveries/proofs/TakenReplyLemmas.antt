@@ -15,6 +15,7 @@ use Rattle.local_object.specs.Events.{LocalEvent, all_done, done_here}
 use Rattle.local_object.specs.Outcomes.{learnt_from}
 use Rattle.local_object.specs.Going.{next_if}
 use Rattle.local_object.specs.Local.{LocalObject}
+use Rattle.local_object.specs.Querying.{query_events}
 use Rattle.local_object.specs.Replies.{GoesOn, IsReplyOutcome}
 use Rattle.local_object.specs.Taking.{AreSettling, begin_anew_events, begin_events, call_events, can_begin}
 use Rattle.local_object.specs.Taking.{going_events, grow_events, is_read_begin, is_repeated, lead_events, machine_of, repeats}
@@ -23,6 +24,7 @@ use Rattle.local_object.proofs.HeardLayoutLemmas.{calls_heard}
 use Rattle.recoveries.proofs.KeptPlaceLemmas.{layouts_kept}
 use Rattle.recoveries.proofs.KeptCallLemmas.{IsObjectCopy, found_copy, found_id, found_moves, moves_call}
 use Rattle.recoveries.proofs.EarlyMoveLemmas.{no_early_move}
+use Rattle.recoveries.proofs.QueriedLemmas.{after_reply, no_move_query, queried_by}
 use Rattle.recoveries.proofs.GrownStartLemmas.{both_grow, grown, grown_found}
 use Rattle.recoveries.proofs.SettlingLemmas.{same_settling}
 use Rattle.recoveries.proofs.SameStepLemmas.{no_move_anew, same_lead}
@@ -135,12 +137,16 @@ settle_both anew moves here local copy is id call found move es (inr some) =
 -- what it keeps after a reply was taken, and the call went on
 pub taken_to : (old : LocalObject) (letter : Letter) (new : LocalObject) (sent : List Letter) (ended : List Ended) →
     (taken : GoesOn old letter new sent ended) →
-    new ≡ gone_on (repeats old letter) (done_here fragment old (LocalEvent.Take letter)).local letter.message.call taken.settling
+    new ≡ gone_on (repeats old letter) (after_reply old letter) letter.message.call taken.settling
 taken_to old letter new sent ended taken =
+    let id = letter.message.call in
     let first = (done_here fragment old (LocalEvent.Take letter)).local in
+    let asked = query_events first id in
+    let settled = (all_done fragment first (asked ++ taken.settling)).local in
     taken.leads.done.local
-    ∙ all_done_both first taken.settling
-    (going_events (repeats old letter) (all_done fragment first taken.settling).local letter.message.call)
+    ∙ all_done_both first (asked ++ taken.settling) (going_events (repeats old letter) settled id)
+    ∙ ap (λ (l : LocalObject). (all_done fragment l (going_events (repeats old letter) l id)).local)
+    (all_done_both first asked taken.settling)
 
 module _ (moves : Type 0) (here : moves) (local copy : LocalObject) (is : IsObjectCopy moves local copy)
     (letter : Letter) (call : NodeCall) (found : open_call local.calls letter.message.call ≡ Some call)
@@ -167,6 +173,13 @@ module _ (moves : Type 0) (here : moves) (local copy : LocalObject) (is : IsObje
   found_second =
       found_copy moves first second took letter.message.call (taking_open letter.message call) found_first move
 
+  -- a move makes no query of its reading
+  first_alone : queried_by first letter.message.call ≡ first
+  first_alone = no_move_query first letter.message.call (taking_open letter.message call) found_first move
+
+  second_alone : queried_by second letter.message.call ≡ second
+  second_alone = no_move_query second letter.message.call (taking_open letter.message call) found_second move
+
   same_repeats : repeats copy letter ≡ repeats local letter
   same_repeats = ap (λ o. is_repeated o letter.message) (there ∙ sym found)
 
@@ -175,15 +188,19 @@ module _ (moves : Type 0) (here : moves) (local copy : LocalObject) (is : IsObje
   goes_on_both new copied sent more ended told taken retaken =
       let id = letter.message.call in
       let anew = repeats local letter in
+      let settles = subst (λ l. AreSettling l id taken.settling) first_alone taken.settles in
       let one = same_settling first second id (found_second ∙ sym found_first) (layouts_kept moves first second took.kept here)
-      taken.settling retaken.settling taken.settles retaken.settles in
-      subst (λ l. IsObjectCopy moves l copied) (sym (taken_to local letter new sent ended taken))
+      taken.settling retaken.settling settles
+      (subst (λ l. AreSettling l id retaken.settling) second_alone retaken.settles) in
+      subst (λ l. IsObjectCopy moves l copied)
+      (sym (taken_to local letter new sent ended taken ∙ ap (λ l. gone_on anew l id taken.settling) first_alone))
       (subst (IsObjectCopy moves (gone_on anew first id taken.settling))
       (ap (gone_on anew second id) one
       ∙ ap (λ b. gone_on b second id retaken.settling) (sym same_repeats)
+      ∙ ap (λ l. gone_on (repeats copy letter) l id retaken.settling) (sym second_alone)
       ∙ sym (taken_to copy letter copied more told retaken))
       (settle_both anew moves here first second took id (taking_open letter.message call) found_first move
-      taken.settling taken.settles))
+      taken.settling settles))
 
   taken_by : (b : Bool) (new copied : LocalObject) (sent more : List Letter) (ended told : List Ended) →
       IsReplyOutcome b local letter new sent ended → IsReplyOutcome b copy letter copied more told → IsObjectCopy moves new copied
