@@ -12,6 +12,7 @@ use Rattle.open_calls.proofs.OpenCallLemmas.{found}
 use Rattle.network.proofs.WorldLawLemmas.{values_kept}
 use Rattle.local_object.specs.Ended.{told_early, told_of}
 use Rattle.told_replies.specs.Tellings.{world_of}
+use Rattle.told_queries.specs.Courses.{run_of}
 use Rattle.refinement.specs.Laws.{AnsweredReadsHaveValues, AnswersAreInHistory, EarlyAnswersAreInHistory}
 use Rattle.refinement.specs.Refined.{early_entry, with_answer, with_early_answer}
 use Rattle.refinement.specs.SystemValues.{HasAnswer, HasEarlyAnswer, told_value}
@@ -85,7 +86,7 @@ read_settled fragment world call now keeps answer kind =
 pub answered_values : AnsweredReadsHaveValues
 answered_values fragment system node id call code reached may open_here kind =
     let with_run = reached_with fragment system reached in
-    let world = world_of fragment with_run.run in
+    let world = world_of fragment (run_of with_run.course) in
     let local = system.objects node in
     let part = with_run.is.parts.parts node in
     let formed = with_run.formed in
@@ -98,4 +99,4 @@ answered_values fragment system node id call code reached may open_here kind =
     (sym (led.1 ∙ ap (λ o. with_answer o (suc world.now) world.history) open_here)) (answer_there world.history call (suc world.now) has) in
     read_settled fragment later call (suc world.now)
     (values_kept fragment later code
-    (reached_later fragment world (Event.Answer id ∷ []) (is_reached fragment with_run.run with_run.reached) led.0.may)) answer kind
+    (reached_later fragment world (Event.Answer id ∷ []) (is_reached fragment with_run.course with_run.reached) led.0.may)) answer kind

@@ -75,6 +75,7 @@ noticed_beside name other local (LocalEvent.Redirect letter) apart = tt
 noticed_beside name other local (LocalEvent.ReadOn id) apart = tt
 noticed_beside name other local (LocalEvent.BeginAnew id) apart = tt
 noticed_beside name other local (LocalEvent.Raise position) apart = tt
+noticed_beside name other local (LocalEvent.Query id) apart = tt
 
 -- One deed
 

@@ -1,5 +1,5 @@
 -- Early answers in the run of the world: they stay, and a call that ends early has one more.
-use Rattle.std.proofs.Common.{◌≡◌, ◌⊎◌, ◌+◌, ℕ, suc, cond, List, [], ◌∷◌, ◌++◌, length, Option, None, Some}
+use Rattle.std.proofs.Common.{◌≡◌, ◌⊎◌, ℕ, suc, cond, List, [], ◌∷◌, ◌++◌, length, Option, None, Some}
 use Rattle.std.proofs.Common.{append_assoc, inl, inr, refl, sym, subst, ap, ◌∙◌, arith}
 use Rattle.std.specs.List.{AllByRecursion}
 use Rattle.record.specs.declared.call.Entry.{Entry}
@@ -8,7 +8,7 @@ use Rattle.soundness.proofs.ListLemmas.{all_get, all_weaker}
 use Rattle.open_calls.specs.OpenCalls.{NodeCall, open_call}
 use Rattle.open_calls.proofs.CallsOfNodeLemmas.{differs}
 use Rattle.open_calls.proofs.OpenCallLemmas.{found}
-use Rattle.network.specs.Worlds.{World}
+use Rattle.network.specs.Worlds.{World, opened_world}
 use Rattle.network.specs.Events.{Event, happens, world_after}
 use Rattle.network.specs.Premises.{IsUnused, MayHappenInTurn}
 use Rattle.local_object.specs.Early.{EndsAtOnceHere, EndsHeldHere}
@@ -17,16 +17,15 @@ use Rattle.local_object.specs.Local.{LocalObject}
 use Rattle.local_object.specs.May.{MayHappenHere}
 use Rattle.told_replies.specs.EarlyAnswers.{EarlyAnswer, EndsAtOnce, EndsHeld, IsEarly, early_answer_to, early_history}
 use Rattle.told_replies.specs.Tellings.{Run, world_of}
-use Rattle.refinement.specs.Laws.{IsReachedBy}
 use Rattle.refinement.specs.Parts.{IsPartOf}
 use Rattle.refinement.specs.Refined.{IsRefined, history_after, with_early_answer}
 use Rattle.refinement.specs.Starting.{event_count}
 use Rattle.refinement.specs.Systems.{AreEarlyAnswers}
-use Rattle.refinement.specs.ToldLetters.{AreApart, IsTrueReport}
+use Rattle.refinement.specs.ToldLetters.{AreApart}
 use Rattle.refinement.specs.WellFormed.{HasEntry, IsWellFormed}
 use Rattle.refinement.proofs.ChangedCallLemmas.{IsCarried, carried}
 use Rattle.refinement.proofs.EarlyHistoryLemmas.{IsOwn, ending, seen_ended}
-use Rattle.refinement.proofs.EarlyRunLemmas.{early_later, longer, report_later, world_longer}
+use Rattle.refinement.proofs.EarlyRunLemmas.{IsReportOf, early_later, longer, run_report_later, world_longer}
 use Rattle.refinement.proofs.EndedEarlyLemmas.{EndsInTwo, ends_in_two}
 use Rattle.refinement.proofs.LeftCallLemmas.{all_left}
 use Rattle.refinement.proofs.ToldCallLemmas.{at_once_there, held_there}
@@ -58,7 +57,7 @@ pub record HasActed (fragment : Code) (run : Run) (local : LocalObject) (event :
   pub early : AreEarlyAnswers fragment (longer run events) answers history
 
 module _ (fragment : Code) (run : Run) (answers : List EarlyAnswer) (history : List Entry) (local : LocalObject)
-    (reached : IsReachedBy fragment run) (formed : IsWellFormed fragment (world_of fragment run))
+    (happened : MayHappenInTurn fragment run.events (opened_world run.files)) (formed : IsWellFormed fragment (world_of fragment run))
     (part : IsPartOf (world_of fragment run) local) (is : AreEarlyAnswers fragment run answers history) where
   abbrev world : World
   world = world_of fragment run
@@ -75,7 +74,7 @@ module _ (fragment : Code) (run : Run) (answers : List EarlyAnswer) (history : L
 
   -- the call ends early
   module _ (id : ℕ) (returned : Option (List ℕ)) (may : MayHappenHere fragment local (LocalEvent.EndEarly id returned))
-      (are : AllByRecursion (IsTrueReport fragment run) local.reports) (apart : AreApart local.reports) where
+      (are : AllByRecursion (IsReportOf fragment run) local.reports) (apart : AreApart local.reports) where
     abbrev two : EndsInTwo fragment world local id
     two = ends_in_two id returned fragment world local formed part may
 
@@ -100,9 +99,9 @@ module _ (fragment : Code) (run : Run) (answers : List EarlyAnswer) (history : L
         carried fragment (world_of fragment waited) local id call (subst (IsWellFormed fragment) (sym there) two.between.formed) part_there
         may.1
 
-    reports : AllByRecursion (IsTrueReport fragment waited) local.reports
+    reports : AllByRecursion (IsReportOf fragment waited) local.reports
     reports =
-        all_weaker (IsTrueReport fragment run) (IsTrueReport fragment waited) (report_later fragment run (two.wait ∷ [])) local.reports
+        all_weaker (IsReportOf fragment run) (IsReportOf fragment waited) (run_report_later fragment run (two.wait ∷ [])) local.reports
         are
 
     ends : EndsHeldHere fragment local call returned ⊎ EndsAtOnceHere fragment local call returned →
@@ -137,7 +136,7 @@ module _ (fragment : Code) (run : Run) (answers : List EarlyAnswer) (history : L
         (carried fragment world local id call formed part may.1).open_there).0
 
     ids_differ : IdsDiffer (ids_of world.history)
-    ids_differ = differ_later fragment run.events _ reached.may tt
+    ids_differ = differ_later fragment run.events _ happened tt
 
     own : AllByRecursion (IsOwn answers call none returned (suc world.now)) world.history
     own =

@@ -1,33 +1,33 @@
 -- What happens at a node, in the run of the world, and the early answers that there are then.
-use Rattle.std.proofs.Common.{◌≡◌, ◌+◌, ℕ, suc, List, [], ◌∷◌, ◌++◌, Option, None, Some}
+use Rattle.std.proofs.Common.{◌≡◌, ℕ, suc, false, List, [], ◌∷◌, ◌++◌, Option, None, Some}
 use Rattle.std.proofs.Common.{refl, ap, ◌∙◌}
 use Rattle.std.specs.List.{AllByRecursion}
 use Rattle.record.specs.declared.call.CallKind.TheVariants.{Read, Write, Move}
 use Rattle.record.specs.declared.call.Entry.{Entry}
 use Rattle.record.specs.Fragments.{Code}
 use Rattle.open_calls.specs.OpenCalls.{NodeCall, open_call}
-use Rattle.network.specs.Worlds.{World}
-use Rattle.network.specs.Premises.{IsUnused}
+use Rattle.network.specs.Worlds.{World, opened_world}
+use Rattle.network.specs.Premises.{IsUnused, MayHappenInTurn}
 use Rattle.local_object.specs.Events.{LocalEvent, done_here}
 use Rattle.local_object.specs.Local.{LocalObject}
 use Rattle.local_object.specs.May.{MayHappenHere}
 use Rattle.told_replies.specs.EarlyAnswers.{EarlyAnswer, early_answer_to, early_history}
 use Rattle.told_replies.specs.Tellings.{Run, world_of}
-use Rattle.refinement.specs.Laws.{IsReachedBy}
 use Rattle.refinement.specs.Parts.{IsPartOf}
 use Rattle.refinement.specs.Refined.{IsPremisedHere, begun_entry, history_after, with_answer, world_history}
-use Rattle.refinement.specs.Starting.{HasEvents, event_count}
+use Rattle.refinement.specs.Starting.{HasEvents, event_count, is_querying}
 use Rattle.refinement.specs.Systems.{AreEarlyAnswers}
-use Rattle.refinement.specs.ToldLetters.{AreApart, IsTrueReport}
+use Rattle.refinement.specs.ToldLetters.{AreApart}
 use Rattle.refinement.specs.WellFormed.{IsWellFormed}
 use Rattle.refinement.proofs.EarlyAnswerLemmas.{HasActed, answers_later, ended_early, no_answer}
 use Rattle.refinement.proofs.EarlyHistoryLemmas.{seen_answered, seen_push}
+use Rattle.refinement.proofs.EarlyRunLemmas.{IsReportOf}
 use Rattle.refinement.proofs.LocalEventLemmas.{each_refined}
 use Rattle.refinement.proofs.PlainEventLemmas.{each_plain}
 use Rattle.refinement.proofs.ToldLetterLemmas.{AreServedBy}
 
 module _ (fragment : Code) (run : Run) (answers : List EarlyAnswer) (history : List Entry) (local : LocalObject)
-    (reached : IsReachedBy fragment run) (formed : IsWellFormed fragment (world_of fragment run))
+    (happened : MayHappenInTurn fragment run.events (opened_world run.files)) (formed : IsWellFormed fragment (world_of fragment run))
     (part : IsPartOf (world_of fragment run) local) (is : AreEarlyAnswers fragment run answers history) where
   abbrev world : World
   world = world_of fragment run
@@ -58,7 +58,7 @@ module _ (fragment : Code) (run : Run) (answers : List EarlyAnswer) (history : L
       ∙ ap (λ entries. entries ++ entry ∷ []) is.same
 
   none : (id : ℕ) (call : NodeCall) → open_call local.calls id ≡ Some call → early_answer_to answers call.id ≡ None
-  none = no_answer fragment run answers history local reached formed part is
+  none = no_answer fragment run answers history local happened formed part is
 
   answers_one : (id now : ℕ) (o : Option NodeCall) → open_call local.calls id ≡ o →
       early_history answers (with_answer o now world.history) ≡ with_answer o now history
@@ -67,24 +67,24 @@ module _ (fragment : Code) (run : Run) (answers : List EarlyAnswer) (history : L
       seen_answered answers call (none id call open_here) now world.history ∙ ap (with_answer (Some call) now) is.same
 
   -- an event with the history of the world
-  each : (event : LocalEvent) → MayHappenHere fragment local event → IsPremisedHere world local event →
+  each : (event : LocalEvent) → is_querying event ≡ false → MayHappenHere fragment local event → IsPremisedHere world local event →
       HasEvents fragment world (done_here fragment local event) (world_history local event (suc world.now) world.history)
       (event_count local event)
-  each event may premised = each_refined event fragment world local formed part may premised
+  each event plain may premised = each_refined event plain fragment world local formed part may premised
 
-  pub acted_here : (event : LocalEvent) → MayHappenHere fragment local event → IsPremisedHere world local event →
-      AllByRecursion (IsTrueReport fragment run) local.reports → AreApart local.reports →
+  pub acted_here : (event : LocalEvent) → is_querying event ≡ false → MayHappenHere fragment local event →
+      IsPremisedHere world local event → AllByRecursion (IsReportOf fragment run) local.reports → AreApart local.reports →
       HasActed fragment run local event (after event)
-  acted_here (LocalEvent.BeginRead id) may premised are apart =
-      goes_on (LocalEvent.BeginRead id) (each (LocalEvent.BeginRead id) may premised) tt
+  acted_here (LocalEvent.BeginRead id) plain may premised are apart =
+      goes_on (LocalEvent.BeginRead id) (each (LocalEvent.BeginRead id) plain may premised) tt
       (begins id (begun_entry id Read (suc world.now)) refl premised)
-  acted_here (LocalEvent.BeginWrite id value) may premised are apart =
-      goes_on (LocalEvent.BeginWrite id value) (each (LocalEvent.BeginWrite id value) may premised) tt
+  acted_here (LocalEvent.BeginWrite id value) plain may premised are apart =
+      goes_on (LocalEvent.BeginWrite id value) (each (LocalEvent.BeginWrite id value) plain may premised) tt
       (begins id (begun_entry id (Write value) (suc world.now)) refl premised)
-  acted_here (LocalEvent.BeginMove id layout) may premised are apart =
-      goes_on (LocalEvent.BeginMove id layout) (each (LocalEvent.BeginMove id layout) may premised) tt
+  acted_here (LocalEvent.BeginMove id layout) plain may premised are apart =
+      goes_on (LocalEvent.BeginMove id layout) (each (LocalEvent.BeginMove id layout) plain may premised) tt
       (begins id (begun_entry id Move (suc world.now)) refl premised.0)
-  acted_here (LocalEvent.Serve letter) may premised are apart =
+  acted_here (LocalEvent.Serve letter) plain may premised are apart =
       let done = each_plain (LocalEvent.Serve letter) refl fragment world local formed part may premised in
       goes_on (LocalEvent.Serve letter) (record {
         events = _;
@@ -92,9 +92,9 @@ module _ (fragment : Code) (run : Run) (answers : List EarlyAnswer) (history : L
         refined = done.0;
         entries = done.1;
       }) refl is.same
-  acted_here (LocalEvent.Answer id) may premised are apart =
-      goes_on (LocalEvent.Answer id) (each (LocalEvent.Answer id) may premised) tt
+  acted_here (LocalEvent.Answer id) plain may premised are apart =
+      goes_on (LocalEvent.Answer id) (each (LocalEvent.Answer id) plain may premised) tt
       (answers_one id (suc world.now) (open_call local.calls id) refl)
-  acted_here (LocalEvent.EndEarly id returned) may premised are apart =
-      ended_early fragment run answers history local reached formed part is id returned may are apart
-  acted_here event may premised are apart = goes_on event (each event may premised) tt is.same
+  acted_here (LocalEvent.EndEarly id returned) plain may premised are apart =
+      ended_early fragment run answers history local happened formed part is id returned may are apart
+  acted_here event plain may premised are apart = goes_on event (each event plain may premised) tt is.same

@@ -14,6 +14,7 @@ use Rattle.local_object.specs.Events.{LocalEvent, done_here}
 use Rattle.local_object.specs.Ended.{told_early, told_early_if, told_if, told_of}
 use Rattle.local_object.specs.May.{MayHappenHere}
 use Rattle.starts.specs.Reading.{most_events}
+use Rattle.told_queries.specs.Courses.{spare_events}
 use Rattle.refinement.specs.Histories.{told_entry}
 use Rattle.refinement.specs.Refined.{begun_entry, with_answer, with_early_answer}
 use Rattle.refinement.specs.Starting.{event_count}
@@ -40,7 +41,7 @@ use Rattle.refinement.proofs.LeadLemmas.{Follows, Leads, all_map, ended_in, othe
 not_less : (now more : ℕ) → now ≤ now + more
 not_less now more = omega arith
 
-one_more : (now more : ℕ) → suc now ≤ now + suc more
+one_more : (now more : ℕ) → suc now ≤ now + (suc more + spare_events)
 one_more now more = omega arith
 
 module _ (fragment : Code) (name : List ℕ) (system : System) (ids : ℕ → CallIds) (number : ℕ) (mine now : CallIds)
@@ -92,7 +93,7 @@ module _ (fragment : Code) (name : List ℕ) (system : System) (ids : ℕ → Ca
       (subst (AllByRecursion (λ entry. IsUsed (with_ids ids number now) entry.call)) (sym same)
       (still_used (given_later mine now None within given)))
       (subst (λ history. IsHistoryAt name (notices ++ []) history (after event).now) (sym same)
-      (quiet (after event).now (not_less system.now (event_count local event))))
+      (quiet (after event).now (not_less system.now (event_count local event + spare_events))))
 
   -- a call begins
   begun_used : (id : ℕ) (entry : Entry) → entry.call ≡ id → IsNextId mine id now →
@@ -163,23 +164,26 @@ module _ (fragment : Code) (name : List ℕ) (system : System) (ids : ℕ → Ca
   -- a call is answered
   answered : (id : ℕ) (o : Option NodeCall) → open_call local.calls id ≡ o →
       AllByRecursion (λ entry. IsUsed (with_ids ids number now) entry.call) system.history →
-      LeadOn (with_answer o (suc system.now) system.history) (map (Notice.Tells name) (told_if o)) (system.now + 1)
-  answered id None e used = (used, quiet (system.now + 1) (omega arith))
+      LeadOn (with_answer o (suc system.now) system.history) (map (Notice.Tells name) (told_if o)) (system.now + (1 + spare_events))
+  answered id None e used = (used, quiet (system.now + (1 + spare_events)) (omega arith))
   answered id (Some call) e used =
       let answers = answer_of call in
-      subst (λ history. LeadOn history (Notice.Tells name (told_of call) ∷ []) (system.now + 1))
-      (sym (told_answer call (suc system.now) system.history))
-      (told_used id call e (told_of call) answers used, told_at id call e (told_of call) answers (system.now + 1) (omega arith))
+      subst (λ history. LeadOn history (Notice.Tells name (told_of call) ∷ []) (system.now + (1 + spare_events)))
+      (sym (told_answer call (suc system.now) system.history)) (
+        told_used id call e (told_of call) answers used,
+        told_at id call e (told_of call) answers (system.now + (1 + spare_events)) (omega arith),
+      )
 
   -- a call ends early
   ended_early : (id : ℕ) (value : Option (List ℕ)) (o : Option NodeCall) → open_call local.calls id ≡ o →
       AllByRecursion (λ entry. IsUsed (with_ids ids number now) entry.call) system.history →
-      LeadOn (with_early_answer o value (suc system.now) system.history) (map (Notice.Tells name) (told_early_if o value)) (system.now + 2)
-  ended_early id value None e used = (used, quiet (system.now + 2) (omega arith))
+      LeadOn (with_early_answer o value (suc system.now) system.history) (map (Notice.Tells name) (told_early_if o value))
+      (system.now + (2 + spare_events))
+  ended_early id value None e used = (used, quiet (system.now + (2 + spare_events)) (omega arith))
   ended_early id value (Some call) e used =
       let ended = told_early call value in
       let answers = early_of call value in
-      (told_used id call e ended answers used, told_at id call e ended answers (system.now + 2) (omega arith))
+      (told_used id call e ended answers used, told_at id call e ended answers (system.now + (2 + spare_events)) (omega arith))
 
   pub acted : (event : LocalEvent) → MayHappenHere fragment local event → IsEventLetterKnown letters name event →
       IsEventAllowed number (system.files number).mover event → IsGiven mine (begun_id event) now →
@@ -225,6 +229,7 @@ module _ (fragment : Code) (name : List ℕ) (system : System) (ids : ℕ → Ca
   acted (LocalEvent.Grow id) may fed allowed given = quietly (LocalEvent.Grow id) may tt given refl
   acted (LocalEvent.ReadOn id) may fed allowed given = quietly (LocalEvent.ReadOn id) may tt given refl
   acted (LocalEvent.BeginAnew id) may fed allowed given = quietly (LocalEvent.BeginAnew id) may tt given refl
+  acted (LocalEvent.Query id) may fed allowed given = quietly (LocalEvent.Query id) may tt given refl
   acted (LocalEvent.Raise position) may fed allowed given = quietly (LocalEvent.Raise position) may tt given refl
   acted (LocalEvent.Hear letter) may fed allowed given = quietly (LocalEvent.Hear letter) may (follows.posted letter fed) given refl
   acted (LocalEvent.Redirect letter) may fed allowed given = quietly (LocalEvent.Redirect letter) may (follows.posted letter fed) given refl

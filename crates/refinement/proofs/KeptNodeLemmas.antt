@@ -15,7 +15,7 @@ use Rattle.record.specs.Legal.{first_stage}
 use Rattle.open_calls.specs.OpenCalls.{NodeCall, due_phase, open_call, with_open}
 use Rattle.letter.specs.declared.letter.Letter.{Letter}
 use Rattle.local_object.specs.Local.{LocalObject, last_position, layout_here, with_heard}
-use Rattle.local_object.specs.Events.{LocalEvent, advanced_at, advanced_here, done_here, served_here, taking_here}
+use Rattle.local_object.specs.Events.{LocalEvent, advanced_at, advanced_here, done_here, queried_here, served_here, taking_here}
 use Rattle.local_object.specs.Outcomes.{Outcome, begun_here, learnt_from, on_open_call, silent}
 use Rattle.local_object.specs.Starting.{anew_number, first_number, number_at, reads_at, reads_here}
 use Rattle.local_object.proofs.HeardLayoutLemmas.{node_heard}
@@ -43,6 +43,11 @@ reads_node : (local : LocalObject) (call : NodeCall) (number start : ℕ) (o : O
     (reads_at local call number start o).local.node ≡ local.node
 reads_node local call number start None = refl
 reads_node local call number start (Some layout) = refl
+
+queried_node : (local : LocalObject) (call : NodeCall) (o : Option Layout) →
+    (queried_here local call o).local.node ≡ local.node
+queried_node local call None = refl
+queried_node local call (Some layout) = refl
 
 served_node : (local : LocalObject) (letter : Letter) (b : Body) → (served_here local letter b).local.node ≡ local.node
 served_node local letter (body.Request asked) = refl
@@ -82,6 +87,9 @@ node_kept fragment local (LocalEvent.Redirect letter) = refl
 node_kept fragment local (LocalEvent.ReadOn id) =
     call_node local (open_call local.calls id) (λ call. reads_here local call (number_at call local.start))
     (λ call. reads_node local call (number_at call local.start) local.start (layout_here local local.start))
+node_kept fragment local (LocalEvent.Query id) =
+    call_node local (open_call local.calls id) (λ call. queried_here local call (layout_here local call.phase.position))
+    (λ call. queried_node local call (layout_here local call.phase.position))
 node_kept fragment local (LocalEvent.BeginAnew id) =
     call_node local (open_call local.calls id) (λ call. reads_here local call (anew_number call local.start))
     (λ call. reads_node local call (anew_number call local.start) local.start (layout_here local local.start))

@@ -5,6 +5,7 @@ pub mod BegunAtStartLemmas
 pub mod BegunCallLemmas
 pub mod BegunMoveLemmas
 pub mod CallEntryLemmas
+pub mod CallRoomLemmas
 pub mod ChangedCallLemmas
 pub mod ClosedPlaceLemmas
 pub mod ClusterLemmas
@@ -32,12 +33,18 @@ pub mod LocalEventLemmas
 pub mod PartLemmas
 pub mod PlaceLemmas
 pub mod PlainEventLemmas
+pub mod QueriedActLemmas
+pub mod QueriedCallLemmas
+pub mod QueriedCourseLemmas
+pub mod QueriedTagLemmas
+pub mod QueriedWorldLemmas
 pub mod RaisedPointerLemmas
 pub mod ReadOnLemmas
 pub mod RefinedEventLemmas
 pub mod ReportLemmas
 pub mod ResentLetterLemmas
 pub mod RestartedNodeLemmas
+pub mod RoomLemmas
 pub mod SeenAnswerLemmas
 pub mod SeenHistoryLemmas
 pub mod ServedLetterLemmas
@@ -52,6 +59,7 @@ pub mod SystemLawLemmas
 pub mod SystemLemmas
 pub mod SystemPremiseLemmas
 pub mod SystemRunLemmas
+pub mod SystemTurnLemmas
 pub mod SystemValueLemmas
 pub mod TakenLetterLemmas
 pub mod TimedLemmas
@@ -61,5 +69,6 @@ pub mod ToldLemmas
 pub mod ToldLetterLemmas
 pub mod ToldReportLemmas
 pub mod ToldValueLemmas
+pub mod TurnLemmas
 pub mod WaitingLemmas
 pub mod WorldIdLemmas

@@ -26,20 +26,22 @@ exactly event plain counted same fragment world local formed part may premised =
     }
 
 pub each_refined : LocalEventsAreWorldEvents
-each_refined (LocalEvent.BeginRead id) = read_has_events id
-each_refined (LocalEvent.BeginWrite id value) = write_has_events id value
-each_refined (LocalEvent.BeginMove id layout) = exactly (LocalEvent.BeginMove id layout) refl (λ local. refl) (λ local now history. refl)
-each_refined (LocalEvent.Advance id) = exactly (LocalEvent.Advance id) refl (λ local. refl) (λ local now history. refl)
-each_refined (LocalEvent.Serve letter) = exactly (LocalEvent.Serve letter) refl (λ local. refl) (λ local now history. refl)
-each_refined (LocalEvent.Take letter) = exactly (LocalEvent.Take letter) refl (λ local. refl) (λ local now history. refl)
-each_refined (LocalEvent.Settle id value) = exactly (LocalEvent.Settle id value) refl (λ local. refl) (λ local now history. refl)
-each_refined (LocalEvent.Answer id) = exactly (LocalEvent.Answer id) refl (λ local. refl) (λ local now history. refl)
-each_refined (LocalEvent.GiveUp id) = exactly (LocalEvent.GiveUp id) refl (λ local. refl) (λ local now history. refl)
-each_refined (LocalEvent.Close position) = exactly (LocalEvent.Close position) refl (λ local. refl) (λ local now history. refl)
-each_refined (LocalEvent.Grow id) = exactly (LocalEvent.Grow id) refl (λ local. refl) (λ local now history. refl)
-each_refined (LocalEvent.Hear letter) = exactly (LocalEvent.Hear letter) refl (λ local. refl) (λ local now history. refl)
-each_refined (LocalEvent.Redirect letter) = exactly (LocalEvent.Redirect letter) refl (λ local. refl) (λ local now history. refl)
-each_refined (LocalEvent.ReadOn id) = read_on_has_events id
-each_refined (LocalEvent.BeginAnew id) = anew_has_events id
-each_refined (LocalEvent.Raise position) = raise_has_events position
-each_refined (LocalEvent.EndEarly id value) = early_has_events id value
+each_refined (LocalEvent.BeginRead id) plain = read_has_events id
+each_refined (LocalEvent.BeginWrite id value) plain = write_has_events id value
+each_refined (LocalEvent.BeginMove id layout) plain =
+    exactly (LocalEvent.BeginMove id layout) refl (λ local. refl) (λ local now history. refl)
+each_refined (LocalEvent.Advance id) plain = exactly (LocalEvent.Advance id) refl (λ local. refl) (λ local now history. refl)
+each_refined (LocalEvent.Serve letter) plain = exactly (LocalEvent.Serve letter) refl (λ local. refl) (λ local now history. refl)
+each_refined (LocalEvent.Take letter) plain = exactly (LocalEvent.Take letter) refl (λ local. refl) (λ local now history. refl)
+each_refined (LocalEvent.Settle id value) plain = exactly (LocalEvent.Settle id value) refl (λ local. refl) (λ local now history. refl)
+each_refined (LocalEvent.Answer id) plain = exactly (LocalEvent.Answer id) refl (λ local. refl) (λ local now history. refl)
+each_refined (LocalEvent.GiveUp id) plain = exactly (LocalEvent.GiveUp id) refl (λ local. refl) (λ local now history. refl)
+each_refined (LocalEvent.Close position) plain = exactly (LocalEvent.Close position) refl (λ local. refl) (λ local now history. refl)
+each_refined (LocalEvent.Grow id) plain = exactly (LocalEvent.Grow id) refl (λ local. refl) (λ local now history. refl)
+each_refined (LocalEvent.Hear letter) plain = exactly (LocalEvent.Hear letter) refl (λ local. refl) (λ local now history. refl)
+each_refined (LocalEvent.Redirect letter) plain = exactly (LocalEvent.Redirect letter) refl (λ local. refl) (λ local now history. refl)
+each_refined (LocalEvent.ReadOn id) plain = read_on_has_events id
+each_refined (LocalEvent.BeginAnew id) plain = anew_has_events id
+each_refined (LocalEvent.Raise position) plain = raise_has_events position
+each_refined (LocalEvent.EndEarly id value) plain = early_has_events id value
+each_refined (LocalEvent.Query id) plain = absurd (cc)

@@ -21,12 +21,12 @@ use Rattle.letter.specs.declared.letter.Letter.{Letter}
 use Rattle.letter.specs.declared.start.Start.{Start}
 use Rattle.letter.specs.declared.telling.Telling.{Telling}
 use Rattle.local_object.specs.declared.report.Report.{Report}
-use Rattle.local_object.specs.Events.{LocalEvent, advanced_at, advanced_here, done_here, served_here, taking_here}
+use Rattle.local_object.specs.Events.{LocalEvent, advanced_at, advanced_here, done_here, queried_here, served_here, taking_here}
 use Rattle.local_object.specs.Local.{LocalObject, heard_start_if, last_position, layout_here, learnt_if, with_heard}
 use Rattle.local_object.specs.Outcomes.{Outcome, begun_here, layouts_learnt, learnt_from, on_open_call, silent}
 use Rattle.local_object.specs.Reports.{is_kept_beside, is_same, report_of, reports_after, told_to, with_report}
 use Rattle.local_object.specs.Starting.{anew_number, first_number, number_at, reads_at, reads_here}
-use Rattle.told_replies.specs.Tellings.{Run}
+use Rattle.told_queries.specs.Courses.{Course}
 use Rattle.refinement.specs.ToldLetters.{AreApart, IsTrueReport, TellsTruth}
 
 -- Reports that are left
@@ -147,6 +147,10 @@ module _ (P : List Report → Type 0) (left : (test : Report → Bool) (reports 
   read_at call number start None = holds
   read_at call number start (Some layout) = holds
 
+  queries : (call : NodeCall) (o : Option Layout) → P (queried_here local call o).local.reports
+  queries call None = holds
+  queries call (Some layout) = holds
+
   carried : (o : Option NodeCall) (change : NodeCall → Outcome) → ((call : NodeCall) → P (change call).local.reports) →
       P (on_open_call local o change).local.reports
   carried None change each = holds
@@ -211,6 +215,9 @@ module _ (P : List Report → Type 0) (left : (test : Report → Bool) (reports 
       carried (open_call local.calls id) (λ call. reads_here local call (anew_number call local.start))
       (λ call. read_at call (anew_number call local.start) local.start (layout_here local local.start))
   reports_done (LocalEvent.Raise position) adds = holds
+  reports_done (LocalEvent.Query id) adds =
+      carried (open_call local.calls id) (λ call. queried_here local call (layout_here local call.phase.position))
+      (λ call. queries call (layout_here local call.phase.position))
   reports_done (LocalEvent.EndEarly id value) adds = left (λ report. not (eqb report.call id)) local.reports holds
 
 -- no two reports are of the same member, to the same phase of the same call
@@ -221,11 +228,11 @@ apart_done fragment local event apart =
     (λ letter telling is told. apart_with (report_of letter.message telling) local.reports apart)
 
 -- the reports are true, if the letter that is taken tells the truth
-pub true_done : (fragment : Code) (run : Run) (local : LocalObject) (event : LocalEvent) →
-    ((letter : Letter) → event ≡ LocalEvent.Take letter → TellsTruth fragment run letter) →
-    AllByRecursion (IsTrueReport fragment run) local.reports →
-    AllByRecursion (IsTrueReport fragment run) (done_here fragment local event).local.reports
-true_done fragment run local event tells are =
-    reports_done (AllByRecursion (IsTrueReport fragment run)) (all_left (IsTrueReport fragment run)) fragment local are event
-    (λ letter telling is told. all_with (IsTrueReport fragment run) (report_of letter.message telling) local.reports
+pub true_done : (fragment : Code) (course : Course) (local : LocalObject) (event : LocalEvent) →
+    ((letter : Letter) → event ≡ LocalEvent.Take letter → TellsTruth fragment course letter) →
+    AllByRecursion (IsTrueReport fragment course) local.reports →
+    AllByRecursion (IsTrueReport fragment course) (done_here fragment local event).local.reports
+true_done fragment course local event tells are =
+    reports_done (AllByRecursion (IsTrueReport fragment course)) (all_left (IsTrueReport fragment course)) fragment local are event
+    (λ letter telling is told. all_with (IsTrueReport fragment course) (report_of letter.message telling) local.reports
     (tells letter is telling told).0 are)

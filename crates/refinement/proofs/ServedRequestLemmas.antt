@@ -1,6 +1,5 @@
 -- A node serves a letter, after it has heard of its layouts and its start.
 use Rattle.std.proofs.Common.{◌≡◌, sym, subst}
-use Rattle.mail.specs.declared.message.Body.TheVariants as body
 use Rattle.network.specs.Events.{Event, world_after}
 use Rattle.letter.specs.declared.letter.Letter.{Letter}
 use Rattle.local_object.specs.Events.{LocalEvent, handled_here, served_here}

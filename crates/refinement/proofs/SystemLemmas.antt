@@ -1,4 +1,4 @@
--- All nodes, each by what it keeps, have a world that a run reaches.
+-- All nodes, each by what it keeps, have a world that a course reaches.
 use Rattle.std.proofs.Common.{◌≡◌, ℕ, zero, suc, ◌+◌, ◌<◌, cond, List, [], ◌∷◌}
 use Rattle.std.proofs.Common.{Some, None, slice_get, refl, sym, ap, ◌∙◌, arith}
 use Rattle.std.proofs.lemmas.Option.{same_Some}
@@ -85,7 +85,7 @@ module _ (files : ℕ → ClusterFile) (one : IsOneFile files) where
 
   opened_has : (fragment : Code) → IsLawful (files 0).first → HasRun fragment (opened_system files)
   opened_has fragment lawful = record {
-    run = record { files = files; events = [] };
+    course = record { files = files; turns = [] };
     answers = [];
     reached = record { one = one; lawful = lawful; may = tt };
     formed = opened_formed fragment lawful;
@@ -93,6 +93,7 @@ module _ (files : ℕ → ClusterFile) (one : IsOneFile files) where
       parts = record { files = refl; nodes = λ node. refl; parts = opened_part; letters = tt; now = refl };
       told = record { letters = tt; reports = λ node. tt; apart = λ node. tt };
       early = record { early = tt; ended = tt; used = λ id unused. refl; same = refl };
+      rooms = λ node. tt;
     };
   }
 

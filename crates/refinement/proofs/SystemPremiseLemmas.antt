@@ -10,11 +10,12 @@ use Rattle.starts.proofs.AskedWorldLemmas.{start_asked}
 use Rattle.local_object.specs.Events.{LocalEvent}
 use Rattle.local_object.specs.May.{MayHappenHere}
 use Rattle.told_replies.specs.EarlyAnswers.{EarlyAnswer}
-use Rattle.told_replies.specs.Tellings.{Run, world_of}
-use Rattle.refinement.specs.Laws.{IsReachedBy}
+use Rattle.told_replies.specs.Tellings.{world_of}
+use Rattle.told_queries.specs.Courses.{Course, run_of}
+use Rattle.told_queries.specs.Laws.{IsCourse}
 use Rattle.refinement.specs.Parts.{WasSentAs}
 use Rattle.refinement.specs.Refined.{IsAskedToRaise, IsPremisedHere}
-use Rattle.refinement.specs.Systems.{HasPartsOf, IsPremisedIn, IsRunOf, System}
+use Rattle.refinement.specs.Systems.{HasPartsOf, IsCourseOf, IsPremisedIn, System}
 use Rattle.refinement.specs.WellFormed.{IsWellFormed}
 use Rattle.refinement.proofs.EarlyHistoryLemmas.{unused_seen}
 use Rattle.refinement.proofs.EarlyRunLemmas.{is_reached}
@@ -22,17 +23,17 @@ use Rattle.refinement.proofs.LearntPartLemmas.{known_by_all}
 use Rattle.refinement.proofs.StartedCallLemmas.{starts_are_grown}
 use Rattle.refinement.proofs.WorldIdLemmas.{HasNot}
 
--- a run that leads to the world of all nodes, with the early answers that were given in it
+-- a course that leads to the world of all nodes, with the early answers that were given in it
 pub record HasRun (fragment : Code) (system : System) : Type 0 where
-  pub run : Run
+  pub course : Course
   pub answers : List EarlyAnswer
-  pub reached : IsReachedBy fragment run
-  pub formed : IsWellFormed fragment (world_of fragment run)
-  pub is : IsRunOf fragment run answers system
+  pub reached : IsCourse fragment course
+  pub formed : IsWellFormed fragment (world_of fragment (run_of course))
+  pub is : IsCourseOf fragment course answers system
 
 module _ (fragment : Code) (system : System) (has : HasRun fragment system) where
   abbrev world : World
-  world = world_of fragment has.run
+  world = world_of fragment (run_of has.course)
 
   abbrev is : HasPartsOf world system
   is = has.is.parts
@@ -63,7 +64,7 @@ module _ (fragment : Code) (system : System) (has : HasRun fragment system) wher
       let call = may.0 in
       let spread = may.2 in
       subst (λ n. IsStart world (suc n)) spread.at
-      (starts_are_grown fragment world (system.objects node) id call (is_reached fragment has.run has.reached) has.formed
+      (starts_are_grown fragment world (system.objects node) id call (is_reached fragment has.course has.reached) has.formed
       (is.parts node) may.1 spread.kind spread.complete
       (subst (IsStart world) (sym spread.at) (is.parts node).start))
 
@@ -72,7 +73,7 @@ module _ (fragment : Code) (system : System) (has : HasRun fragment system) wher
       IsAskedToRaise world (system.objects node) position
   asked_there node position may member layout known server =
       let part = is.parts node in
-      start_asked fragment world (system.objects node).start position member layout (is_reached fragment has.run has.reached) part.start
+      start_asked fragment world (system.objects node).start position member layout (is_reached fragment has.course has.reached) part.start
       may.before
       (known_by_all world has.formed.one (system.objects node).node position layout (part.layouts position layout known))
       (slice_get_within layout.members member (system.objects node).node server)

@@ -5,6 +5,7 @@ use Rattle.open_calls.specs.OpenCalls.{NodeCall, open_call}
 use Rattle.open_calls.proofs.OpenCallLemmas.{found}
 use Rattle.told_replies.specs.EarlyAnswers.{early_answer_to}
 use Rattle.told_replies.specs.Tellings.{world_of}
+use Rattle.told_queries.specs.Courses.{run_of}
 use Rattle.refinement.specs.Systems.{IsReachedSystem, MayHappenIn, MayRunIn, System, SystemEvent, opened_system, system_after, system_run}
 use Rattle.refinement.specs.WellFormed.{HasEntry}
 use Rattle.refinement.proofs.ChangedCallLemmas.{carried}
@@ -41,7 +42,7 @@ pub open_entry : (fragment : Code) (system : System) (node id : ℕ) (call : Nod
     open_call (system.objects node).calls id ≡ Some call → HasEntry system.history call
 open_entry fragment system node id call reached open_here =
     let has = reached_with fragment system reached in
-    let world = world_of fragment has.run in
+    let world = world_of fragment (run_of has.course) in
     let carries = carried fragment world (system.objects node) id call has.formed (has.is.parts.parts node) open_here in
     subst (λ history. HasEntry history call) has.is.early.same
     (open_seen has.answers world.history call

@@ -22,6 +22,7 @@ use Rattle.letter.specs.declared.telling.Telling.{Telling}
 use Rattle.local_object.specs.Local.{bank_here}
 use Rattle.told_replies.specs.EarlyAnswers.{EarlyAnswer, IsEarly, as_answered, early_answer_to, early_history, early_value}
 use Rattle.told_replies.specs.Tellings.{world_of}
+use Rattle.told_queries.specs.Courses.{run_of}
 use Rattle.told_replies.proofs.EarlyValueLemmas.{early_reads}
 use Rattle.refinement.specs.Laws.{SystemsKeepValues}
 use Rattle.refinement.specs.Parts.{WasSentAs}
@@ -29,7 +30,7 @@ use Rattle.refinement.specs.Systems.{HasPartsOf, System, WasPosted}
 use Rattle.refinement.specs.SystemValues.{IsPieceIn, IsValueIn, KeepsValuesIn}
 use Rattle.refinement.specs.ToldLetters.{TellsTruth}
 use Rattle.refinement.proofs.EarlyHistoryLemmas.{as_seen, entry_back, entry_seen, seen_id, seen_kind}
-use Rattle.refinement.proofs.EarlyRunLemmas.{is_reached}
+use Rattle.refinement.proofs.EarlyRunLemmas.{is_reached, told_in_run}
 use Rattle.refinement.proofs.KeptBankLemmas.{piece_of_kept}
 use Rattle.refinement.proofs.SystemLawLemmas.{reached_with}
 use Rattle.refinement.proofs.SystemPremiseLemmas.{HasRun}
@@ -102,13 +103,13 @@ answer_found P (first ∷ answers) id answer all e =
 
 module _ (fragment : Code) (code : IsCode fragment) (system : System) (has : HasRun fragment system) where
   abbrev world : World
-  world = world_of fragment has.run
+  world = world_of fragment (run_of has.course)
 
   abbrev is : HasPartsOf world system
   is = has.is.parts
 
   keeps : KeepsValues fragment world
-  keeps = values_kept fragment world code (is_reached fragment has.run has.reached)
+  keeps = values_kept fragment world code (is_reached fragment has.course has.reached)
 
   there : (tag : Tag) (value : List ℕ) → IsValueOf world tag value → IsValueIn system.history tag value
   there tag value of_world =
@@ -142,9 +143,10 @@ module _ (fragment : Code) (code : IsCode fragment) (system : System) (has : Has
   told_there : (letter : Letter) (telling : Telling) (piece : Piece) → WasPosted system letter → letter.told ≡ Some telling →
       telling.piece ≡ Some piece → IsPieceIn fragment system.history letter.layout letter.message.member telling.greatest piece
   told_there letter telling piece posted tells e =
-      let truth = all_get (TellsTruth fragment has.run) system.letters posted.0 letter has.is.told.letters posted.1 telling tells in
+      let truth = all_get (TellsTruth fragment has.course) system.letters posted.0 letter has.is.told.letters posted.1 telling tells in
       let is_true = truth.0 in
-      let there_then = piece_there fragment code has.run has.reached is_true.request is_true.whole is_true.told piece
+      let there_then = piece_there fragment code has.course has.reached is_true.request is_true.whole
+      (told_in_run fragment has.course is_true.request is_true.whole is_true.told) piece
       (told_whole telling is_true.whole piece is_true.less e) 0 in
       fits_there 0 letter.message.position letter.message.member letter.layout telling.greatest piece (sent_as letter posted).layout
       (subst (λ tag. IsPieceOf fragment world 0 letter.message.position letter.message.member tag piece) (sym is_true.less.greatest)
@@ -164,9 +166,9 @@ module _ (fragment : Code) (code : IsCode fragment) (system : System) (has : Has
   read_there place entry at None found kind answered =
       let read = keeps.reads place entry at kind answered in (read.0, read.1, read.2, there read.0 read.1 read.3)
   read_there place entry at (Some answer) found kind answered =
-      let is_one = answer_found (IsEarly fragment has.run) has.answers entry.call answer has.is.early.early found in
-      let read = early_reads fragment world code (is_reached fragment has.run has.reached) answer is_one.0
-      (reads_early fragment code has.run has.reached answer is_one.0 place entry at is_one.1 kind) in (
+      let is_one = answer_found (IsEarly fragment (run_of has.course)) has.answers entry.call answer has.is.early.early found in
+      let read = early_reads fragment world code (is_reached fragment has.course has.reached) answer is_one.0
+      (reads_early fragment code has.course has.reached answer is_one.0 place entry at is_one.1 kind) in (
         read.0,
         read.1,
         ap (λ k. early_value k answer.value entry.value) kind ∙ read.2,

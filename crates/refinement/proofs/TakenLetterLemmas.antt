@@ -33,7 +33,7 @@ still_kept fragment world local formed part =
     (unchanged fragment world local 0 formed part)
 
 -- what is so of a phase, whatever replies it takes, is so after it takes a message
-after_taking : (P : Phase → Type 0) → ((p : Phase) (member : ℕ) (reply : Reply) → P p → P (with_reply p member reply 0)) →
+pub after_taking : (P : Phase → Type 0) → ((p : Phase) (member : ℕ) (reply : Reply) → P p → P (with_reply p member reply 0)) →
     (p : Phase) (message : Message) → P p → P (after_take p message 0)
 after_taking P more p message is = go message.body
   where

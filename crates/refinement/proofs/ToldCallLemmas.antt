@@ -30,7 +30,8 @@ use Rattle.told_replies.specs.EarlyAnswers.{EndsAtOnce, EndsHeld, Finalizes, Has
 use Rattle.told_replies.specs.EarlyAnswers.{TellsHeld, TellsNoGreater, TellsPiece, asked_layout}
 use Rattle.told_replies.specs.Tellings.{HasTold, Run, world_of}
 use Rattle.refinement.specs.Parts.{IsPartOf}
-use Rattle.refinement.specs.ToldLetters.{AreApart, IsTrueReport}
+use Rattle.refinement.specs.ToldLetters.{AreApart}
+use Rattle.refinement.proofs.EarlyRunLemmas.{IsReportOf}
 use Rattle.refinement.proofs.ToldReportLemmas.{count_is, have_told, told_by_report}
 use Rattle.local_object.proofs.NewObjectLemmas.{are_both, both}
 
@@ -63,7 +64,7 @@ not_true false e = refl
 
 -- the call with what its node keeps
 module _ (fragment : Code) (run : Run) (local : LocalObject) (call : NodeCall) (part : IsPartOf (world_of fragment run) local)
-    (own : call.node ≡ local.node) (are : AllByRecursion (IsTrueReport fragment run) local.reports) (apart : AreApart local.reports) where
+    (own : call.node ≡ local.node) (are : AllByRecursion (IsReportOf fragment run) local.reports) (apart : AreApart local.reports) where
   abbrev asked : Layout
   asked = asked_layout (world_of fragment run) call
 
@@ -156,7 +157,7 @@ module _ (fragment : Code) (run : Run) (local : LocalObject) (call : NodeCall) (
             × TellsPiece fragment asked tag value member telling
         piece_there =
             let told = told_by_report fragment run call has.report
-            (all_get (IsTrueReport fragment run) local.reports has.place has.report are has.at)
+            (all_get (IsReportOf fragment run) local.reports has.place has.report are has.at)
             (are_both (eqb has.report.call call.id) (eqb has.report.phase call.phase.number)
             (eq-eqb has.report.call call.id has.same_call) (eq-eqb has.report.phase call.phase.number has.same_phase)) in (
               told.0,
@@ -193,7 +194,7 @@ module _ (fragment : Code) (run : Run) (local : LocalObject) (call : NodeCall) (
 -- what the node knows to be enough for an early answer is enough in the run
 pub held_there : (fragment : Code) (run : Run) (local : LocalObject) (call : NodeCall) (value : Option (List ℕ)) →
     IsPartOf (world_of fragment run) local → call.node ≡ local.node →
-    AllByRecursion (IsTrueReport fragment run) local.reports → AreApart local.reports →
+    AllByRecursion (IsReportOf fragment run) local.reports → AreApart local.reports →
     EndsHeldHere fragment local call value → EndsHeld fragment run call value
 held_there fragment run local call value part own are apart here =
     let put = put_of call.phase.kind here.puts in record {
@@ -209,7 +210,7 @@ held_there fragment run local call value part own are apart here =
 
 pub at_once_there : (fragment : Code) (run : Run) (local : LocalObject) (call : NodeCall) (value : Option (List ℕ)) →
     IsPartOf (world_of fragment run) local → call.node ≡ local.node →
-    AllByRecursion (IsTrueReport fragment run) local.reports → AreApart local.reports →
+    AllByRecursion (IsReportOf fragment run) local.reports → AreApart local.reports →
     EndsAtOnceHere fragment local call value → EndsAtOnce fragment run call value
 at_once_there fragment run local call value part own are apart here =
     let first = first_is call.stage here.first in record {

@@ -10,12 +10,13 @@ use Rattle.open_calls.specs.OpenCalls.{NodeCall}
 use Rattle.local_object.specs.declared.report.Report.{Report}
 use Rattle.local_object.specs.Reports.{is_of, is_same}
 use Rattle.told_replies.specs.Tellings.{HasTold, HaveTold, Run}
-use Rattle.refinement.specs.ToldLetters.{AreApart, IsTrueReport}
+use Rattle.refinement.specs.ToldLetters.{AreApart}
+use Rattle.refinement.proofs.EarlyRunLemmas.{IsReportOf}
 use Rattle.local_object.proofs.NewObjectLemmas.{are_both, both}
 
 module _ (fragment : Code) (run : Run) (call : NodeCall) where
   -- a report to the call's current phase is something that the call was told
-  pub told_by_report : (report : Report) → IsTrueReport fragment run report → is_of call.id call.phase.number report ≡ true →
+  pub told_by_report : (report : Report) → IsReportOf fragment run report → is_of call.id call.phase.number report ≡ true →
       (whole : Telling) × SaysNoMore report.telling whole × HasTold fragment run call report.member whole
   told_by_report report is of =
       let names = both (eqb report.call call.id) (eqb report.phase call.phase.number) of in (
@@ -41,7 +42,7 @@ module _ (fragment : Code) (run : Run) (call : NodeCall) where
       abbrev Told : ℕ → Type 0
       Told member = (telling : Telling) × HasTold fragment run call member telling × Says member telling
 
-      told_if : (report : Report) (reports : List Report) → IsTrueReport fragment run report →
+      told_if : (report : Report) (reports : List Report) → IsReportOf fragment run report →
           AllByRecursion Told (members reports) → (b : Bool) → test report ≡ b →
           AllByRecursion Told (map (λ (r : Report). r.member) (cond b (report ∷ filter test reports) (filter test reports)))
       told_if report reports is others true e =
@@ -49,7 +50,7 @@ module _ (fragment : Code) (run : Run) (call : NodeCall) where
           ((told.0, told.2, says report told.0 e told.1), others)
       told_if report reports is others false e = others
 
-      all_told : (reports : List Report) → AllByRecursion (IsTrueReport fragment run) reports → AllByRecursion Told (members reports)
+      all_told : (reports : List Report) → AllByRecursion (IsReportOf fragment run) reports → AllByRecursion Told (members reports)
       all_told [] are = tt
       all_told (report ∷ reports) are = told_if report reports are.0 (all_told reports are.1) (test report) refl
 
@@ -106,6 +107,6 @@ module _ (fragment : Code) (run : Run) (call : NodeCall) where
       pub count_is : (reports : List Report) → length (members reports) ≡ count_by test reports
       count_is reports = length_members (filter test reports) ∙ length-filter test reports
 
-      pub have_told : (reports : List Report) → AllByRecursion (IsTrueReport fragment run) reports → AreApart reports →
+      pub have_told : (reports : List Report) → AllByRecursion (IsReportOf fragment run) reports → AreApart reports →
           HaveTold fragment run call Says (members reports)
       have_told reports are apart = record { distinct = all_distinct reports apart; each = all_told reports are }

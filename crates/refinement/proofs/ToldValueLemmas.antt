@@ -22,17 +22,21 @@ use Rattle.early_ends.specs.Told.{IsHeldCall, IsTold, IsToldRead, Told}
 use Rattle.letter.specs.declared.telling.Telling.{Telling}
 use Rattle.told_replies.specs.EarlyAnswers.{EarlyAnswer, IsEarly}
 use Rattle.told_replies.specs.Tellings.{Run, WasTold, world_of}
+use Rattle.told_queries.specs.Courses.{Course, run_of}
+use Rattle.told_queries.specs.Laws.{IsCourse}
 use Rattle.told_replies.proofs.EarlyEndLemmas.{told_answer, told_early}
 use Rattle.told_replies.proofs.EarlyValueLemmas.{value_there}
 use Rattle.told_replies.proofs.ServedMessageLemmas.{served_for}
 use Rattle.told_replies.proofs.TracedRunLemmas.{IsRecorded, Remembers, after_one, may_at, recorded}
-use Rattle.refinement.specs.Laws.{IsReachedBy}
 
 read_of : (kind : CallKind) → operation_of kind ≡ operation.Read → kind ≡ Read
 read_of Read e = refl
 read_of _ e = absurd (cc)
 
-module _ (fragment : Code) (code : IsCode fragment) (run : Run) (reached : IsReachedBy fragment run) where
+module _ (fragment : Code) (code : IsCode fragment) (course : Course) (reached : IsCourse fragment course) where
+  abbrev run : Run
+  run = run_of course
+
   abbrev world : World
   world = world_of fragment run
 

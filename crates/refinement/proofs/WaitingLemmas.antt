@@ -11,13 +11,14 @@ use Rattle.open_calls.proofs.CallsOfNodeLemmas.{differs, nothing_without}
 use Rattle.network.specs.Worlds.{World}
 use Rattle.network.specs.Events.{Event, world_after}
 use Rattle.local_object.specs.Outcomes.{Outcome}
+use Rattle.told_queries.specs.Courses.{AreWaits, IsWait}
 use Rattle.refinement.specs.Parts.{IsPartOf, WasSentAs}
 use Rattle.refinement.specs.Refined.{IsRefined}
 use Rattle.refinement.specs.Starting.{HasEvents}
 use Rattle.refinement.specs.WellFormed.{IsWellFormed}
 use Rattle.refinement.proofs.BegunCallLemmas.{ticked}
 use Rattle.refinement.proofs.PartLemmas.{changed_world, kept_after, refined}
-use Rattle.refinement.proofs.RefinedEventLemmas.{then_refined}
+use Rattle.refinement.proofs.RefinedEventLemmas.{both_refined, then_refined}
 
 -- an id that is greater than those of all calls
 over_all : (calls : List NodeCall) → (id : ℕ) × AllByRecursion (λ call. call.id < id) calls
@@ -31,6 +32,10 @@ over_all (call ∷ calls) =
 apart : (a b : ℕ) → a < b → a ≡ b → ⊥
 apart a b less same = absurd (omega arith)
 
+-- the world, so many events later
+abbrev pub later_world : World → (now : ℕ) → World
+later_world world now = record world { now = now }
+
 none_open : (calls : List NodeCall) (id : ℕ) → AllByRecursion (λ call. call.id < id) calls → open_call calls id ≡ None
 none_open [] id all = refl
 none_open (call ∷ calls) id all =
@@ -39,6 +44,7 @@ none_open (call ∷ calls) id all =
 -- an event after which the world is as it was, one event later
 pub record Waits (fragment : Code) (world : World) (after : Outcome) : Type 0 where
   pub event : Event
+  pub is_wait : IsWait world event
   pub refined : IsRefined fragment world (event ∷ []) after
   pub later : world_after fragment (event ∷ []) world ≡ ticked world
 
@@ -68,7 +74,51 @@ waits fragment world after formed part sent =
       now = omega arith;
       entries = refl;
     })) in
-    record { event = Event.GiveUp free.0; refined = done.0; later = sym later }
+    record {
+      event = Event.GiveUp free.0;
+      is_wait = (free.0, refl, none_open world.calls free.0 free.1);
+      refined = done.0;
+      later = sym later;
+    }
+
+-- so many such events, after which the world is as it was, so many events later
+pub record WaitsLong (fragment : Code) (world : World) (after : Outcome) (count : ℕ) : Type 0 where
+  pub events : List Event
+  pub number : length events ≡ count
+  pub are_waits : AreWaits world events
+  pub refined : IsRefined fragment world events after
+  pub later : world_after fragment events world ≡ later_world world (world.now + count)
+
+pub waits_long : (fragment : Code) (count : ℕ) (world : World) (after : Outcome) → IsWellFormed fragment world →
+    IsPartOf world after.local → AllByRecursion (WasSentAs world) after.sent → WaitsLong fragment world after count
+waits_long fragment zero world after formed part sent =
+    let same : world.now ≡ world.now + 0 = omega arith in record {
+      events = [];
+      number = refl;
+      are_waits = tt;
+      refined = record {
+        may = tt;
+        formed = formed;
+        part = part;
+        sent = sent;
+        others = λ other differ is. is;
+        kept = λ letter was. was;
+        files = refl;
+        now = same;
+      };
+      later = ap (later_world world) same;
+    }
+waits_long fragment (suc count) world after formed part sent =
+    let one = waits fragment world after formed part sent in
+    let next = world_after fragment (one.event ∷ []) world in
+    let rest = waits_long fragment count next after one.refined.formed one.refined.part one.refined.sent in
+    let sum : suc world.now + count ≡ world.now + suc count = omega arith in record {
+      events = one.event ∷ rest.events;
+      number = ap suc rest.number;
+      are_waits = (one.is_wait, subst (λ w. AreWaits w rest.events) one.later rest.are_waits);
+      refined = both_refined fragment world (one.event ∷ []) rest.events after after refl one.refined rest.refined;
+      later = rest.later ∙ ap (λ (w : World). later_world w (w.now + count)) one.later ∙ ap (later_world world) sum;
+    }
 
 -- with this many more events that change nothing
 padded : (fragment : Code) (world : World) (after : Outcome) (history : List Entry) (more count : ℕ) →

@@ -4,13 +4,12 @@ use Rattle.std.specs.Prelude.{◌≡◌, ℕ, suc, false, List, [], ◌∷◌, O
 use Rattle.record.specs.declared.call.CallKind.TheVariants.{Read}
 use Rattle.record.specs.Fragments.{Code, IsCode}
 use Rattle.atomicity.specs.Atomic.{IsAtomic}
-use Rattle.network.specs.Worlds.{World, opened_world}
+use Rattle.network.specs.Worlds.{World}
 use Rattle.open_calls.specs.OpenCalls.{NodeCall, open_call}
 use Rattle.network.specs.Events.{world_after}
-use Rattle.network.specs.Premises.{IsOneFile, MayHappenInTurn}
-use Rattle.layout.specs.Layout.{IsLawful}
 use Rattle.told_replies.specs.EarlyAnswers.{EarlyAnswer}
-use Rattle.told_replies.specs.Tellings.{Run}
+use Rattle.told_queries.specs.Courses.{Course}
+use Rattle.told_queries.specs.Laws.{IsCourse}
 use Rattle.letter.specs.declared.letter.Letter.{Letter}
 use Rattle.local_object.specs.Local.{LocalObject}
 use Rattle.local_object.specs.Events.{LocalEvent, all_done, done_here}
@@ -21,9 +20,9 @@ use Rattle.refinement.specs.Parts.{IsPartOf, WasSentAs}
 use Rattle.refinement.specs.WellFormed.{IsWellFormed}
 use Rattle.local_object.specs.Restarts.{IsKeptHere}
 use Rattle.refinement.specs.Refined.{IsPremisedHere, IsRefined, history_after, world_history}
-use Rattle.refinement.specs.Starting.{HasEvents, event_count, is_known_by_count}
+use Rattle.refinement.specs.Starting.{HasEvents, event_count, is_known_by_count, is_querying}
 use Rattle.refinement.specs.Refined.{restart_event, world_events}
-use Rattle.refinement.specs.Systems.{ArePremisedIn, IsDoneIn, IsReachedSystem, IsRunOf, System, SystemEvent}
+use Rattle.refinement.specs.Systems.{ArePremisedIn, IsDoneIn, IsCourseOf, IsReachedSystem, System, SystemEvent}
 use Rattle.refinement.specs.Systems.{system_after}
 use Rattle.refinement.specs.SystemValues.{HasAnswer, HasEarlyAnswer, KeepsValuesIn}
 
@@ -47,9 +46,9 @@ IsEventOfWorld event = (fragment : Code) (world : World) (local : LocalObject) �
     HasEvents fragment world (done_here fragment local event) (world_history local event (suc world.now) world.history)
     (event_count local event)
 
--- whatever a node does is what some events of the world do
+-- whatever a node does is what some events of the world do, unless the first reading of a call stands for its query
 abbrev pub LocalEventsAreWorldEvents : Type 0
-LocalEventsAreWorldEvents = (event : LocalEvent) → IsEventOfWorld event
+LocalEventsAreWorldEvents = (event : LocalEvent) → is_querying event ≡ false → IsEventOfWorld event
 
 -- a node that stops and starts again is an event of the world, which leaves the history as it is
 abbrev pub RestartsAreWorldEvents : Type 0
@@ -63,16 +62,11 @@ abbrev pub ResentLettersWereSent : Type 0
 ResentLettersWereSent = (fragment : Code) (world : World) (local : LocalObject) (letter : Letter) →
     IsWellFormed fragment world → IsPartOf world local → IsResent fragment local letter → WasSentAs world letter
 
--- a run from an opened world, whose nodes have one lawful cluster file, by events that may happen and meet the premises
-pub record IsReachedBy (fragment : Code) (run : Run) : Type 0 where
-  pub one : IsOneFile run.files
-  pub lawful : IsLawful (run.files 0).first
-  pub may : MayHappenInTurn fragment run.events (opened_world run.files)
-
--- all nodes have a world that is reached by a run, in which their early answers were given
+-- all nodes have a world that is reached by a course, in which their early answers were given
 abbrev pub SystemsHaveWorlds : Type 0
 SystemsHaveWorlds = (fragment : Code) (system : System) → IsReachedSystem fragment system →
-    (run : Run) × (answers : List EarlyAnswer) × IsReachedBy fragment run × IsRunOf fragment run answers system
+    (course : Course) × (answers : List EarlyAnswer) × IsCourse fragment course
+    × IsCourseOf fragment course answers system
 
 -- the history of the calls of all nodes is atomic
 abbrev pub SystemsAreAtomic : Type 0

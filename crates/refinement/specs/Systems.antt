@@ -7,6 +7,7 @@ use Rattle.record.specs.declared.call.Entry.{Entry}
 use Rattle.record.specs.Fragments.{Code}
 use Rattle.network.specs.Worlds.{ClusterFile, World}
 use Rattle.network.specs.Premises.{IsOneFile, IsUnused}
+use Rattle.open_calls.specs.OpenCalls.{NodeCall}
 use Rattle.letter.specs.declared.letter.Letter.{Letter}
 use Rattle.local_object.specs.Local.{LocalObject, new_local}
 use Rattle.local_object.specs.Events.{LocalEvent, done_here}
@@ -20,6 +21,8 @@ use Rattle.refinement.specs.Starting.{event_count}
 use Rattle.refinement.specs.ToldLetters.{AreApart, IsTrueReport, TellsTruth}
 use Rattle.told_replies.specs.EarlyAnswers.{EarlyAnswer, IsEarly, early_answer_to, early_history}
 use Rattle.told_replies.specs.Tellings.{Run, world_of}
+use Rattle.told_queries.specs.Courses.{Course, HasRoom, run_of, spare_events}
+use Rattle.told_queries.specs.Laws.{IsFirstReading}
 
 -- all nodes: the cluster file that each runs with, what each keeps of the object, and all letters ever sent; and as
 -- history the entries of the calls, and how many events there were
@@ -50,7 +53,7 @@ pub data SystemEvent : Type 0 where
 abbrev pub with_object_at : (objects : ℕ → LocalObject) → (node : ℕ) → LocalObject → (other : ℕ) → LocalObject
 with_object_at objects node local other = if other == node then local else objects other
 
--- all nodes after an event
+-- all nodes after an event; after each thing that a node does, the world keeps some events in reserve
 abbrev pub system_after : Code → System → SystemEvent → System
 system_after fragment system (SystemEvent.Acts node event) =
     let local = system.objects node in
@@ -59,7 +62,7 @@ system_after fragment system (SystemEvent.Acts node event) =
       objects = with_object_at system.objects node done.local;
       letters = system.letters ++ done.sent;
       history = history_after local event (suc system.now) system.history;
-      now = system.now + event_count local event;
+      now = system.now + (event_count local event + spare_events);
     }
 system_after fragment system (SystemEvent.Resends node letters) =
     record system { letters = system.letters ++ letters }
@@ -125,10 +128,10 @@ pub record HasPartsOf (world : World) (system : System) : Type 0 where
   pub letters : AllByRecursion (WasSentAs world) system.letters
   pub now : world.now ≡ system.now
 
--- what all nodes were told is true in the run, and a member told each phase of a call once
-pub record IsToldTruth (fragment : Code) (run : Run) (system : System) : Type 0 where
-  pub letters : AllByRecursion (TellsTruth fragment run) system.letters
-  pub reports : (node : ℕ) → AllByRecursion (IsTrueReport fragment run) (system.objects node).reports
+-- what all nodes were told is true in the course, and a member told each phase of a call once
+pub record IsToldTruth (fragment : Code) (course : Course) (system : System) : Type 0 where
+  pub letters : AllByRecursion (TellsTruth fragment course) system.letters
+  pub reports : (node : ℕ) → AllByRecursion (IsTrueReport fragment course) (system.objects node).reports
   pub apart : (node : ℕ) → AreApart (system.objects node).reports
 
 -- the answers were given early in the run, to calls of the history that are open no more; with them, the history is
@@ -140,12 +143,18 @@ pub record AreEarlyAnswers (fragment : Code) (run : Run) (answers : List EarlyAn
   pub used : (id : ℕ) → IsUnused (world_of fragment run) id → early_answer_to answers id ≡ None
   pub same : early_history answers (world_of fragment run).history ≡ history
 
--- the run leads to the world of all nodes: what each keeps is its part, the letters were sent in it, what they tell is
--- true, and the history is the same, with these early answers
-pub record IsRunOf (fragment : Code) (run : Run) (answers : List EarlyAnswer) (system : System) : Type 0 where
-  pub parts : HasPartsOf (world_of fragment run) system
-  pub told : IsToldTruth fragment run system
-  pub early : AreEarlyAnswers fragment run answers system.history
+-- the course leaves room for a query of the call, if the call reads the first position that counts
+abbrev pub HasRoomIfReading : Code → Course → NodeCall → Type 0
+HasRoomIfReading fragment course call = IsFirstReading call → HasRoom fragment course call
+
+-- the course leads to the world of all nodes: what each keeps is its part, the letters were sent in it, what they tell
+-- is true, and the history is the same, with these early answers; and each call may query while it reads first
+pub record IsCourseOf (fragment : Code) (course : Course) (answers : List EarlyAnswer) (system : System)
+    : Type 0 where
+  pub parts : HasPartsOf (world_of fragment (run_of course)) system
+  pub told : IsToldTruth fragment course system
+  pub early : AreEarlyAnswers fragment (run_of course) answers system.history
+  pub rooms : (node : ℕ) → AllByRecursion (HasRoomIfReading fragment course) (system.objects node).calls
 
 -- What a node does in a row
 

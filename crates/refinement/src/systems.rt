@@ -2,8 +2,9 @@
 ghost use Rattle.refinement.specs.Laws.{AnsweredReadsHaveValues, AnswersAreInHistory, EarlyAnswersAreInHistory};
 ghost use Rattle.refinement.specs.Laws.{EventsInARowAreEvents, SystemsAreAtomic, SystemsHaveWorlds, SystemsKeepValues};
 
-/// A law: whatever nodes do, and however often they stop and start again, there is a run to a world of which each node
-/// keeps its part. What letters tell is true in the run, and calls that ended early were answered early in it.
+/// A law: whatever nodes do, and however often they stop and start again, there is a run in turns to a world of which
+/// each node keeps its part. What letters tell is true in the run, calls that ended early were answered early in it,
+/// and each call that reads first has room for a query.
 pub fn systems_have_worlds()
     ensures { SystemsHaveWorlds }
 {}
