@@ -25,7 +25,7 @@ use Rattle.letter.specs.declared.telling.Telling.{Telling}
 use Rattle.mail.specs.Message.{is_request}
 use Rattle.local_object.specs.Doing.{IsOutcome, is_askable, is_sent_back, is_served, serve_events, stray_events}
 use Rattle.local_object.specs.Events.{LocalEvent, advanced_at, advanced_here, all_done, called_here, done_here}
-use Rattle.local_object.specs.Events.{pieces_here, reply_letters, served_here}
+use Rattle.local_object.specs.Events.{pieces_here, queried_here, reply_letters, served_here}
 use Rattle.local_object.specs.Outcomes.{begun_here, is_read, learnt_from, letter_of, on_open_call, silent}
 use Rattle.local_object.specs.Starting.{anew_number, first_number, number_at, reads_at, reads_here}
 use Rattle.local_object.specs.KeptBanks.{kept_reply}
@@ -101,6 +101,16 @@ silent_asks : (local : LocalObject) (call : Option NodeCall) (change : NodeCall 
 silent_asks local None change = tt
 silent_asks local (Some call) change = tt
 
+queried_asks : (local : LocalObject) (call : NodeCall) (layout : Option Layout) →
+    AllByRecursion Asks (queried_here local call layout).sent
+queried_asks local call None = tt
+queried_asks local call (Some layout) = tt
+
+querying_asks : (local : LocalObject) (call : Option NodeCall) →
+    AllByRecursion Asks (on_open_call local call (λ c. queried_here local c (layout_here local c.phase.position))).sent
+querying_asks local None = tt
+querying_asks local (Some call) = queried_asks local call (layout_here local call.phase.position)
+
 -- all letters of an event that serves no request, and sends none back, are requests
 event_asks : (local : LocalObject) (event : LocalEvent) → ServesNone event →
     AllByRecursion Asks (done_here fragment local event).sent
@@ -129,6 +139,7 @@ event_asks local (LocalEvent.BeginAnew id) none =
     reading_asks local (λ call. anew_number call local.start) (open_call local.calls id)
 event_asks local (LocalEvent.Raise position) none = tt
 event_asks local (LocalEvent.EndEarly id value) none = tt
+event_asks local (LocalEvent.Query id) none = querying_asks local (open_call local.calls id)
 
 all_ask : (local : LocalObject) (events : List LocalEvent) → AllByRecursion ServesNone events →
     AllByRecursion Asks (all_done fragment local events).sent
@@ -162,6 +173,7 @@ begins_serve_none (LocalEvent.ReadOn id) other is = tt
 begins_serve_none (LocalEvent.BeginAnew id) other is = tt
 begins_serve_none (LocalEvent.Raise position) other is = tt
 begins_serve_none (LocalEvent.EndEarly id value) other is = tt
+begins_serve_none (LocalEvent.Query id) other is = tt
 
 -- Letters that are sent again
 

@@ -15,7 +15,8 @@ use Rattle.local_object.specs.Ended.{all_told}
 use Rattle.local_object.specs.Events.{LocalEvent, all_done}
 use Rattle.local_object.specs.Going.{next_if}
 use Rattle.local_object.specs.Local.{LocalObject, Place}
-use Rattle.local_object.specs.Replies.{IsReplyOutcome, after_taking}
+use Rattle.local_object.specs.Querying.{query_by, query_events, stands_for_query}
+use Rattle.local_object.specs.Replies.{IsReplyOutcome, after_taking, taking_events}
 use Rattle.local_object.specs.Taking.{AreSettling, IsOutcomeWithAnswers, begin_anew_events, begin_events}
 use Rattle.local_object.specs.Taking.{call_events, can_begin, can_begin_anew, going_events, grow_events, grows_by, is_read_begin}
 use Rattle.local_object.specs.Taking.{lead_events, machine_of, repeats, restart_events, step_events}
@@ -68,6 +69,13 @@ module _ (got : List Named) (name : List ℕ) where
       all_append (IsQuiet got name) (grow_events local id) (lead_events again grown id) (grow_quiet local id)
       (call_quiet again grown (open_call grown.calls id))
 
+  query_quiet : (local : LocalObject) (id : ℕ) → AllByRecursion (IsQuiet got name) (query_events local id)
+  query_quiet local id = go (open_call local.calls id)
+    where
+      go : (call : Option NodeCall) → AllByRecursion (IsQuiet got name) (query_by local call)
+      go None = tt
+      go (Some call) = if_all (IsQuiet got name) (LocalEvent.Query call.id) (stands_for_query local call) (tt, refl, tt)
+
   settle_quiet : (local : LocalObject) (id : ℕ) (events : List LocalEvent) → AreSettling local id events →
       AllByRecursion (IsQuiet got name) events
   settle_quiet local id events (inl none) = subst (λ es. AllByRecursion (IsQuiet got name) es) (sym none.0) tt
@@ -108,13 +116,14 @@ taken_quietly name letter true old local letters ended (inl early) =
     (((0, refl), refl, tt), ((tt, refl, tt), tt))
 taken_quietly name letter true old local letters ended (inr goes) =
     let got : List Named = record { name = name; letter = letter } ∷ [] in
-    let first = LocalEvent.Take letter ∷ goes.settling in
+    let id = letter.message.call in
+    let taking = taking_events old letter in
+    let first = taking ++ goes.settling in
     let again = repeats old letter in
     let settled = (all_done fragment old first).local in
-    let last = going_events again settled letter.message.call in
+    let last = going_events again settled id in
     by_quietly got name old local letters ended (first ++ last) goes.leads
-    (all_append (IsQuiet got name) first last (
-      ((0, refl), refl, tt),
-      settle_quiet got name (after_taking old letter) letter.message.call goes.settling goes.settles,
-    )
-    (going_quiet got name again settled letter.message.call))
+    (all_append (IsQuiet got name) first last
+    (all_append (IsQuiet got name) taking goes.settling (((0, refl), refl, tt), query_quiet got name (after_taking old letter) id)
+    (settle_quiet got name (all_done fragment old taking).local id goes.settling goes.settles))
+    (going_quiet got name again settled id))

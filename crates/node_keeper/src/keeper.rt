@@ -50,6 +50,7 @@ impl Keeper {
     /// Makes what the node with this number keeps before it has heard of any object, and before its first epoch.
     pub fn new(alloc: Global, file: ClusterFile, number: u8) -> Keeper
         ensures kept { kept_of result ≡ new_node (names_of file) number }
+        ensures file { result.file ≡ file }
         ensures digest { result.digest ≡ fixed_digest file.fixed }
     {
         let objects = Objects::new(alloc, number, file.delta(), file.placement());

@@ -24,6 +24,7 @@ impl Keeper {
         ensures more { result ≡ nat_lt (suc self.old.ids.epoch) (2 ^ 24) }
         ensures started { result ≡ true → IsStarted (kept_of self.old) (kept_of self.new) }
         ensures ended { result ≡ false → self.new ≡ self.old }
+        ensures file { self.new.file ≡ self.old.file }
         ensures digest { self.new.digest ≡ self.old.digest }
     {
         self.ids.begin_epoch()
