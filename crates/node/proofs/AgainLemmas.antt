@@ -45,6 +45,12 @@ pub on_ok_both : {T E P Q R : Type 0} (result : Result T E) → OnOk result P �
 on_ok_both (Ok x) p q f = f p q
 on_ok_both (Err e) p q f = p
 
+-- three facts of such a call
+pub on_ok_three : {T E P Q R S : Type 0} (result : Result T E) → OnOk result P → OnOk result Q → OnOk result R → (P → Q → R → S) →
+    OnOk result S
+on_ok_three (Ok x) p q r f = f p q r
+on_ok_three (Err e) p q r f = p
+
 -- if no letters are sent, the outputs stay as they are
 pub nothing_out : (keeper : Keeper) (outputs : List Output) (sends : List Sending) → sends ≡ [] →
     PutsOut keeper sends outputs outputs

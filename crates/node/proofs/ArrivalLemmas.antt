@@ -23,12 +23,15 @@ use Rattle.node_clients.specs.declared.next.Next.TheVariants.{Came}
 use Rattle.node_keeper.specs.declared.keeper.Keeper.{Keeper}
 use Rattle.node.specs.AtOnce.{IsAtOnce, IsFirstDone}
 use Rattle.node.specs.BegunCalls.{HasPutOut}
+use Rattle.node.specs.FitNodes.{CameInBytes, IsFitNode}
 use Rattle.node.specs.GivenIds.{UseIds}
 use Rattle.node.specs.Replies.{IsRight}
 use Rattle.node.specs.Serving.{FollowsUp, IsComing, ServedSince, ServesClients, ServesArrival}
 use Rattle.node.specs.Serving.{ServesMore}
 use Rattle.node.specs.declared.node.Node.{Node}
 use Rattle.node.specs.declared.peers.Peers.{Peers}
+use Rattle.writable.specs.Keepers.{IsLeftFit}
+use Rattle.node.proofs.FitComingLemmas.{comes_fit}
 use Rattle.node.proofs.GivenIdLemmas.{used_then}
 use Rattle.node.proofs.PutOutLemmas.{put_out_later}
 use Rattle.node.proofs.ServingLemmas.{all_right, serves_then}
@@ -51,8 +54,9 @@ at_once_stays (Some (arrived.Tick heard)) keeper peers desk more rest is = tt
 -- something comes, and some things follow up
 pub arrival_then : (came : Option Arrival) (a b c : Node) (u v w : Work) (service : Service) → b.keeper ≡ a.keeper →
     IsComing a.desk came (service ∷ []) → ServesClients a u (service ∷ []) b v → (more : ServesMore b v c w) →
-    IsAtOnce came a.keeper a.peers a.desk more.services → ServesArrival came a u c w
-arrival_then came a b c u v w service same comes first more at_once = record {
+    IsAtOnce came a.keeper a.peers a.desk more.services →
+    (CameInBytes came → IsFitNode a → IsLeftFit u c.keeper w) → ServesArrival came a u c w
+arrival_then came a b c u v w service same comes first more at_once leaves = record {
   coming = service ∷ [];
   more = more.services;
   comes = comes;
@@ -60,13 +64,15 @@ arrival_then came a b c u v w service same comes first more at_once = record {
   at_once = at_once;
   serves = serves_then a b c u v w (service ∷ []) more.services first more.serves;
   put_out = subst (λ (k : Keeper). AllByRecursion (HasPutOut k w.outputs.items) more.services) same more.put_out;
+  fit = comes_fit came a c u w (service ∷ []) more.services comes more.follows
+      (serves_then a b c u v w (service ∷ []) more.services first more.serves) leaves;
 }
 
 -- something comes, and nothing follows up
 pub arrival_alone : (came : Option Arrival) (a b : Node) (u v : Work) (services : List Service) →
     IsComing a.desk came services → IsAtOnce came a.keeper a.peers a.desk [] → ServesClients a u services b v →
-    ServesArrival came a u b v
-arrival_alone came a b u v services comes at_once serves = record {
+    (CameInBytes came → IsFitNode a → IsLeftFit u b.keeper v) → ServesArrival came a u b v
+arrival_alone came a b u v services comes at_once serves leaves = record {
   coming = services;
   more = [];
   comes = comes;
@@ -74,12 +80,15 @@ arrival_alone came a b u v services comes at_once serves = record {
   at_once = at_once;
   serves = subst (λ ss. ServesClients a u ss b v) (sym (append-nil services)) serves;
   put_out = tt;
+  fit = comes_fit came a b u v services [] comes tt
+      (subst (λ ss. ServesClients a u ss b v) (sym (append-nil services)) serves) leaves;
 }
 
 -- nothing comes for clients, and some things follow up
 pub arrival_more : (came : Option Arrival) (a b : Node) (u v : Work) → IsComing a.desk came [] →
-    (more : ServesMore a u b v) → IsAtOnce came a.keeper a.peers a.desk more.services → ServesArrival came a u b v
-arrival_more came a b u v comes more at_once = record {
+    (more : ServesMore a u b v) → IsAtOnce came a.keeper a.peers a.desk more.services →
+    (CameInBytes came → IsFitNode a → IsLeftFit u b.keeper v) → ServesArrival came a u b v
+arrival_more came a b u v comes more at_once leaves = record {
   coming = [];
   more = more.services;
   comes = comes;
@@ -87,6 +96,7 @@ arrival_more came a b u v comes more at_once = record {
   at_once = at_once;
   serves = more.serves;
   put_out = more.put_out;
+  fit = comes_fit came a b u v [] more.services comes more.follows more.serves leaves;
 }
 
 -- All that was done with a frame

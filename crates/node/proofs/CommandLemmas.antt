@@ -29,7 +29,10 @@ use Rattle.node.specs.Replies.{IsReplyTo, IsRight}
 use Rattle.node.specs.Serving.{FollowsUp, IsCommandDone, ServesClients, ServesCommand, ServesNext}
 use Rattle.node.specs.declared.node.Node.{Node}
 use Rattle.node.specs.declared.peers.Peers.{Peers}
+use Rattle.node.proofs.FitDeskLemmas.{taken_fit}
 use Rattle.node.proofs.ServingLemmas.{serves_one}
+use Rattle.node.proofs.StayingLemmas.{same_left, unchanged}
+use Rattle.writable.specs.Keepers.{IsFitKeeper}
 
 -- a connection that has a next command gives it
 pub no_next : (old new : Option Connection) → has_next old ≡ true → TakesNextAt old new None → ⊥
@@ -100,11 +103,12 @@ no_first (Some connection) next waiting none idle waits =
     go Quit commands none idle waits = absurd (cc)
 
 -- a connection gives no next command
-pub nothing_next : (client : ℕ) (old new : Node) (u v : Work) → has_next (connection_of old.desk client) ≡ false →
-    ServesClients old u [] new v → ServesNext client old u new v
-nothing_next client old new u v none serves = record {
+pub nothing_next : (client : ℕ) (node : Node) (work : Work) → has_next (connection_of node.desk client) ≡ false →
+    ServesClients node work [] node work → ServesNext client node work node work
+nothing_next client node work none serves = record {
   more = record { services = []; serves = serves; follows = tt; put_out = tt };
-  first = λ next waiting idle waits. no_first (connection_of old.desk client) next waiting none idle waits;
+  first = λ next waiting idle waits. no_first (connection_of node.desk client) next waiting none idle waits;
+  fit = λ desk keeper. unchanged node.keeper work keeper;
 }
 
 carried_as : (a b : Keeper) (r s : Peers) (m n : ℕ) (p q : Counts) (client : ℕ) (next also : Next) (service : Service) → b ≡ a →
@@ -136,6 +140,7 @@ taken_served a b c u v client next same peers taken s =
           let both : command ∷ waiting ≡ next ∷ waiting_on (connection_of b.desk client) = sym waits ∙ taken.taken.1 in
           carried_as a.keeper b.keeper a.peers b.peers (index_map_len a.desk.calls) (index_map_len b.desk.calls) a.desk.counts b.desk.counts
           client next command s.service same peers many taken.counts (cc) s.carried;
+      fit = λ desk keeper. s.fit (taken_fit a.desk client next b.desk desk taken).1 (subst IsFitKeeper (sym same) keeper);
     }
 
 -- a busy connection is there: its client is sent the answer
@@ -158,9 +163,9 @@ pub replied : (client : ℕ) (next : Next) (answer : Answer) (old new : Node) (u
     IsClientAnswered old.desk client new.desk → IsGrown u v (answer_sent client answer) →
     IsReplyTo old.keeper.ids.node old.keeper.file client (asked next) answer →
     IsReplyHere old.keeper old.peers (index_map_len old.desk.calls) old.desk.counts (asked next) answer →
-    new.keeper.file ≡ old.keeper.file → UsesIdIf (is_refusal answer) old.keeper.ids new.keeper.ids →
+    new.keeper ≡ old.keeper → UsesIdIf (is_refusal answer) old.keeper.ids new.keeper.ids →
     ServesCommand client next old u new v
-replied client next answer old new u v answered grown reply here file ids = record {
+replied client next answer old new u v answered grown reply here same ids = record {
   service = Service.Replies client next answer;
   done = (refl, refl, answered);
   right = reply;
@@ -169,8 +174,9 @@ replied client next answer old new u v answered grown reply here file ids = reco
   due = grown.due;
   notices = grown.notices;
   put_out = tt;
-  file = file;
+  file = ap (λ (k : Keeper). k.file) same;
   ids = ids;
+  fit = λ asks keeper. same_left old.keeper new.keeper u v (answer_sent client answer) same grown refl keeper;
 }
 
 pub is_there : (connection : Option Connection) → doing connection ≡ Busy → IsSome connection
@@ -208,5 +214,6 @@ quits client command old new u v (Ok done) is busy grown state waiting stays oth
   put_out = tt;
   file = ap (λ (k : Keeper). k.file) same;
   ids = ap (λ (k : Keeper). k.ids) same;
+  fit = λ short keeper. same_left old.keeper new.keeper u v (quit_growth client) same grown refl keeper;
 }
 quits client command old new u v (Err error) is busy grown state waiting stays others calls counts same = tt

@@ -30,6 +30,7 @@ use Rattle.node_keeper.specs.declared.keeper.Keeper.{Keeper}
 use Rattle.node.specs.Failures.{CanBeginNext, Fails, FailsAged, FailsArrival, FailsAsked, FailsBehind, FailsFirst, FailsIf, FailsRead}
 use Rattle.node.specs.Failures.{FailsStep, FailsTicks, IsFailure}
 use Rattle.node.specs.Frames.{is_admitted, letters_in, sender_or}
+use Rattle.node.specs.FitNodes.{CameInBytes, IsFitAtWork, IsFitNode}
 use Rattle.node.specs.Handles.{HasActed}
 use Rattle.node.specs.Serving.{ServedSince}
 use Rattle.node.specs.Ticks.{AreTicked}
@@ -181,9 +182,9 @@ pub fails_then : (old now : Node) (work : Work) (frame : Strings) (error : NodeE
     (error ≡ errors.NoMemory) ⊎ ((asker : ℕ) (got : List Named) (came : Option Arrival) (first : Node) →
     HasActed asker got first.keeper now.keeper work →
     ServedSince came first now work.to_clients.items work.notices.items work.outputs.items →
-    FailsBehind asker got came first error) →
-    Fails old frame error
-fails_then old now work frame error acted served (inl is) = subst (Fails old frame) (sym is) tt
-fails_then old now work frame error acted served (inr why) =
+    (CameInBytes came → IsFitNode first → IsFitAtWork now work) → FailsBehind asker got came first error) →
+    (CameInBytes (arrival_at frame) → IsFitNode old → IsFitAtWork now work) → Fails old frame error
+fails_then old now work frame error acted served (inl is) fit = subst (Fails old frame) (sym is) tt
+fails_then old now work frame error acted served (inr why) fit =
     fails_behind old frame error (why (sender_or old.keeper.ids.node (arrival_at frame)) (letters_in old.keeper frame)
-    (arrival_at frame) old acted served)
+    (arrival_at frame) old acted served fit)

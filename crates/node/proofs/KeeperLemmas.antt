@@ -21,7 +21,7 @@ use Rattle.encoder.specs.Fragment.{fragment}
 use Rattle.local_object.specs.Events.{done_here}
 use Rattle.node_effects.specs.declared.output.Output.{Output}
 use Rattle.node_effects.specs.declared.work.Work.{Work}
-use Rattle.node_clients.specs.Answers.{answer_frame}
+use Rattle.node_clients.specs.Answers.{answer_frame, answer_sent}
 use Rattle.node_clients.specs.Served.{call_begun}
 use Rattle.node_clients.specs.Services.{Service, begun_notices, service_dues, service_frames}
 use Rattle.node_clients.proofs.EndLemmas.{EndsAs, IsEnding}
@@ -48,6 +48,9 @@ use Rattle.node.specs.declared.node.Node.{Node}
 use Rattle.node.specs.declared.reception.Reception.{Reception}
 use Rattle.node.proofs.GivenIdLemmas.{ending_uses}
 use Rattle.node.proofs.ServingLemmas.{more_none, more_one, serves_none, serves_one}
+use Rattle.node.proofs.StayingLemmas.{command_left, grown_left, left_then}
+use Rattle.node.specs.FitCommands.{IsFitFound}
+use Rattle.writable.specs.Keepers.{IsLeftFit}
 
 begins_file : (call : Beginning) (old new : Keeper) (u v : Work) (begun : Begun) → BeginsCall call old u new v begun →
     new.file ≡ old.file
@@ -109,6 +112,8 @@ call_served client next command call old new u v w (begun.Open id) asks notices 
           (begun_put_out call id old.keeper new.keeper u v w.outputs.items begins (ap (λ (x : Work). x.outputs.items) same));
       file = begins_file call old.keeper new.keeper u v (begun.Open id) begins;
       ids = gives_next old.keeper.ids id new.keeper.ids u begins.given begins.gives;
+      fit = λ short keeper. subst (λ (x : Work). IsLeftFit u new.keeper x) (sym same)
+          (command_left command call old.keeper new.keeper u v (begun.Open id) of (subst IsFitFound asks short) keeper begins);
     }
 call_served client next command call old new u v w (begun.Refused why) asks notices refusals may refused accepted of begins
     awaited =
@@ -132,6 +137,9 @@ call_served client next command call old new u v w (begun.Refused why) asks noti
       put_out = tt;
       file = begins_file call old.keeper new.keeper u v (begun.Refused why) begins;
       ids = let gives = gives_next old.keeper.ids begins.id new.keeper.ids u v begins.gives in (begins.id, gives.0, gives.1);
+      fit = λ short keeper. left_then new.keeper new.keeper u v w
+          (command_left command call old.keeper new.keeper u v (begun.Refused why) of (subst IsFitFound asks short) keeper begins)
+          (grown_left new.keeper v w (answer_sent client answer) grown refl);
     }
 
 delivers_file : (heeded asks : Bool) (asker : ℕ) (it : NamedLetter) (old new : Keeper) (u v : Work) (result : Delivered) →

@@ -10,6 +10,11 @@ pub mod GivenIdLemmas
 pub mod IdsLeftLemmas
 pub mod PutOutLemmas
 pub mod ServingLemmas
+pub mod FitCommandLemmas
+pub mod FitDeskLemmas
+pub mod FitServiceLemmas
+pub mod FitComingLemmas
+pub mod StayingLemmas
 pub mod CommandLemmas
 pub mod PlainReplyLemmas
 pub mod ArrivalLemmas

@@ -1,6 +1,6 @@
 -- Which calls are open at an object where only moves are, after it takes a letter again, and which call that ends.
 use Rattle.std.proofs.Common.{◌≡◌, inl, inr, ℕ, Bool, true, false, cond, eqb, is_some, not, List, [], ◌∷◌, ◌++◌, Option, None, Some}
-use Rattle.std.proofs.Common.{refl, sym, subst, ap, ◌∙◌}
+use Rattle.std.proofs.Common.{◌&&◌, refl, sym, subst, ap, ◌∙◌}
 use Rattle.bank.specs.declared.kind.Kind.{Kind}
 use Rattle.call.specs.Call.{reached}
 use Rattle.call.specs.declared.next.Next.{Next}
@@ -16,12 +16,14 @@ use Rattle.local_object.specs.Ended.{all_told, told_if}
 use Rattle.local_object.specs.Events.{LocalEvent, all_done, done_here}
 use Rattle.local_object.specs.Going.{next_if}
 use Rattle.local_object.specs.Local.{LocalObject}
+use Rattle.local_object.specs.Querying.{query_by, query_events, stands_for_query}
 use Rattle.local_object.specs.Replies.{IsReplyOutcome}
 use Rattle.local_object.specs.Taking.{AreSettling, begin_anew_events, begin_events, call_events, can_begin}
 use Rattle.local_object.specs.Taking.{can_begin_anew, going_events, grows_by, is_read_begin, lead_events, machine_of, repeats}
 use Rattle.local_object.specs.Taking.{restart_events, step_events}
 use Rattle.recoveries.proofs.EarlyMoveLemmas.{no_early_move}
 use Rattle.recoveries.proofs.KeptCallLemmas.{found_id}
+use Rattle.recoveries.proofs.QueriedLemmas.{after_reply}
 use Rattle.recoveries.proofs.TakenReplyLemmas.{gone_on, taken_to}
 use Rattle.node_keeper.specs.Delivering.{first_id}
 use Rattle.node.proofs.OpenObjectLemmas.{HasOnlyMoves, advance_keeps, anew_keeps, is_open, none_without, others_without}
@@ -136,6 +138,37 @@ goes_on local again id settling (inr some) all =
     (first_id (all_told fragment local (es ++ going_events again (all_done fragment local es).local id))) (gone_on again local id es))
     (sym some.2) (ends.0, ends_then local settled _ _ kept.1 ends.1)
 
+-- a first reading of a move does not stand for a query
+not_standing : (move reads told : Bool) → move ≡ true → ((not move && reads) && told) ≡ false
+not_standing true reads told e = refl
+not_standing false reads told e = absurd (cc)
+
+no_query : (local : LocalObject) → HasOnlyMoves local → (id : ℕ) → query_events local id ≡ []
+no_query local all id = go (open_call local.calls id) refl
+  where
+    go : (o : Option NodeCall) → open_call local.calls id ≡ o → query_by local o ≡ []
+    go None e = refl
+    go (Some call) e =
+        let move = found (λ (call : NodeCall). is_move call.kind ≡ true) local.calls id call all e in
+        let stands : stands_for_query local call ≡ false = not_standing (is_move call.kind) _ _ move.0 in
+        ap (λ b. cond b (LocalEvent.Query call.id ∷ []) []) stands
+
+-- the call makes no query of its first reading, settles what it fetched, if it can, and goes on
+asks_on : (local : LocalObject) (again : Bool) (id : ℕ) (asked settling : List LocalEvent) → asked ≡ [] →
+    AreSettling (all_done fragment local asked).local id settling → HasOnlyMoves local →
+    HasOnlyMoves (gone_on again (all_done fragment local asked).local id settling) × EndsOpen local
+    (first_id (all_told fragment local (asked ++ settling ++ going_events again
+    (all_done fragment local (asked ++ settling)).local id)))
+    (gone_on again (all_done fragment local asked).local id settling)
+asks_on local again id asked settling none settles all =
+    subst (λ (es : List LocalEvent). HasOnlyMoves (gone_on again (all_done fragment local es).local id settling) × EndsOpen local
+    (first_id (all_told fragment local (es ++ settling ++ going_events again
+    (all_done fragment local (es ++ settling)).local id)))
+    (gone_on again (all_done fragment local es).local id settling))
+    (sym none)
+    (goes_on local again id settling
+    (subst (λ (es : List LocalEvent). AreSettling (all_done fragment local es).local id settling) none settles) all)
+
 -- a letter is taken
 pub take_ends : (old : LocalObject) (letter : Letter) (new : LocalObject) (sent : List Letter) (ended : List Ended) →
     IsReplyOutcome (is_taken old letter) old letter new sent ended → HasOnlyMoves old →
@@ -157,9 +190,11 @@ take_ends old letter new sent ended taken all = go (is_taken old letter) taken
         let again = repeats old letter in
         let first = (done_here fragment old (LocalEvent.Take letter)).local in
         let kept = take_keeps old letter all in
-        let ends = goes_on first again id gone.settling gone.settles kept.0 in
+        let asked = query_events first id in
+        let ends = asks_on first again id asked gone.settling (no_query first kept.0 id) gone.settles kept.0 in
+        let gone_to = gone_on again (after_reply old letter) id gone.settling in
         subst (λ (l : LocalObject). HasOnlyMoves l × EndsOpen old (first_id ended) l) (sym (taken_to old letter new sent ended gone)) (
           ends.0,
-          subst (λ (es : List Ended). EndsOpen old (first_id es) (gone_on again first id gone.settling)) (sym gone.leads.told)
-              (ends_then old first (gone_on again first id gone.settling) _ kept.1 ends.1),
+          subst (λ (es : List Ended). EndsOpen old (first_id es) gone_to) (sym gone.leads.told)
+              (ends_then old first gone_to _ kept.1 ends.1),
         )

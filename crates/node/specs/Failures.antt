@@ -39,6 +39,7 @@ use Rattle.node_keeper.specs.declared.delivered.Delivered.TheVariants as deliver
 use Rattle.node_keeper.specs.declared.keeper.Keeper.{Keeper}
 use Rattle.node.specs.AtOnce.{IsPlainHere}
 use Rattle.node.specs.BegunCalls.{wants_nothing}
+use Rattle.node.specs.FitNodes.{CameInBytes, IsFitAtWork, IsFitNode}
 use Rattle.node.specs.Frames.{is_admitted, letters_in, sender_or}
 use Rattle.node.specs.Handles.{HasActed}
 use Rattle.node.specs.Replies.{IsPlainReply}
@@ -171,13 +172,15 @@ FailsStep node [] (client ∷ due) error = FailsNext node client error
 FailsStep node [] [] error = ⊥
 
 -- Why a node cannot go on with a frame when it has done what came: it did deeds and services up to some state, and it
--- cannot do the next step from there. The services say which ids were used meanwhile.
+-- cannot do the next step from there. The services say which ids were used meanwhile. If the node was fit, and what
+-- came did so in a frame of bytes, it is fit in that state, and so are its letters to itself that wait.
 pub record FailsBehind (asker : ℕ) (got : List Named) (arrival : Option Arrival) (first : Node)
     (error : NodeError) : Type 0 where
   pub middle : Node
   pub work : Work
   pub acted : HasActed asker got first.keeper middle.keeper work
   pub served : ServedSince arrival first middle work.to_clients.items work.notices.items work.outputs.items
+  pub fit : CameInBytes arrival → IsFitNode first → IsFitAtWork middle work
   pub fails : FailsStep middle work.own.items work.due.items error
 
 -- why a node cannot go on with what has come, or later

@@ -1,4 +1,7 @@
 pub mod Frames
+pub mod FitCommands
+pub mod FitDesks
+pub mod FitNodes
 pub mod Peers
 pub mod Moves
 pub mod Shown

@@ -90,12 +90,24 @@ CarriesOutCalls old (record_of.Take frame) new = ClosesTaken (message_from frame
 CarriesOutCalls old (record_of.Move id name layout) new = HasCallUnder old id (Some (resumed_move name)) new
 CarriesOutCalls old it new = KeepsCalls old new
 
+-- the cluster file and its digest are as they were
+pub record KeepsCluster (old new : Keeper) : Type 0 where
+  pub file : new.file ≡ old.file
+  pub digest : new.digest ≡ old.digest
+
+-- if the record is a move, its object does not refuse it
+abbrev pub IsUnrefusedMove : Record → Keeper → Type 0
+IsUnrefusedMove (record_of.Move id name layout) keeper = move_refusal (objects_of keeper.objects name) id ≡ None
+IsUnrefusedMove it keeper = ⊤
+
 -- the node carried out a record of its own log again
 pub record CarriesOutRecord (old : Node) (it : Record) (new : Node) : Type 0 where
   pub own : IsOwnLog it old
   pub named : new.is_named ≡ true
   pub letter : HasItsLetter it
   pub recovers : Recovers (deeds_of it) (kept_of old.keeper) (kept_of new.keeper)
+  pub unrefused : IsUnrefusedMove it old.keeper
+  pub cluster : KeepsCluster old.keeper new.keeper
   pub clients : new.desk.clients ≡ old.desk.clients
   pub calls : CarriesOutCalls old it new
 

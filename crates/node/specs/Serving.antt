@@ -28,9 +28,13 @@ use Rattle.node_keeper.specs.declared.delivered.Begun.{Begun}
 use Rattle.node_keeper.specs.declared.delivered.Begun.TheVariants as begun
 use Rattle.node.specs.AtOnce.{IsAtOnce, IsCarriedOut, IsFirstDone}
 use Rattle.node.specs.BegunCalls.{HasPutOut}
+use Rattle.node.specs.FitCommands.{IsFitFound}
+use Rattle.node.specs.FitDesks.{IsFitDesk}
+use Rattle.node.specs.FitNodes.{CameInBytes, StaysFit}
 use Rattle.node.specs.GivenIds.{UseIds, UsesIds}
 use Rattle.node.specs.Replies.{IsRight}
 use Rattle.node.specs.declared.node.Node.{Node}
+use Rattle.writable.specs.Keepers.{IsFitKeeper, IsLeftFit}
 
 -- what a node does for its clients after it has done what has come: it carries out the next commands of connections,
 -- and calls are answered
@@ -84,15 +88,16 @@ pub record ServesMore (old : Node) (before : Work) (new : Node) (after : Work) :
   pub put_out : AllByRecursion (HasPutOut old.keeper after.outputs.items) services
 
 -- the node did some services that follow up; if a client's connection was idle, the first of them carries out the
--- first command that waited there
+-- first command that waited there; and if the names at its desk were short, what it keeps stays fit
 pub record ServesNext (client : ℕ) (old : Node) (before : Work) (new : Node) (after : Work) : Type 0 where
   pub more : ServesMore old before new after
   pub first : (next : Next) (waiting : List Next) → doing (connection_of old.desk client) ≡ Idle →
       waiting_on (connection_of old.desk client) ≡ next ∷ waiting →
       IsFirstDone old.keeper old.peers (index_map_len old.desk.calls) old.desk.counts client next more.services
+  pub fit : IsFitDesk old.desk → IsFitKeeper old.keeper → IsLeftFit before new.keeper after
 
 -- the node did the services for what came, and then some that follow up, and put out what it puts out for the calls
--- that these begin
+-- that these begin; and it stays fit if it came in a frame of bytes
 pub record ServesArrival (came : Option Arrival) (old : Node) (before : Work) (new : Node) (after : Work) : Type 0 where
   pub coming : List Service
   pub more : List Service
@@ -101,6 +106,7 @@ pub record ServesArrival (came : Option Arrival) (old : Node) (before : Work) (n
   pub at_once : IsAtOnce came old.keeper old.peers old.desk more
   pub serves : ServesClients old before (coming ++ more) new after
   pub put_out : AllByRecursion (HasPutOut old.keeper after.outputs.items) more
+  pub fit : CameInBytes came → StaysFit old before new after
 
 -- the same since the node was `first`, when its work was empty: these are all frames that clients are sent, all notices
 -- of what they see, and all that the node put out
@@ -135,7 +141,7 @@ IsCommandDone old client next (Service.Quits other) new =
 IsCommandDone old client next service new = ⊥
 
 -- the node carried out a client's command, with which the client's connection is busy: it did one service, and if this
--- began a call, put out what it puts out then
+-- began a call, put out what it puts out then; and if the names of the command were short, what it keeps stays fit
 pub record ServesCommand (client : ℕ) (next : Next) (old : Node) (before : Work) (new : Node)
     (after : Work) : Type 0 where
   pub service : Service
@@ -148,6 +154,7 @@ pub record ServesCommand (client : ℕ) (next : Next) (old : Node) (before : Wor
   pub put_out : HasPutOut old.keeper after.outputs.items service
   pub file : new.keeper.file ≡ old.keeper.file
   pub ids : UsesIds old.keeper.ids service new.keeper.ids
+  pub fit : IsFitFound (asked next) → IsFitKeeper old.keeper → IsLeftFit before new.keeper after
 
 -- what the desk does for a client when its call was to begin: the call began and the client waits for its answer, or
 -- the call was refused and the client is told
@@ -182,8 +189,10 @@ pub record ServesLate (id : ℕ) (is_move : Bool) (old : Node) (before : Work) (
   pub file : new.keeper.file ≡ old.keeper.file
   pub ids : new.keeper.ids ≡ old.keeper.ids
 
--- these calls are older by a tick, one after another
+-- these calls are older by a tick, one after another; and if the names at the desk were short, what the node keeps
+-- stays fit
 pub record ServesTicks (ids : List ℕ) (old : Node) (before : Work) (new : Node) (after : Work) : Type 0 where
   pub services : List Service
   pub ticks : AreTicksOf ids services
   pub serves : ServesClients old before services new after
+  pub fit : IsFitDesk old.desk → IsFitKeeper old.keeper → IsLeftFit before new.keeper after

@@ -7,22 +7,21 @@ ghost use Rattle.node_strings.specs.Arrival.{arrival_at};
 ghost use Rattle.node_strings.specs.declared.arrival.Arrival.{Arrival as Came};
 ghost use Rattle.recoveries.specs.Records.{IsStarted};
 ghost use Rattle.node_clients.specs.Desk.{NoneWaits};
-ghost use Rattle.node_log.specs.Entry.{IsEntry};
-ghost use Rattle.node_effects.specs.Errors.{IsUnwritten};
-ghost use Rattle.node_effects.specs.Work.{IsGrown};
 ghost use Rattle.node_effects.specs.declared.error.NodeError.TheVariants.{NoMemory};
 ghost use Rattle.node_effects.specs.declared.output.Output.{Output};
 ghost use Rattle.node_keeper.specs.Acts.{Acts};
 ghost use Rattle.node_keeper.specs.Keeping.{kept_of, names_of};
 ghost use Rattle.node_keeper.specs.declared.keeper.Keeper.{Keeper as Kept};
 ghost use Rattle.node.specs.Failures.{FailsArrival, FailsBehind, FailsStep};
+ghost use Rattle.node.specs.FitNodes.{CameInBytes, IsFitAtWork, IsFitNode, StaysFit};
 ghost use Rattle.node.specs.Frames.{letter_of_arrival, letters_in, sender_of, sender_or};
 ghost use Rattle.node.specs.Handles.{HasActed};
 ghost use Rattle.node.specs.Peers.{IsChangedBy, KnowsNothing};
+ghost use Rattle.node.specs.Recovering.{KeepsCluster};
 ghost use Rattle.node.specs.Serving.{ServedSince, ServesArrival};
 ghost use Rattle.node.specs.Ticks.{AreFirst, DoesFirst};
 ghost use Rattle.node.specs.declared.node.Node.{Node as Was};
-ghost use Rattle.node.specs.Starts.{CanBeNamed, IsNotStarted, cluster_strings, name_growth, start_entries};
+ghost use Rattle.node.specs.Starts.{CanBeNamed, IsNotStarted, start_entries};
 
 use crate::peers::Peers;
 use cluster_file::ClusterFile;
@@ -31,7 +30,7 @@ use node_clients::Desk;
 use node_effects::{NodeError, Work};
 use node_keeper::Keeper;
 use node_log::Entry;
-use node_strings::{Arrival, Record, read_arrival};
+use node_strings::{Arrival, read_arrival};
 use std::alloc::Global;
 
 mod commands;
@@ -77,9 +76,11 @@ impl Node {
     /// node of this number.
     pub fn new(alloc: Global, file: ClusterFile, number: u8) -> Node
         ensures kept { kept_of result.keeper ≡ new_node (names_of file) number }
+        ensures file { result.keeper.file ≡ file }
         ensures digest { result.keeper.digest ≡ fixed_digest file.fixed }
         ensures named { result.is_named ≡ false }
         ensures waits { NoneWaits result.desk.clients [] }
+        ensures clients { result.desk.clients.by_number.entries ≡ [] }
         ensures calls { result.desk.calls.entries ≡ [] }
         ensures peers { KnowsNothing result.peers }
     {
@@ -100,6 +101,7 @@ impl Node {
         ensures started { OnOk result (IsStarted (kept_of self.old.keeper) (kept_of self.new.keeper)) }
         ensures entries { IfOk result (λ entries. entries.items ≡ start_entries self.old) }
         ensures named { OnOk result (CanBeNamed self.old) }
+        ensures cluster { OnOk result (KeepsCluster self.old.keeper self.new.keeper) }
         ensures desk { self.new.desk ≡ self.old.desk }
         ensures refused { IfErr result (IsNotStarted self.old.keeper.digest self.old.keeper.ids) }
     {
@@ -108,27 +110,6 @@ impl Node {
         self.keeper.begin_epoch(&mut work)?;
         let entries = work.into_entries()?;
         Ok(entries)
-    }
-
-    // A new log gets the entry that names the cluster and the node.
-    fn name_log(&mut self, work: &mut Work) -> Result<(), NodeError>
-        ensures grown { OnOk result (IsGrown work.old work.new (name_growth self.old)) }
-        ensures named { OnOk result (CanBeNamed self.old) }
-        ensures keeper { self.new.keeper ≡ self.old.keeper }
-        ensures desk { self.new.desk ≡ self.old.desk }
-        ensures refused { IfErr result (IsUnwritten
-            (IsEntry (cluster_strings self.old.keeper.digest self.old.keeper.ids.node))) }
-    {
-        if self.is_named {
-            return Ok(());
-        }
-        let it = Record::Cluster {
-            digest: self.keeper.digest,
-            node: self.keeper.number(),
-        };
-        work.log(&it)?;
-        self.is_named = true;
-        Ok(())
     }
 
     // What the node does with a frame. Its letters to itself wait.
@@ -195,6 +176,7 @@ impl Node {
             work.new.outputs.items) }
         ensures outputs { OnOk result ((first : List Output) → AreFirst first work.old.outputs.items
             → AreFirst first work.new.outputs.items) }
+        ensures fit { OnOk result (StaysFit self.old work.old self.new work.new) }
         ensures own { OnOk result (work.new.own.items ≡ []) }
         ensures due { OnOk result (work.new.due.items ≡ []) }
         ensures waits { OnOk result (NoneWaits self.old.desk.clients work.old.due.items
@@ -204,6 +186,7 @@ impl Node {
             (first : Was) → HasActed asker got first.keeper self.old.keeper work.old
             → ServedSince came first self.old work.old.to_clients.items work.old.notices.items
             work.old.outputs.items
+            → (CameInBytes came → IsFitNode first → IsFitAtWork self.old work.old)
             → FailsBehind asker got came first e)) }
     {
         for _ in 0..u64::MAX {
@@ -227,6 +210,7 @@ impl Node {
             work.new.outputs.items) }
         ensures outputs { OnOk result ((first : List Output) → AreFirst first work.old.outputs.items
             → AreFirst first work.new.outputs.items) }
+        ensures fit { OnOk result (StaysFit self.old work.old self.new work.new) }
         ensures own { IfOk result (λ more. more ≡ false → work.new.own.items ≡ []) }
         ensures due { IfOk result (λ more. more ≡ false → work.new.due.items ≡ []) }
         ensures waits { OnOk result (NoneWaits self.old.desk.clients work.old.due.items

@@ -1,10 +1,8 @@
 -- A fit node can do all that it has to, but for plain answers.
-use Rattle.std.proofs.Common.{◌≡◌, inl, inr, ◌<◌, ◌≤◌, ◌^◌, ◌||◌, ◌++◌, ℕ, Bool, true, false, eqb, eqb-true, length, List, [], ◌∷◌, Option}
+use Rattle.std.proofs.Common.{◌≡◌, inl, inr, ◌<◌, ◌≤◌, ◌^◌, ◌++◌, ℕ, Bool, true, false, length, List, [], ◌∷◌, Option}
 use Rattle.std.proofs.Common.{None, Some, Result, Ok, Err, refl, subst, arith}
 use Rattle.std.specs.List.{AllByRecursion}
 use Rattle.std.specs.Prelude.{IfSome}
-use Rattle.std.specs.Str.{bytes_eq}
-use Rattle.std.proofs.lemmas.Bool.{and_parts}
 use Rattle.client_commands.specs.Deletion.{Deletion, count_of, name_now}
 use Rattle.client_commands.specs.Reading.{Found}
 use Rattle.client_commands.specs.declared.command.Command.{Command}
@@ -16,11 +14,10 @@ use Rattle.fitting.proofs.ReadLemmas.{read_fit}
 use Rattle.frames.specs.Frame.{IsShort}
 use Rattle.frames.specs.declared.limits.TheConstants.{LONGEST_STRING, MOST_STRINGS}
 use Rattle.indexmap.specs.IndexMap.{index_map_len}
-use Rattle.layout.specs.Quorum.{has}
 use Rattle.letter.specs.declared.letter.NamedLetter.{NamedLetter}
 use Rattle.node.specs.BegunCalls.{wants_nothing}
 use Rattle.node.specs.Failures.{CanHear, CanObey, FailsArrival, FailsAsked, FailsFirst, FailsIf, FailsMessage, FailsRead}
-use Rattle.node.specs.Frames.{is_admitted, is_from_cluster}
+use Rattle.node.specs.Frames.{is_admitted}
 use Rattle.node.specs.declared.node.Node.{Node}
 use Rattle.node.proofs.AnswerSizeLemmas.{ended_fit}
 use Rattle.node_clients.specs.Calls.{call_under, deletion_of}
@@ -31,8 +28,6 @@ use Rattle.node_clients.specs.declared.next.Next.TheVariants as next
 use Rattle.node_clients.specs.declared.open_call.OpenCall.{OpenCall}
 use Rattle.node_effects.specs.declared.error.NodeError.TheVariants as errors
 use Rattle.node_keeper.specs.declared.delivered.Delivered.TheVariants as delivered
-use Rattle.node_keeper.specs.declared.keeper.Keeper.{Keeper}
-use Rattle.node_messages.specs.Limits.{has_low_tags}
 use Rattle.node_messages.specs.Reading.{message_from}
 use Rattle.node_messages.specs.declared.error.Fault.{Fault}
 use Rattle.node_messages.specs.declared.message.NodeMessage.{NodeMessage}
@@ -43,15 +38,17 @@ use Rattle.node_strings.specs.declared.arrival.Arrival.TheVariants as came
 use Rattle.node_strings.proofs.ArrivalLemmas.{arrival_ok}
 use Rattle.record.specs.Sending.{value_or_empty}
 use Rattle.tag.specs.declared.limits.TheConstants.{LONGEST_VALUE}
-use Rattle.writable.specs.Keepers.{AreBytes, IsFitKeeper, IsFitNamed}
+use Rattle.writable.specs.Keepers.{IsFitNamed}
 use Rattle.writable.proofs.DeliveryLemmas.{can_deliver_fit, delivered_fit}
 use Rattle.writable.proofs.KeeperLemmas.{can_begin_fit}
-use Rattle.writable_nodes.specs.Commands.{IsFitCommand, IsFitDeletion, IsFitFound}
-use Rattle.writable_nodes.specs.Desks.{IsFitNext, IsFitOpenCall}
+use Rattle.node.specs.FitCommands.{IsFitCommand, IsFitDeletion, IsFitFound}
+use Rattle.node.specs.FitDesks.{IsFitNext, IsFitOpenCall}
 use Rattle.writable_nodes.specs.Laws.{FitNodesCanDoWhatComes, FitNodesCanGoOn}
-use Rattle.writable_nodes.specs.Nodes.{HasLongAnswer, IsFitNode}
-use Rattle.writable_nodes.proofs.CommandLemmas.{read_fit as read_command}
-use Rattle.writable_nodes.proofs.DeskLemmas.{found_call, nth_short}
+use Rattle.node.specs.FitNodes.{IsFitNode}
+use Rattle.node.proofs.StayingLemmas.{sender_small}
+use Rattle.writable_nodes.specs.Nodes.{HasLongAnswer}
+use Rattle.node.proofs.FitCommandLemmas.{read_fit as read_command}
+use Rattle.node.proofs.FitDeskLemmas.{found_call, nth_short}
 use Rattle.writable_nodes.proofs.TickLemmas.{ticks_do_not_fail}
 
 -- Commands
@@ -122,35 +119,6 @@ can_hear node sender it fit small is = (
       ended_fit (call_under node.desk.calls ended.id) ended (ended_short ended.value told)
       (deletion_small (call_under node.desk.calls ended.id) (found_call node.desk ended.id fit.desk.calls)),
 )
-
--- a node that is among these is one of them
-has_small : (nodes : List ℕ) (n : ℕ) → AreBytes nodes → has nodes n ≡ true → n < 2 ^ 8
-has_small [] n bytes e = absurd (cc)
-has_small (first ∷ nodes) n bytes e = go (eqb first n) refl (has_small nodes n bytes.1) e
-  where
-    go : (b : Bool) → eqb first n ≡ b → (has nodes n ≡ true → n < 2 ^ 8) → (b || has nodes n) ≡ true → n < 2 ^ 8
-    go true t rest e = subst (λ m. m < 2 ^ 8) (eqb-true first n t) bytes.0
-    go false t rest e = rest e
-
-behind_all : {X : Type 0} (P : X → Type 0) (xs ys : List X) → AllByRecursion P (xs ++ ys) → AllByRecursion P xs × AllByRecursion P ys
-behind_all P [] ys all = (tt, all)
-behind_all P (x ∷ xs) ys all = let rest = behind_all P xs ys all.1 in ((all.0, rest.0), rest.1)
-
--- the node that sent a message which is admitted is one of the cluster file
-sender_small : (keeper : Keeper) (sender : ℕ) (message : NodeMessage) → IsFitKeeper keeper → is_admitted keeper sender message ≡ true →
-    sender < 2 ^ 8
-sender_small keeper sender message fit admitted =
-    let parts = and_parts (is_from_cluster keeper sender message) (has_low_tags message.named.letter) admitted in
-    let named = and_parts (has keeper.file.fixed.nodes sender || has keeper.file.later sender)
-    (bytes_eq message.digest keeper.digest) parts.0 in
-    go (has keeper.file.fixed.nodes sender) refl named.0
-  where
-    both : AreBytes keeper.file.fixed.nodes × AreBytes keeper.file.later
-    both = behind_all (λ node. node < 2 ^ 8) keeper.file.fixed.nodes keeper.file.later fit.nodes
-
-    go : (b : Bool) → has keeper.file.fixed.nodes sender ≡ b → (b || has keeper.file.later sender) ≡ true → sender < 2 ^ 8
-    go true t e = has_small keeper.file.fixed.nodes sender both.0 t
-    go false t e = has_small keeper.file.later sender both.1 e
 
 message_fit : (node : Node) (sender : ℕ) (message : NodeMessage) → IsFitNode node → IsFitNamed message.named →
     FailsMessage sender message node errors.Unwritable → ⊥

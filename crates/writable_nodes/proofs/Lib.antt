@@ -1,6 +1,4 @@
-pub mod CommandLemmas
-pub mod DeskLemmas
-pub mod ServiceLemmas
 pub mod TickLemmas
 pub mod FailureLemmas
 pub mod StopLemmas
+pub mod StartLemmas

@@ -3,11 +3,9 @@ use Rattle.std.proofs.Common.{◌&&◌, not, ℕ, Bool, true, false, List, [], �
 use Rattle.std.specs.Prelude.{IfSome}
 use Rattle.indexmap.specs.IndexMap.{keys}
 use Rattle.node.specs.Failures.{CanAge, FailsTicks}
-use Rattle.node.specs.Serving.{IsTickOf}
 use Rattle.node.specs.Ticks.{AreTicked, IsKeptAs, IsKeptAtAge, IsTicked, aged_at, hearing}
 use Rattle.node.specs.declared.node.Node.{Node}
 use Rattle.node_clients.specs.Calls.{aged_call, call_under}
-use Rattle.node_clients.specs.Services.{Service}
 use Rattle.node_clients.specs.declared.open_call.Aged.{Aged}
 use Rattle.node_clients.specs.declared.open_call.OpenCall.{OpenCall}
 use Rattle.node_effects.specs.declared.error.NodeError.TheVariants as errors
@@ -17,23 +15,11 @@ use Rattle.node_strings.specs.declared.heard.Heard.{Heard}
 use Rattle.writable.specs.Keepers.{IsFitKeeper}
 use Rattle.writable.proofs.AskingLemmas.{asked_again_fit, can_resend_fit}
 use Rattle.writable.proofs.KeeperLemmas.{given_up_fit}
-use Rattle.writable_nodes.specs.Desks.{IsFitOpenCall, IsFitService}
-use Rattle.writable_nodes.specs.Nodes.{IsFitNode}
-use Rattle.writable_nodes.proofs.DeskLemmas.{found_call}
-use Rattle.writable_nodes.proofs.ServiceLemmas.{service_fit}
-
--- a tick brings no command
-pub tick_brings_none : (id : ℕ) (service : Service) → IsTickOf id service → IsFitService service
-tick_brings_none id (Service.Arrives client command) tick = absurd tick
-tick_brings_none id (Service.Leaves client) tick = tt
-tick_brings_none id (Service.Begins client command other) tick = tt
-tick_brings_none id (Service.Replies client first answer) tick = tt
-tick_brings_none id (Service.Quits client) tick = tt
-tick_brings_none id (Service.Ends name ended answer told) tick = tt
-tick_brings_none id (Service.Passes name ended client rest) tick = tt
-tick_brings_none id (Service.Ages other) tick = tt
-tick_brings_none id (Service.GivesUp other told) tick = tt
-tick_brings_none id (Service.Releases other told) tick = tt
+use Rattle.node.specs.FitDesks.{IsFitOpenCall}
+use Rattle.node.specs.FitNodes.{IsFitNode}
+use Rattle.node.proofs.FitComingLemmas.{tick_brings_none}
+use Rattle.node.proofs.FitDeskLemmas.{found_call}
+use Rattle.node.proofs.FitServiceLemmas.{service_fit}
 
 kept_as : (given_up asks : Bool) (old : Keeper) (name : List ℕ) (id : ℕ) (new : Keeper) → IsFitKeeper old →
     IsKeptAs given_up asks old name id new → IsFitKeeper new

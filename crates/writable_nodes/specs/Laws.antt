@@ -12,8 +12,9 @@ use Rattle.node_effects.specs.declared.work.Work.{Work}
 use Rattle.node_strings.specs.Arrival.{arrival_at}
 use Rattle.node_strings.specs.Strings.{Strings}
 use Rattle.std.specs.List.{AllByRecursion}
-use Rattle.writable.specs.Keepers.{HasFitOwn, IsFitKeeper, IsFitNamed}
-use Rattle.writable_nodes.specs.Nodes.{HasLongAnswer, IsByteFrame, IsFitNode}
+use Rattle.writable.specs.Keepers.{IsFitNamed}
+use Rattle.node.specs.FitNodes.{IsByteFrame, IsFitNode}
+use Rattle.writable_nodes.specs.Nodes.{HasLongAnswer}
 
 -- with what has come a fit node fails so only at a plain answer
 abbrev pub FitNodesCanDoWhatComes : Type 0
@@ -25,8 +26,7 @@ abbrev pub FitNodesCanGoOn : Type 0
 FitNodesCanGoOn = (node : Node) (own : List NamedLetter) (due : List ℕ) → IsFitNode node →
     AllByRecursion IsFitNamed own → FailsStep node own due errors.Unwritable → HasLongAnswer node
 
--- the node did deeds and services since it was `first`, and if what it keeps now is fit, and so are its letters to
--- itself that wait, it has a plain answer that is too long
+-- the node did deeds and services since it was `first`, and has a plain answer that is too long
 pub record IsStoppedBehind (first : Node) (frame : Strings) : Type 0 where
   pub middle : Node
   pub work : Work
@@ -34,9 +34,9 @@ pub record IsStoppedBehind (first : Node) (frame : Strings) : Type 0 where
       first.keeper middle.keeper work
   pub served : ServedSince (arrival_at frame) first middle work.to_clients.items work.notices.items
       work.outputs.items
-  pub long : IsFitKeeper middle.keeper → HasFitOwn work → HasLongAnswer middle
+  pub long : HasLongAnswer middle
 
--- at a frame of bytes a fit node fails so only at a plain answer, if what it keeps stays fit while it handles the frame
+-- at a frame of bytes a fit node fails so only at a plain answer, with what has come or later
 abbrev pub FitNodesStopAtAnswers : Type 0
 FitNodesStopAtAnswers = (node : Node) (frame : Strings) → IsFitNode node → IsByteFrame frame →
     FailsWith node frame errors.Unwritable → HasLongAnswer node ⊎ IsStoppedBehind node frame

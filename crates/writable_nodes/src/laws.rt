@@ -2,6 +2,7 @@
 ghost use Rattle.writable_nodes.specs.Commands.{ReadCommandsAreFit};
 ghost use Rattle.writable_nodes.specs.Desks.{DesksStayFit};
 ghost use Rattle.writable_nodes.specs.Laws.{FitNodesCanDoWhatComes, FitNodesCanGoOn, FitNodesStopAtAnswers};
+ghost use Rattle.writable_nodes.specs.Starts.{StartsAreFit};
 
 /// A law: what is read from the strings of a client's frame is a fault, or a command whose names are short.
 pub fn read_commands_are_fit()
@@ -23,7 +24,12 @@ pub fn fit_nodes_can_go_on()
     ensures { FitNodesCanGoOn }
 {}
 
-/// A law: so it does at a frame of bytes, if what it keeps stays fit while it handles the frame.
+/// A law: so it does at a frame of bytes, with what has come or later.
 pub fn fit_nodes_stop_at_answers()
     ensures { FitNodesStopAtAnswers }
+{}
+
+/// A law: a node that has carried out a log of bytes again and has started is fit.
+pub fn starts_are_fit()
+    ensures { StartsAreFit }
 {}

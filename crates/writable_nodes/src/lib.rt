@@ -3,7 +3,7 @@
 
 pub use laws::{
     desks_stay_fit, fit_nodes_can_do_what_comes, fit_nodes_can_go_on, fit_nodes_stop_at_answers,
-    read_commands_are_fit,
+    read_commands_are_fit, starts_are_fit,
 };
 
 mod laws;

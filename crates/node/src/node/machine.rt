@@ -7,8 +7,9 @@ use node_strings::read_record;
 
 impl Machine for Node {
     ghost use Rattle.node.specs.Failures.{Fails};
+    ghost use Rattle.node.specs.FitNodes.{IsByteFrame, IsFitNode};
     ghost use Rattle.node.specs.Handles.{Handles};
-    ghost use Rattle.std.specs.Prelude.{IfErr, OnOk};
+    ghost use Rattle.std.specs.Prelude.{IfErr, IfOk, OnOk};
     ghost use Rattle.node.specs.Recovering.{CarriesOutEntry, Notes, RefusesEntry, Tells};
 
     ghost carries_out = { CarriesOutEntry };
@@ -47,8 +48,13 @@ impl Machine for Node {
     /// this returns.
     ///
     /// Fails with `NoMemory`, with `NoMoreIds` if there is no id for a call, or with `Unwritable` if something that is
-    /// to be written does not fit. It never fails with `Refused`.
-    fn handle(&mut self, frame: Frame) -> Result<Effects, NodeError> {
+    /// to be written does not fit. It never fails with `Refused`. A fit node is fit after it has handled a frame of
+    /// bytes.
+    fn handle(&mut self, frame: Frame) -> Result<Effects, NodeError>
+        ensures handled { IfOk result (λ effects. Handles self.old frame effects self.new) }
+        ensures refused { IfErr result (Fails self.old frame) }
+        ensures fit { OnOk result (IsFitNode self.old → IsByteFrame frame → IsFitNode self.new) }
+    {
         let number = self.keeper.number();
         let mut work = Work::new(self.alloc);
         self.take_frame(frame, &mut work)?;

@@ -1,5 +1,8 @@
 //! What a node does with messages of other nodes and with its letters to itself.
-ghost use Rattle.std.specs.Prelude.{◌≡◌, IfErr, IfOk, IfSome, OnOk};
+ghost use Rattle.std.specs.Prelude.{◌≡◌, ◌<◌, ◌^◌, IfErr, IfOk, IfSome, OnOk};
+ghost use Rattle.std.specs.List.{AllByRecursion};
+ghost use Rattle.fitting.specs.Reading.{IsOfBytes};
+ghost use Rattle.frames.specs.Frame.{IsShort};
 ghost use Rattle.node_keeper.specs.Acts.{Acts};
 ghost use Rattle.node_messages.specs.Reading.{message_from};
 ghost use Rattle.node_effects.specs.Seen.{named_of};
@@ -10,6 +13,7 @@ ghost use Rattle.node.specs.Frames.{is_admitted, is_from_cluster, letter_from, l
 ghost use Rattle.node.specs.Hearing.{Hears, HearsIfRead, HearsMessage};
 ghost use Rattle.node.specs.Peers.{IsChangedByMessage, IsChangedIfRead, after_letter, reception_of};
 ghost use Rattle.node.specs.Serving.{ServesMore};
+ghost use Rattle.writable.specs.Keepers.{IsFitKeeper, IsFitNamed, IsLeftFit};
 
 use super::Node;
 use crate::reception::Reception;
@@ -36,6 +40,8 @@ impl Node {
             (IsChangedIfRead self.old.keeper sender (message_from frame) self.old.peers self.new.peers) }
         ensures hears { OnOk result (HearsIfRead sender (message_from frame) self.old.keeper work.old.outputs.items
             self.new.keeper work.new.outputs.items) }
+        ensures fit { OnOk result (AllByRecursion IsShort frame → AllByRecursion IsOfBytes frame
+            → IsFitKeeper self.old.keeper → IsLeftFit work.old self.new.keeper work.new) }
         ensures refused { IfErr result (FailsRead sender (message_from frame) self.old) }
     {
         match read_message(self.alloc, &frame) {
@@ -64,6 +70,8 @@ impl Node {
             (IsChangedByMessage self.old.keeper sender message self.old.peers self.new.peers) }
         ensures hears { OnOk result (HearsMessage sender message self.old.keeper work.old.outputs.items
             self.new.keeper work.new.outputs.items) }
+        ensures fit { OnOk result (IsFitNamed message.named → IsFitKeeper self.old.keeper
+            → IsLeftFit work.old self.new.keeper work.new) }
         ensures refused { IfErr result (FailsMessage sender message self.old) }
     {
         if message.digest != self.keeper.digest {
@@ -97,6 +105,8 @@ impl Node {
             ≡ after_letter (reception_of self.old.keeper it) self.old.peers) }
         ensures hears { OnOk result (Hears sender it self.old.keeper work.old.outputs.items
             self.new.keeper work.new.outputs.items) }
+        ensures fit { OnOk result (sender < 2 ^ 8 → IsFitNamed it → IsFitKeeper self.old.keeper
+            → IsLeftFit work.old self.new.keeper work.new) }
         ensures refused { IfErr result (FailsLetter sender it self.old) }
     {
         let reception = self.deliver(sender, it, Some(frame), work)?;
@@ -136,6 +146,8 @@ impl Node {
         ensures peers { self.new.peers ≡ self.old.peers }
         ensures hears { OnOk result (Hears sender it self.old.keeper work.old.outputs.items
             self.new.keeper work.new.outputs.items) }
+        ensures fit { OnOk result (sender < 2 ^ 8 → IsFitNamed it → IsFitKeeper self.old.keeper
+            → IsLeftFit work.old self.new.keeper work.new) }
         ensures refused { IfErr result (FailsLetter sender it self.old) }
     {
         let delta = self.keeper.file.delta();

@@ -1,6 +1,6 @@
 //! How a node carries out the entries of its log again.
-ghost use Rattle.std.specs.Prelude.{◌≡◌, ◌∷◌, [], true, IfErr, IfOk, OnOk, Some};
-ghost use Rattle.local_object.specs.Doing.{close_events, serve_events};
+ghost use Rattle.std.specs.Prelude.{◌≡◌, ◌∷◌, [], true, IfErr, IfOk, None, OnOk, Some};
+ghost use Rattle.local_object.specs.Doing.{close_events, move_refusal, serve_events};
 ghost use Rattle.local_object.specs.Events.{LocalEvent};
 ghost use Rattle.node_keeper.specs.Objects.{objects_of};
 ghost use Rattle.node_effects.specs.declared.error.NodeError.TheVariants.{NoMemory};
@@ -10,7 +10,8 @@ ghost use Rattle.recoveries.specs.Records.{IsNamedHearing, IsNamedOutcome, IsSta
 ghost use Rattle.node_keeper.specs.Delivering.{first_id};
 ghost use Rattle.node_keeper.specs.Keeping.{kept_of};
 ghost use Rattle.node.specs.Frames.{IsLetterOf};
-ghost use Rattle.node.specs.Recovering.{CarriesOutRecord, ClosesCall, HasCallUnder, KeepsCalls, KeepsDesk};
+ghost use Rattle.node.specs.Recovering.{CarriesOutRecord, ClosesCall, HasCallUnder, KeepsCalls, KeepsCluster};
+ghost use Rattle.node.specs.Recovering.{KeepsDesk};
 ghost use Rattle.node.specs.Recovering.{RefusesLetter, RefusesOwn, RefusesRecord, resumed_move};
 
 use super::Node;
@@ -96,6 +97,7 @@ impl Node {
     fn recover_start(&mut self) -> Result<(), RecoveryError>
         ensures started { OnOk result (IsStarted (kept_of self.old.keeper) (kept_of self.new.keeper)) }
         ensures rest { KeepsDesk self.old self.new }
+        ensures cluster { OnOk result (KeepsCluster self.old.keeper self.new.keeper) }
         ensures calls { KeepsCalls self.old self.new }
         ensures refused { IfErr result (RefusesOwn self.old.keeper record_of.Start) }
     {
@@ -123,6 +125,7 @@ impl Node {
         ensures served { OnOk result (IsNamedOutcome (kept_of self.old.keeper) it.name
             (serve_events (objects_of self.old.keeper.objects it.name) it.letter) (kept_of self.new.keeper)) }
         ensures rest { KeepsDesk self.old self.new }
+        ensures cluster { OnOk result (KeepsCluster self.old.keeper self.new.keeper) }
         ensures calls { KeepsCalls self.old self.new }
         ensures refused { IfErr result (λ e. e ≡ Stopped NoMemory) }
     {
@@ -138,6 +141,7 @@ impl Node {
             ((taken : IsNamedReplyOutcome (kept_of self.old.keeper) it.name it.letter (kept_of self.new.keeper))
             × ClosesCall self.old (first_id taken.ended) self.new) }
         ensures rest { KeepsDesk self.old self.new }
+        ensures cluster { OnOk result (KeepsCluster self.old.keeper self.new.keeper) }
         ensures refused { IfErr result (λ e. e ≡ Stopped NoMemory) }
     {
         match self.keeper.take_again(it) {
@@ -154,8 +158,10 @@ impl Node {
     fn recover_move(&mut self, id: CallId, name: Bytes, layout: Layout) -> Result<(), RecoveryError>
         ensures begun { OnOk result (IsNamedOutcome (kept_of self.old.keeper) name (LocalEvent.BeginMove id layout ∷ [])
             (kept_of self.new.keeper)) }
+        ensures unrefused { OnOk result (move_refusal (objects_of self.old.keeper.objects name) id ≡ None) }
         ensures opened { OnOk result (HasCallUnder self.old id (Some (resumed_move name)) self.new) }
         ensures rest { KeepsDesk self.old self.new }
+        ensures cluster { OnOk result (KeepsCluster self.old.keeper self.new.keeper) }
         ensures refused { IfErr result (RefusesOwn self.old.keeper (record_of.Move id name layout)) }
     {
         match self.keeper.move_again(&name, id, layout) {
@@ -187,6 +193,7 @@ impl Node {
         ensures heard { OnOk result
             (IsNamedHearing (kept_of self.old.keeper) name position layout (kept_of self.new.keeper)) }
         ensures rest { KeepsDesk self.old self.new }
+        ensures cluster { OnOk result (KeepsCluster self.old.keeper self.new.keeper) }
         ensures calls { KeepsCalls self.old self.new }
         ensures refused { IfErr result (λ e. e ≡ Stopped NoMemory) }
     {
@@ -201,6 +208,7 @@ impl Node {
         ensures closed { IsNamedOutcome (kept_of self.old.keeper) name
             (close_events (objects_of self.old.keeper.objects name) position) (kept_of self.new.keeper) }
         ensures rest { KeepsDesk self.old self.new }
+        ensures cluster { KeepsCluster self.old.keeper self.new.keeper }
         ensures calls { KeepsCalls self.old self.new }
     {
         self.keeper.close_again(&name, position);

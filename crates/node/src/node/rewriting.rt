@@ -1,14 +1,15 @@
-//! The node's log, written anew.
+//! The entry that names the cluster and the node, and the node's log, written anew.
 ghost use Rattle.std.specs.Prelude.{◌≡◌, ◌↔◌, ◌∷◌, ◌++◌, [], IfErr, IfOk, IsTrue, MatchOption, OnOk};
 ghost use Rattle.node_log.specs.Entry.{IsEntry};
 ghost use Rattle.recoveries.specs.RewritingNodes.{CanBeWrittenAnew};
 ghost use Rattle.node_effects.specs.Errors.{IsUnwritten, WritesOrFails};
+ghost use Rattle.node_effects.specs.Work.{IsGrown};
 ghost use Rattle.node_keeper.specs.Keeping.{kept_of};
 ghost use Rattle.node.specs.Anew.{AreAnew, CanHoldAnew};
-ghost use Rattle.node.specs.Starts.{HasMoreEpochs, cluster_entry, cluster_strings};
+ghost use Rattle.node.specs.Starts.{CanBeNamed, HasMoreEpochs, cluster_entry, cluster_strings, name_growth};
 
 use super::Node;
-use node_effects::NodeError;
+use node_effects::{NodeError, Work};
 use node_keeper::push_entry;
 use node_log::Entry;
 use node_strings::Record;
@@ -61,5 +62,26 @@ impl Node {
             node: self.keeper.number(),
         };
         push_entry(self.alloc, entries, &it)
+    }
+
+    // A new log gets the entry that names the cluster and the node.
+    pub(super) fn name_log(&mut self, work: &mut Work) -> Result<(), NodeError>
+        ensures grown { OnOk result (IsGrown work.old work.new (name_growth self.old)) }
+        ensures named { OnOk result (CanBeNamed self.old) }
+        ensures keeper { self.new.keeper ≡ self.old.keeper }
+        ensures desk { self.new.desk ≡ self.old.desk }
+        ensures refused { IfErr result (IsUnwritten
+            (IsEntry (cluster_strings self.old.keeper.digest self.old.keeper.ids.node))) }
+    {
+        if self.is_named {
+            return Ok(());
+        }
+        let it = Record::Cluster {
+            digest: self.keeper.digest,
+            node: self.keeper.number(),
+        };
+        work.log(&it)?;
+        self.is_named = true;
+        Ok(())
     }
 }

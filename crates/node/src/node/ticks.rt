@@ -8,6 +8,7 @@ ghost use Rattle.node.specs.Failures.{FailsAged, FailsTicks, IsFailure};
 ghost use Rattle.node.specs.Serving.{SeesNothing, ServesLate, ServesTicks};
 ghost use Rattle.node.specs.Ticks.{HasSameRest, IsKeptAs, IsKeptAtAge, PutsOut, SendsAgain, again_if, aged_at};
 ghost use Rattle.node.specs.Ticks.{sent_at_age};
+ghost use Rattle.writable.specs.Keepers.{IsFitKeeper, IsLeftFit, IsShortName};
 
 use super::Node;
 use node_clients::Aged;
@@ -64,6 +65,8 @@ impl Node {
         ensures kept { OnOk result
             (IsKeptAs (not call.is_move) call.asks_again self.old.keeper call.name id self.new.keeper) }
 
+        ensures fit { OnOk result (IsShortName call.name → IsFitKeeper self.old.keeper
+            → IsLeftFit work.old self.new.keeper work.new) }
         ensures peers { self.new.peers ≡ self.old.peers }
         ensures refused { IfErr result (IsFailure ⊥ (CanResend call.name id call.asks_all self.old.keeper)) }
     {
@@ -85,6 +88,8 @@ impl Node {
         ensures kept { OnOk result
             (IsKeptAs false call.now.asks_again self.old.keeper call.now.name id self.new.keeper) }
 
+        ensures fit { OnOk result (IsShortName call.now.name → IsFitKeeper self.old.keeper
+            → IsLeftFit work.old self.new.keeper work.new) }
         ensures rest { HasSameRest self.old self.new }
         ensures refused { IfErr result (IsFailure ⊥ (CanResend call.now.name id call.now.asks_all self.old.keeper)) }
     {

@@ -1,4 +1,4 @@
-use Rattle.writable_nodes.proofs.ServiceLemmas.{services_fit}
+use Rattle.node.proofs.FitServiceLemmas.{services_fit}
 use Rattle.writable_nodes.proofs.laws.desks_stay_fit.Goals as goal
 
 pub returns : goal.returns

@@ -4,6 +4,7 @@ use Rattle.node.specs.Frames.{letter_from}
 use Rattle.node.proofs.TellLemmas.{idle}
 use Rattle.node.proofs.PeerLemmas.{admitted_changes}
 use Rattle.node.proofs.ServingLemmas.{peers_more}
+use Rattle.node.proofs.StayingLemmas.{sender_small, unchanged}
 use Rattle.node.proofs.node.Node.admit.Goals as goal
 
 pub returns-then-not-is_admitted-clause-acts : goal.returns-then-not-is_admitted-clause-acts
@@ -33,3 +34,17 @@ returns-clause-peers c =
 
 pub returns-clause-acts : goal.returns-clause-acts
 returns-clause-acts c = search rules
+
+pub returns-then-not-is_admitted-clause-fit : goal.returns-then-not-is_admitted-clause-fit
+returns-then-not-is_admitted-clause-fit c = λ is. unchanged c.args.self.now.keeper c.args.work.now
+
+pub returns-then-ne-clause-fit : goal.returns-then-ne-clause-fit
+returns-then-ne-clause-fit c =
+    on_ok_weaker c.note.result (λ noted is. unchanged c.args.self.now.keeper c.args.work.now) c.note.ensures.noted
+
+pub returns-clause-fit : goal.returns-clause-fit
+returns-clause-fit c =
+    let old = c.args.self.now.keeper in
+    on_ok_weaker c.hear.result
+    (λ left is fit. left (sender_small old c.args.sender c.args.message fit (sym c.is_admitted.ensures ∙ c.if-not-is_admitted.false)) is
+    fit) c.hear.ensures.fit

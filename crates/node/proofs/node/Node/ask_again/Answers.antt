@@ -3,8 +3,22 @@ use Rattle.std.proofs.lemmas.List.{append-nil}
 use Rattle.std.proofs.lemmas.Result.{on_ok_weaker}
 use Rattle.node.proofs.TellLemmas.{idle}
 use Rattle.node.specs.Ticks.{IsKeptAs, PutsOut, again_if}
-use Rattle.node.proofs.AgainLemmas.{nothing_out}
+use Rattle.node.proofs.AgainLemmas.{nothing_out, on_ok_both}
+use Rattle.node.proofs.StayingLemmas.{unchanged}
+use Rattle.writable.proofs.AskingLemmas.{asked_again_fit}
 use Rattle.node.proofs.node.Node.ask_again.Goals as goal
+
+pub returns-then-not-call-clause-fit : goal.returns-then-not-call-clause-fit
+returns-then-not-call-clause-fit c = λ short. unchanged c.args.self.now.keeper c.args.work.now
+
+pub returns-clause-fit : goal.returns-clause-fit
+returns-clause-fit c =
+    let old = c.args.self.now.keeper in
+    let call = c.args.call.now in
+    on_ok_both c.ask_again.result c.ask_again.ensures.asked c.ask_again.ensures.sends
+    (λ asked sends short fit.
+    let stays = asked_again_fit old c.ask_again.new.self call.name c.args.id fit in
+    record { keeper = stays.0 asked; own = stays.1 call.asks_all c.args.work.now c.ask_again.new.work short sends })
 
 pub returns-then-not-call-clause-acts : goal.returns-then-not-call-clause-acts
 returns-then-not-call-clause-acts c = λ asker. idle asker [] c.args.self.now.keeper c.args.work.now

@@ -14,7 +14,26 @@ use Rattle.node_clients.specs.declared.desk.Desk.{Desk}
 use Rattle.node_effects.specs.Work.{send_all}
 use Rattle.node_keeper.specs.Sendings.{posted}
 use Rattle.node.specs.Ticks.{IsKeptAs, again_if}
+use Rattle.node.proofs.StayingLemmas.{left_then, told_left}
+use Rattle.writable.proofs.KeeperLemmas.{given_up_fit}
 use Rattle.node.proofs.node.Node.be_late.Goals as goal
+
+pub returns-then-call-clause-fit : goal.returns-then-call-clause-fit
+returns-then-call-clause-fit c =
+    let old = c.args.self.now.keeper in
+    let work = c.args.work.now in
+    on_ok_weaker c.ask_again.result
+    (λ left short fit. left_then old c.ask_again.new.self.keeper work c.release.new.work c.ask_again.new.work
+    (told_left old work c.release.new.work c.in_ok-release.ensures.tells fit) (left short)) c.ask_again.ensures.fit
+
+pub returns-clause-fit : goal.returns-clause-fit
+returns-clause-fit c =
+    let old = c.args.self.now.keeper in
+    let new = c.give_up-was_open.new.self in
+    on_ok_weaker c.give_up.result
+    (λ tells short fit. told_left new c.args.work.now c.give_up.new.work tells
+    (given_up_fit old new c.args.call.name c.args.id fit c.give_up-was_open.ensures.done c.give_up-was_open.ensures.rest))
+    c.give_up.ensures.tells
 
 pub returns-then-call-clause-acts : goal.returns-then-call-clause-acts
 returns-then-call-clause-acts c =

@@ -19,6 +19,8 @@ use Rattle.node.specs.declared.node.Node.{Node}
 use Rattle.node_clients.specs.Calls.{call_answer, call_under, rest_of, waiting_for}
 use Rattle.node_clients.proofs.EndLemmas.{EndsAs, concluded}
 use Rattle.node.proofs.KeeperLemmas.{ended_served, is_received, none_ended_served, received}
+use Rattle.node.proofs.StayingLemmas.{left_then, told_left}
+use Rattle.writable.proofs.DeliveryLemmas.{delivered_fit}
 use Rattle.node.proofs.node.Node.deliver.Goals as goal
 
 pub returns-in_ok-end-in-Ended-clause-acts : goal.returns-in_ok-end-in-Ended-clause-acts
@@ -151,3 +153,27 @@ returns-in_err-deliver-clause-refused c =
     same_error _ c.from_residual.result error c.from_residual.ensures.1
     (unwritten_fails ⊥ (CanDeliver sender it old.keeper) (CanHear sender it old) (λ can. can.0) error
     c.in_err-deliver.ensures.refused)
+
+pub returns-in-Dropped-clause-fit : goal.returns-in-Dropped-clause-fit
+returns-in-Dropped-clause-fit c = λ small is fit.
+    (delivered_fit c.args.self.now.keeper c.deliver.new.self c.args.sender c.args.it c.args.work.now c.deliver.new.work _ fit small is
+    c.in_ok-deliver.ensures.delivers).0
+
+pub returns-in-Handled-clause-fit : goal.returns-in-Handled-clause-fit
+returns-in-Handled-clause-fit c = λ small is fit.
+    (delivered_fit c.args.self.now.keeper c.deliver.new.self c.args.sender c.args.it c.args.work.now c.deliver.new.work _ fit small is
+    c.in_ok-deliver.ensures.delivers).0
+
+pub returns-in-Declined-clause-fit : goal.returns-in-Declined-clause-fit
+returns-in-Declined-clause-fit c = λ small is fit.
+    (delivered_fit c.args.self.now.keeper c.deliver.new.self c.args.sender c.args.it c.args.work.now c.deliver.new.work _ fit small is
+    c.in_ok-deliver.ensures.delivers).0
+
+pub returns-in_ok-end-in-Ended-clause-fit : goal.returns-in_ok-end-in-Ended-clause-fit
+returns-in_ok-end-in-Ended-clause-fit c = λ small is fit.
+    let old = c.args.self.now.keeper in
+    let new = c.deliver.new.self in
+    left_then new new c.args.work.now c.deliver.new.work c.end.new.work
+    (delivered_fit old new c.args.sender c.args.it c.args.work.now c.deliver.new.work _ fit small is
+    c.in_ok-deliver.ensures.delivers).0
+    (told_left new c.deliver.new.work c.end.new.work c.in_ok-end-in-Ended.ensures.tells)

@@ -1,10 +1,11 @@
-use Rattle.std.proofs.Common.{◌∙◌, ◌++◌, ap, subst, sym}
+use Rattle.std.proofs.Common.{◌<◌, ◌^◌, ◌∙◌, ◌++◌, ap, subst, sym}
 use Rattle.node.proofs.ActedLemmas.{due_handled, own_handled}
 use Rattle.node.proofs.ArrivalLemmas.{since_then}
 use Rattle.node_clients.specs.Desk.{NoneWaits}
 use Rattle.node.proofs.LeftLemmas.{more_waits}
 use Rattle.node.specs.Ticks.{AreFirst}
 use Rattle.node.proofs.AgainLemmas.{first_stays}
+use Rattle.node.proofs.FitComingLemmas.{more_fit, none_wait, taken_own}
 use Rattle.node.proofs.node.Node.go_a_step.Goals as goal
 
 pub returns-in-Some-clause-acted : goal.returns-in-Some-clause-acted
@@ -75,3 +76,23 @@ returns-in-Some-next_due-clause-outputs c =
 pub returns-clause-outputs : goal.returns-clause-outputs
 returns-clause-outputs c =
     λ first is. subst (λ xs. AreFirst first xs) (sym (c.in_default-next_due.ensures.outputs ∙ c.in_default.ensures.outputs)) is
+
+pub returns-in-Some-clause-fit : goal.returns-in-Some-clause-fit
+returns-in-Some-clause-fit c = λ was.
+    let left = c.next_own.new.self in
+    let own = taken_own c.args.work.now left c.in-Some.it c.in-Some.ensures.own was.own in
+    let small : c.args.number < 2 ^ 8 = subst (λ n. n < 2 ^ 8) (sym c.requires) was.fit.keeper.node in
+    let keeps = c.in_ok-deliver.ensures.fit small own.0 was.fit.keeper in
+    more_fit c.args.self.now c.deliver.new.self left c.deliver.new.work c.in_ok-deliver.ensures.serves keeps
+    (record { fit = was.fit; own = own.1 })
+
+pub returns-in-Some-next_due-clause-fit : goal.returns-in-Some-next_due-clause-fit
+returns-in-Some-next_due-clause-fit c = λ was.
+    let old = c.args.self.now in
+    let next = c.in_ok-go_on.ensures.serves in
+    more_fit old c.go_on.new.self c.next_due.new.self c.go_on.new.work next.more (next.fit was.fit.desk was.fit.keeper)
+    (none_wait old c.next_due.new.self (c.in-Some-next_due.ensures.own ∙ c.in_default.ensures.own.1) was.fit)
+
+pub returns-clause-fit : goal.returns-clause-fit
+returns-clause-fit c = λ was.
+    none_wait c.args.self.now c.next_due.new.self (c.in_default-next_due.ensures.own ∙ c.in_default.ensures.own.1) was.fit

@@ -16,7 +16,7 @@ pub returns-then-not-has_next-clause-serves : goal.returns-then-not-has_next-cla
 returns-then-not-has_next-clause-serves c =
     let old = c.args.self.now in
     let work = c.args.work.now in
-    nothing_next c.args.client old old work work (sym c.has_next.ensures ∙ c.if-not-has_next.true)
+    nothing_next c.args.client old work (sym c.has_next.ensures ∙ c.if-not-has_next.true)
     (serves_none old old work work refl refl refl refl refl refl)
 
 pub returns-then-not-has_next-clause-waits : goal.returns-then-not-has_next-clause-waits

@@ -1,7 +1,10 @@
+use Rattle.std.proofs.lemmas.Result.{on_ok_weaker}
 use Rattle.node_messages.specs.Reading.{message_from}
 use Rattle.node.specs.Frames.{letter_if_read}
 use Rattle.node.proofs.TellLemmas.{idle}
 use Rattle.node.proofs.ServingLemmas.{peers_more}
+use Rattle.fitting.proofs.ReadLemmas.{read_fit}
+use Rattle.node.proofs.StayingLemmas.{unchanged}
 use Rattle.node.proofs.node.Node.receive.Goals as goal
 
 pub returns-clause-acts : goal.returns-clause-acts
@@ -11,3 +14,14 @@ returns-clause-acts c =
 
 pub returns-clause-serves : goal.returns-clause-serves
 returns-clause-serves c = peers_more c.args.self.now _ c.args.work.now
+
+pub returns-clause-fit : goal.returns-clause-fit
+returns-clause-fit c = λ short bytes. unchanged c.args.self.now.keeper c.args.work.now
+
+pub returns-in-Ok-clause-fit : goal.returns-in-Ok-clause-fit
+returns-in-Ok-clause-fit c =
+    on_ok_weaker c.admit.result
+    (λ left short bytes.
+    let is = read_fit c.args.frame c.in-Ok.message c.in-Ok.ensures.exact short bytes in
+    left (record { name = is.0; letter = is.1 }))
+    c.admit.ensures.fit

@@ -13,4 +13,4 @@ returns-in_ok-it-in-Take-clause-done c =
     let new = c.take_again.new.self in
     subst (λ (it : Record). OnOk c.take_again.result (CarriesOutRecord old it new)) (sym c.in-Take.is)
     (take_carried c.take_again.result old new c.in-Take.frame c.in_ok-it-in-Take.it c.requires c.in_ok-it-in-Take.ensures.read
-    c.take_again.ensures.taken c.take_again.ensures.rest)
+    c.take_again.ensures.taken c.take_again.ensures.rest c.take_again.ensures.cluster)

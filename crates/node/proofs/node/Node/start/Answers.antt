@@ -1,6 +1,7 @@
-use Rattle.std.proofs.Common.{rules, ◌∙◌, subst}
+use Rattle.std.proofs.Common.{rules, ◌∙◌, ap, subst}
 use Rattle.recoveries.specs.Records.{IsStarted}
 use Rattle.node_keeper.specs.Keeping.{kept_of}
+use Rattle.node_keeper.specs.declared.keeper.Keeper.{Keeper}
 use Rattle.node.proofs.StartLemmas.{started_of, starts}
 use Rattle.node.proofs.node.Node.start.Goals as goal
 
@@ -20,6 +21,10 @@ returns c =
           c.in_ok-begin_epoch.ensures.ids c.in_ok-begin_epoch.ensures.objects c.in_ok-begin_epoch.ensures.file);
       entries = c.in_ok-entries.ensures.entries ∙ done.entries;
       named = c.in_ok-name_log.ensures.named;
+      cluster = record {
+        file = c.in_ok-begin_epoch.ensures.file ∙ ap (λ (k : Keeper). k.file) c.name_log.ensures.keeper;
+        digest = (c.in_ok-begin_epoch.ensures.acts 0).digest ∙ ap (λ (k : Keeper). k.digest) c.name_log.ensures.keeper;
+      };
       desk = c.name_log.ensures.desk;
       refused = tt;
     }

@@ -12,6 +12,10 @@ use Rattle.node.specs.declared.node.Node.{Node}
 use Rattle.node.proofs.LeftLemmas.{more_waits, serves_wait, ticks_wait}
 use Rattle.node.proofs.ArrivalLemmas.{arrival_alone, arrival_more, arrival_then}
 use Rattle.node.proofs.ServingLemmas.{serves_beside, unsent_one}
+use Rattle.node.proofs.AgainLemmas.{on_ok_both}
+use Rattle.node.proofs.FitComingLemmas.{command_fit}
+use Rattle.node.proofs.FitDeskLemmas.{arrived_fit}
+use Rattle.node.proofs.StayingLemmas.{unchanged}
 use Rattle.node.proofs.TellLemmas.{idle}
 use Rattle.node.specs.Peers.{IsChangedBy}
 use Rattle.node.specs.Ticks.{DoesFirst, SendsAgain}
@@ -33,7 +37,8 @@ returns-in-Left-clause-serves c =
     record { gone = c.leave.ensures.gone; others = c.leave.ensures.others; calls = refl; counts = refl } in
     subst (λ a. ServesArrival (Some a) old work new work) (sym c.in-Left.is)
     (arrival_alone (Some (came.Left client)) old new work work (Service.Leaves client ∷ []) refl tt
-    (unsent_one old new work (Service.Leaves client) gone refl refl refl tt refl refl))
+    (unsent_one old new work (Service.Leaves client) gone refl refl refl tt refl refl)
+    (λ bytes fit. unchanged old.keeper work fit.keeper))
 
 pub returns-in-Left-clause-waits : goal.returns-in-Left-clause-waits
 returns-in-Left-clause-waits c =
@@ -66,7 +71,9 @@ returns-in_ok-push-in-Command-clause-serves c =
     (λ next. subst (λ a. ServesArrival (Some a) old work new c.go_on.new.work) (sym c.in-Command.is)
     (arrival_then (Some (came.Command client frame)) old between new work work c.go_on.new.work (Service.Arrives client frame)
     refl refl (unsent_one old between work (Service.Arrives client frame) arrived refl refl refl tt refl refl) next.more
-    (λ free. next.first (Came frame) [] (arrived.state ∙ free.0) (arrived.waiting ∙ ap (λ xs. xs ++ (Came frame ∷ [])) free.1))))
+    (λ free. next.first (Came frame) [] (arrived.state ∙ free.0) (arrived.waiting ∙ ap (λ xs. xs ++ (Came frame ∷ [])) free.1))
+    (λ bytes fit. next.fit (arrived_fit old.desk client frame between.desk fit.desk (command_fit client frame bytes) arrived)
+    fit.keeper)))
     c.go_on.ensures.serves
 
 pub returns-in_ok-push-in-Command-clause-waits : goal.returns-in_ok-push-in-Command-clause-waits
@@ -92,10 +99,10 @@ returns-in-Message-clause-serves c =
     let old = c.args.self.now in
     let new = c.receive.new.self in
     let work = c.args.work.now in
-    on_ok_weaker c.receive.result
-    (λ more. subst (λ a. ServesArrival (Some a) old work new c.receive.new.work) (sym c.in-Message.is)
-    (arrival_more (Some (came.Message c.in-Message.sender c.in-Message.frame)) old new work c.receive.new.work refl more tt))
-    c.receive.ensures.serves
+    on_ok_both c.receive.result c.receive.ensures.serves c.receive.ensures.fit
+    (λ more left. subst (λ a. ServesArrival (Some a) old work new c.receive.new.work) (sym c.in-Message.is)
+    (arrival_more (Some (came.Message c.in-Message.sender c.in-Message.frame)) old new work c.receive.new.work refl more tt
+    (λ bytes fit. left bytes.frame.short.1 bytes.bytes.1 fit.keeper)))
 
 pub returns-in-Message-clause-waits : goal.returns-in-Message-clause-waits
 returns-in-Message-clause-waits c =
@@ -110,7 +117,8 @@ returns-in-Tick-clause-serves c =
     on_ok_weaker c.tick.result
     (λ serves. subst (λ a. ServesArrival (Some a) old work new c.tick.new.work) (sym c.in-Tick.is)
     (arrival_alone (Some (came.Tick c.in-Tick.heard)) old new work c.tick.new.work serves.services serves.ticks tt
-    (serves_beside old new c.hear.new.self work c.tick.new.work serves.services serves.serves))) c.tick.ensures.serves
+    (serves_beside old new c.hear.new.self work c.tick.new.work serves.services serves.serves)
+    (λ bytes fit. serves.fit fit.desk fit.keeper))) c.tick.ensures.serves
 
 pub returns-in-Tick-clause-waits : goal.returns-in-Tick-clause-waits
 returns-in-Tick-clause-waits c =

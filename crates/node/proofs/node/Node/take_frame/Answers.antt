@@ -5,6 +5,7 @@ use Rattle.node.specs.Frames.{letter_if_any, letters_in, sender_or}
 use Rattle.node.specs.Serving.{ServesArrival}
 use Rattle.node.proofs.ArrivalLemmas.{arrival_alone}
 use Rattle.node.proofs.ServingLemmas.{peers_alone}
+use Rattle.node.proofs.StayingLemmas.{unchanged}
 use Rattle.node.proofs.TellLemmas.{idle}
 use Rattle.node.specs.Peers.{IsChangedBy}
 use Rattle.node.specs.declared.drops.Drops.{Drops}
@@ -36,7 +37,7 @@ returns-in-None-clause-serves c =
     let new : Node = record old { peers = peers } in
     let work = c.args.work.now in
     subst (λ came. ServesArrival came old work new work) c.in-None.ensures.exact
-    (arrival_alone _ old new work work [] refl tt (peers_alone old peers work))
+    (arrival_alone _ old new work work [] refl tt (peers_alone old peers work) (λ bytes fit. unchanged old.keeper work fit.keeper))
 
 pub returns-in-Some-clause-again : goal.returns-in-Some-clause-again
 returns-in-Some-clause-again c =

@@ -5,12 +5,13 @@ use Rattle.node_clients.specs.Served.{IsOlder}
 use Rattle.node_clients.specs.declared.desk.Desk.{Desk}
 use Rattle.node.specs.declared.node.Node.{Node}
 use Rattle.node.proofs.TellLemmas.{idle}
-use Rattle.node.proofs.TickLemmas.{call_ages, call_is_late, none_late, some_late, some_move}
+use Rattle.node.proofs.StayingLemmas.{unchanged}
+use Rattle.node.proofs.TickLemmas.{aged_short, call_ages, call_is_late, none_late, some_late, some_move}
 use Rattle.node_effects.specs.Work.{send_all}
 use Rattle.node_keeper.specs.Sendings.{posted}
 use Rattle.node.specs.Ticks.{aged_at, sent_at_age}
-use Rattle.node.proofs.AgainLemmas.{kept_rest, late_kept, late_sent, none_kept, none_sent, nothing_out, on_ok_both, timely_kept}
-use Rattle.node.proofs.AgainLemmas.{timely_sent}
+use Rattle.node.proofs.AgainLemmas.{kept_rest, late_kept, late_sent, none_kept, none_sent, nothing_out, on_ok_both, on_ok_three}
+use Rattle.node.proofs.AgainLemmas.{timely_kept, timely_sent}
 use Rattle.node.proofs.node.Node.tick_call.Goals as goal
 
 pub returns-in_default-clause-acts : goal.returns-in_default-clause-acts
@@ -31,7 +32,7 @@ returns-in_default-clause-serves c =
       counts = c.aged.ensures.counts;
     } in
     call_ages c.args.id old new c.args.work.now c.args.work.now late older refl refl
-    (record { told = refl; due = refl; notices = refl })
+    (record { told = refl; due = refl; notices = refl }) (λ desk. unchanged old.keeper c.args.work.now)
 
 pub returns-then-call-clause-serves : goal.returns-then-call-clause-serves
 returns-then-call-clause-serves c =
@@ -48,9 +49,10 @@ returns-then-call-clause-serves c =
       clients = c.aged.ensures.clients;
       counts = c.aged.ensures.counts;
     } in
-    on_ok_weaker c.be_late.result
-    (λ serves. call_is_late c.args.id c.in-Some.call.is_move old between c.be_late.new.self c.args.work.now c.be_late.new.work late
-    (some_move c.ticks.result call c.in-Some.call some) older refl serves) c.be_late.ensures.late
+    on_ok_both c.be_late.result c.be_late.ensures.late c.be_late.ensures.fit
+    (λ serves left. call_is_late c.args.id c.in-Some.call.is_move old between c.be_late.new.self c.args.work.now c.be_late.new.work late
+    (some_move c.ticks.result call c.in-Some.call some) older refl serves
+    (λ desk. left (aged_short c.ticks.result old.desk c.args.id c.in-Some.call desk some)))
 
 pub returns-clause-serves : goal.returns-clause-serves
 returns-clause-serves c =
@@ -67,11 +69,12 @@ returns-clause-serves c =
       clients = c.aged.ensures.clients;
       counts = c.aged.ensures.counts;
     } in
-    on_ok_both c.ask_again.result c.ask_again.ensures.seen c.ask_again.ensures.kept
-    (λ seen kept.
+    on_ok_three c.ask_again.result c.ask_again.ensures.seen c.ask_again.ensures.kept c.ask_again.ensures.fit
+    (λ seen kept left.
     let rest = kept_rest c.in-Some.call.asks_again old.keeper new.keeper c.in-Some.call.name c.args.id kept in
     call_ages c.args.id old new c.args.work.now c.ask_again.new.work late
-    (subst (λ (d : Desk). IsOlder old.desk c.args.id d) (sym c.ask_again.ensures.rest.desk) older) rest.0 rest.1 seen)
+    (subst (λ (d : Desk). IsOlder old.desk c.args.id d) (sym c.ask_again.ensures.rest.desk) older) rest.0 rest.1 seen
+    (λ desk. left (aged_short c.ticks.result old.desk c.args.id c.in-Some.call desk some)))
 
 pub returns-in_default-clause-again : goal.returns-in_default-clause-again
 returns-in_default-clause-again c =

@@ -10,6 +10,7 @@ use Rattle.node.proofs.AgainLemmas.{asked_again}
 use Rattle.node.proofs.ActedLemmas.{acted_first, handles_of}
 use Rattle.node.proofs.FailureLemmas.{fails_first, fails_then, same_error}
 use Rattle.node.proofs.ArrivalLemmas.{since_first}
+use Rattle.node.proofs.FitComingLemmas.{came_in_bytes, none_wait}
 use Rattle.node.proofs.node.machine.NodeMachine.handle.Goals as goal
 
 pub returns-clause-handled : goal.returns-clause-handled
@@ -57,4 +58,10 @@ returns-in_err-finish-clause-refused c =
     (acted_first asker got old.keeper c.take_frame.new.self.keeper empty taken c.number-number.ensures.within
     c.new-work.ensures c.in_ok-take_frame.ensures.acts)
     (since_first came old c.take_frame.new.self empty taken c.new-work.ensures.to_clients c.new-work.ensures.notices
-    c.in_ok-take_frame.ensures.acts.digest c.in_ok-take_frame.ensures.serves) c.in_err-finish.ensures.refused)
+    c.in_ok-take_frame.ensures.acts.digest c.in_ok-take_frame.ensures.serves) c.in_err-finish.ensures.refused
+    (λ bytes fit. c.in_ok-take_frame.ensures.serves.fit bytes (none_wait old empty c.new-work.ensures.own fit)))
+
+pub returns-clause-fit : goal.returns-clause-fit
+returns-clause-fit c = λ fit is.
+    (c.in_ok-finish.ensures.fit (c.in_ok-take_frame.ensures.serves.fit (came_in_bytes c.args.frame is)
+    (none_wait c.args.self.now c.new-work.result c.new-work.ensures.own fit))).fit

@@ -19,8 +19,8 @@ use Rattle.node_clients.specs.declared.next.Next.TheVariants as next
 use Rattle.node_clients.specs.declared.open_call.OpenCall.{OpenCall}
 use Rattle.tag.specs.declared.limits.TheConstants.{LONGEST_NAME}
 use Rattle.writable.specs.Keepers.{IsShortName}
-use Rattle.writable_nodes.specs.Commands.{IsFitCommand}
-use Rattle.writable_nodes.specs.Desks.{IsFitDesk, IsFitNext, IsFitOpenCall}
+use Rattle.node.specs.FitCommands.{IsFitCommand}
+use Rattle.node.specs.FitDesks.{IsFitDesk, IsFitNext, IsFitOpenCall}
 
 -- Connections and calls
 

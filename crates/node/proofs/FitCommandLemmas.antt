@@ -14,7 +14,7 @@ use Rattle.node_strings.specs.Strings.{Strings}
 use Rattle.open_calls.proofs.ListLemmas.{all_weaker}
 use Rattle.tag.specs.declared.limits.TheConstants.{LONGEST_NAME}
 use Rattle.writable.specs.Keepers.{IsShortName}
-use Rattle.writable_nodes.specs.Commands.{IsFitCommand, IsFitDeletion, IsFitFound, ReadCommandsAreFit}
+use Rattle.node.specs.FitCommands.{IsFitCommand, IsFitDeletion, IsFitFound}
 
 none_long : (names : Strings) → list_any is_long names ≡ false → AllByRecursion IsShortName names
 none_long [] e = tt
@@ -62,7 +62,7 @@ command_fit strings ask.Select few asks = tt
 command_fit strings ask.Login few asks = tt
 command_fit strings ask.Quit few asks = tt
 
-pub read_fit : ReadCommandsAreFit
+pub read_fit : (strings : Strings) → length strings ≤ MOST_STRINGS → IsFitFound (command_at strings)
 read_fit strings few = go (command_at strings) refl
   where
     most : MOST_STRINGS ≡ 1024

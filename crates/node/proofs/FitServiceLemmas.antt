@@ -1,6 +1,6 @@
 -- A desk stays fit as calls end, as what is left of a command goes on, and as calls get older.
-use Rattle.std.proofs.Common.{◌≡◌, ℕ, Bool, true, false, cond, [], ◌∷◌, Option, Some, None, is_some, refl, sym, subst, ap, ◌∙◌, nat_lt, ◌-◌}
-use Rattle.std.proofs.Common.{◌+◌, length}
+use Rattle.std.proofs.Common.{◌≡◌, ℕ, Bool, true, false, cond, List, [], ◌∷◌, Option, Some, None, is_some, refl, sym, subst, ap, ◌∙◌}
+use Rattle.std.proofs.Common.{◌+◌, ◌-◌, length, nat_lt}
 use Rattle.std.specs.List.{AllByRecursion}
 use Rattle.std.specs.Prelude.{IfSome, nat_eq}
 use Rattle.client_commands.specs.Deletion.{Deletion, is_written_again, left_over}
@@ -8,7 +8,7 @@ use Rattle.indexmap.specs.IndexMap.{get}
 use Rattle.node_clients.specs.Calls.{call_under, deletes, left_of, older_call, rest_of, waiting_for, with_nobody}
 use Rattle.node_clients.specs.Connections.{rest_command, waiting_on}
 use Rattle.node_clients.specs.Desk.{IsPutBack}
-use Rattle.node_clients.specs.Served.{IsCallClosed, IsOlder, IsPassed, IsReleased, IsServiceDone, call_begun}
+use Rattle.node_clients.specs.Served.{AreServicesDone, IsCallClosed, IsOlder, IsPassed, IsReleased, IsServiceDone, call_begun}
 use Rattle.node_clients.specs.Services.{Service}
 use Rattle.node_clients.specs.declared.connection.Connection.{Connection}
 use Rattle.node_clients.specs.declared.connections.Connections.{Connections}
@@ -17,10 +17,10 @@ use Rattle.node_clients.specs.declared.next.Next.TheVariants as next
 use Rattle.node_clients.specs.declared.open_call.OpenCall.{OpenCall}
 use Rattle.node_clients.specs.declared.rest.Rest.{Rest}
 use Rattle.node_clients.specs.declared.rest.Rest.TheVariants as rests
-use Rattle.writable_nodes.specs.Commands.{IsFitCommand, IsFitDeletion, IsFitFound}
-use Rattle.writable_nodes.specs.Desks.{DesksStayFit, IsFitDesk, IsFitNext, IsFitOpenCall, IsFitService}
-use Rattle.writable_nodes.proofs.DeskLemmas.{AreFitWaiting, answered_fit, arrived_fit, begun_call, calls_at, found_call, gone_fit}
-use Rattle.writable_nodes.proofs.DeskLemmas.{idle_for_fit, opened_fit, quit_fit, same_waiting, taken_fit, waiting_at}
+use Rattle.node.specs.FitCommands.{IsFitCommand, IsFitDeletion, IsFitFound}
+use Rattle.node.specs.FitDesks.{IsFitDesk, IsFitNext, IsFitOpenCall, IsFitService}
+use Rattle.node.proofs.FitDeskLemmas.{AreFitWaiting, answered_fit, arrived_fit, begun_call, calls_at, found_call, gone_fit}
+use Rattle.node.proofs.FitDeskLemmas.{idle_for_fit, opened_fit, quit_fit, same_waiting, taken_fit, waiting_at}
 
 -- Calls that end
 
@@ -134,7 +134,8 @@ service_fit ticks delta old (Service.GivesUp id told) new fit came done =
 service_fit ticks delta old (Service.Releases id told) new fit came done =
     released_fit done.2 id told new (aged_fit old id done.2 fit done.3) done.4
 
-pub services_fit : DesksStayFit
+pub services_fit : (ticks : ℕ) (delta : Option ℕ) (old new : Desk) (services : List Service) → IsFitDesk old →
+    AllByRecursion IsFitService services → AreServicesDone ticks delta old services new → IsFitDesk new
 services_fit ticks delta old new [] fit came done = subst IsFitDesk (sym done) fit
 services_fit ticks delta old new (service ∷ services) fit came done =
     services_fit ticks delta done.0 new services (service_fit ticks delta old service done.0 fit came.0 done.1) came.1 done.2
