@@ -1,6 +1,6 @@
 -- The read, part by part.
 use Rattle.std.proofs.Common.{◌≡◌, [], ◌∷◌, ◌≤◌, inl, refl, sym, subst, ap, ◌∙◌, le_refl, arith}
-use Rattle.std.proofs.Common.{Bool, true, false, cond, List, Option, Some, None, length, slice_get, suc, ◌+◌}
+use Rattle.std.proofs.Common.{Bool, true, false, cond, List, Option, Some, None, length, slice_get, suc, ◌+◌, ◌*◌}
 use Rattle.bank.specs.declared.reply.Answer.TheVariants as answer
 use Rattle.bank.specs.declared.reply.Reply.{Reply}
 use Rattle.network.specs.Events.{Event}
@@ -146,7 +146,8 @@ entry_with reply = record {
   call = 3;
   kind = operation.Read;
   called = 1;
-  answered = Some (suc ((11 + length (if_replied reply (Event.Serve (about 3 4 (body.Request request.Next)).message))) + 1));
+  answered = Some (suc (11 * 512 + (length (if_replied reply (Event.Serve (about 3 4 (body.Request request.Next)).message)) + 511)
+      + (1 + 511)));
   value = Some [];
 } ∷ []
 

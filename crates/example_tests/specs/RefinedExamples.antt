@@ -1,6 +1,6 @@
 -- The contracts that docs/trusted.md lists do not depend on this file; other contracts and proofs do.
 -- Runs of two nodes, of which node 0 is the only member of the object's layout, and the entries that they leave.
-use Rattle.std.specs.Prelude.{◌≡◌, ℕ, true, false, List, [], ◌∷◌, ◌++◌, Option, None, Some}
+use Rattle.std.specs.Prelude.{◌≡◌, ◌+◌, ◌*◌, ℕ, true, false, List, [], ◌∷◌, ◌++◌, Option, None, Some}
 use Rattle.layout.specs.Layout.{Layout}
 use Rattle.tag.specs.declared.tag.Tag.{Tag}
 use Rattle.tag.specs.Tag.{opening_tag}
@@ -146,12 +146,13 @@ read = read_asked ++ (read_settled ++ read_ended)
 abbrev pub IsRun : List SystemEvent → List Entry → Type 0
 IsRun events entries = MayRunIn whole events start × ((system_run whole events start).history ≡ entries)
 
--- the write has the events 1 to 16, and the restart is event 17
+-- the nodes do 16 things for the write; behind each of the first 15, which is one event, there are 511 in reserve, so
+-- the write is answered at the event 15 * 512 + 1; and then comes the restart
 abbrev pub AWriteAndARestart : Type 0
 AWriteAndARestart = IsRun write_and_restart
-    (record { call = 7; kind = operation.Write; called = 1; answered = Some 16; value = Some letter } ∷ [])
+    (record { call = 7; kind = operation.Write; called = 1; answered = Some (15 * 512 + 1); value = Some letter } ∷ [])
 
--- the read has the events 1 to 14, and returns the empty value
+-- the nodes do 14 things for the read, which is answered at the event 13 * 512 + 1, and returns the empty value
 abbrev pub AReadOfANewObject : Type 0
-AReadOfANewObject =
-    IsRun read (record { call = 3; kind = operation.Read; called = 1; answered = Some 14; value = Some [] } ∷ [])
+AReadOfANewObject = IsRun read
+    (record { call = 3; kind = operation.Read; called = 1; answered = Some (13 * 512 + 1); value = Some [] } ∷ [])

@@ -68,6 +68,7 @@ event_begun name local (LocalEvent.Redirect letter) place id begins = absurd (no
 event_begun name local (LocalEvent.ReadOn given) place id begins = absurd (none_told name [] place id begins)
 event_begun name local (LocalEvent.BeginAnew given) place id begins = absurd (none_told name [] place id begins)
 event_begun name local (LocalEvent.Raise position) place id begins = absurd (none_told name [] place id begins)
+event_begun name local (LocalEvent.Query given) place id begins = absurd (none_told name [] place id begins)
 event_begun name local (LocalEvent.Answer given) place id begins =
     absurd (none_told name (told local (LocalEvent.Answer given)) place id begins)
 event_begun name local (LocalEvent.EndEarly given value) place id begins =
