@@ -9,7 +9,7 @@ hasty    a write is answered before the node hears of it
 skips    every third write is answered and not carried out
 stale    a read is answered with the value that the node read or wrote last under that name, where there is one
 none     every third fetch of another node that has a piece as its answer is answered without a piece
-old      another node that asks for the greatest tag is told the one before, until it asks again
+old      another node is told the greatest tag of before, with each reply, until it asks again
 early    another node that asks for a pointer which is pending is told that calls may begin at the next position
 shut     a fetch of another node gets no reply where the pointer of the bank is pending, as if the bank were closed
 closes   at a start, the log says that each bank was closed whose pointer is pending
@@ -145,10 +145,8 @@ class Between:
         if self.kind == "none" and made.is_reply and made.kind == b"fetch" and made.piece:
             self.fetched += 1
             return replace(made, piece=None, told=None) if self.fetched % 3 == 0 else made
-        if self.kind == "old" and made.is_reply and made.kind == b"query":
-            told = self.greatest.get((made.name, made.position), made.tag)
-            self.greatest[made.name, made.position] = made.tag
-            return replace(made, tag=told, told=None)
+        if self.kind == "old" and made.is_reply and made.told:
+            return self.outdated(made)
         if self.kind == "early" and made.is_reply and made.kind == b"next" and made.status == b"pending":
             return replace(made, start=(made.position + 1, made.next))
         if self.kind == "unset" and made.told:
@@ -158,6 +156,15 @@ class Between:
             if tag > made.told.greatest:
                 return replace(made, told=replace(made.told, greatest=tag, piece=made.told.piece and piece))
         return made
+
+    def outdated(self, made):
+        """A reply that tells, or answers with, the greatest tag that the last one told."""
+        bank, greatest = (made.name, made.position), made.told.greatest
+        told = self.greatest.get(bank, greatest)
+        self.greatest[bank] = greatest
+        if made.kind == b"query":
+            made = replace(made, tag=told)
+        return made if told == greatest else replace(made, told=replace(made.told, greatest=told, piece=None))
 
     def pass_output(self):
         frames = Frames()

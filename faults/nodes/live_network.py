@@ -35,6 +35,17 @@ def prepare():
         run("ip", "link", "set", "lo", "up")
 
 
+def enter():
+    """Starts this program again in namespaces of its own. Where that is not allowed, says why and returns False."""
+    if os.environ.get(ENTERED):
+        prepare()
+        return True
+    words = words_to_enter()
+    if words is not None:
+        os.execvp(words[0], [*words, sys.executable, *sys.argv])
+    return False
+
+
 def run(*words):
     subprocess.run([str(word) for word in words], check=True)
 
