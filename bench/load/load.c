@@ -1,9 +1,11 @@
 /*
- * Makes calls to a store as fast as it answers: load PROTOCOL PORTS CLIENTS SIZE SECONDS CALLS KIND. PROTOCOL is resp or
- * grpc, PORTS are ports of the loopback address such as 7001,7002, SIZE is that of a value, and KIND is write or read.
- * Each client has a connection to one of the ports and makes one call after another, until the time is over or so many
- * calls were made. The keys are a hundred, in turn. It prints: calls, errors, seconds, the time of a call in milliseconds
- * (the median, and below which 99 of 100 are), and the bytes that were sent and received.
+ * Makes calls to a store as fast as it answers: load PROTOCOL PORTS CLIENTS SIZE SECONDS CALLS KIND [KEYS FILE].
+ * PROTOCOL is resp or grpc, PORTS are ports of the loopback address such as 7001,7002, SIZE is that of a value, and
+ * KIND is write or read. Each client has a connection to one of the ports and makes one call after another, until the
+ * time is over or so many calls were made. The keys are a hundred, in turn: key-0, key-1 .., or with KEYS in place of
+ * key. It prints: calls, errors, seconds, the time of a call in milliseconds (the median, and below which 99 of 100
+ * are), and the bytes that were sent and received. FILE gets the times of all calls in seconds, as doubles, the
+ * shortest one first.
  */
 #define _GNU_SOURCE
 #include "load.h"
@@ -29,6 +31,7 @@ struct load {
     double seconds;
     long most_calls;
     bool writes;
+    const char *keys;          /* with what the name of each key begins */
     char *values;              /* random bytes; the value of a call begins somewhere in the first half */
     long begun, ended, errors;
     double *times;
@@ -94,12 +97,12 @@ static void write_out(struct load *load, struct connection *connection) {
 
 /* The next call of a client, unless there were enough. Values differ, so that nothing can be stored but once. */
 static void begin(struct load *load, struct connection *connection, double end) {
-    char key[32];
+    char key[64];
     if (now() >= end || load->begun >= load->most_calls) {
         connection->began = 0;
         return;
     }
-    snprintf(key, sizeof key, "key-%ld", load->begun % KEYS);
+    snprintf(key, sizeof key, "%.40s-%ld", load->keys, load->begun % KEYS);
     const char *value = load->writes ? load->values + (size_t)load->begun * 61 % load->size : NULL;
     load->begun++;
     connection->began = now();
@@ -154,18 +157,26 @@ static int compare(const void *one, const void *other) {
     return (a > b) - (a < b);
 }
 
-static void report(struct load *load, double seconds) {
+static void keep_times(const double *times, size_t count, const char *name) {
+    FILE *file = fopen(name, "wb");
+    if (file == NULL || fwrite(times, sizeof *times, count, file) != count || fclose(file) != 0)
+        fail("cannot write the times");
+}
+
+static void report(struct load *load, double seconds, const char *file) {
     long count = load->ended < MOST_TIMES ? load->ended : MOST_TIMES;
     qsort(load->times, (size_t)count, sizeof *load->times, compare);
     double median = count > 0 ? load->times[count / 2] : 0, late = count > 0 ? load->times[count * 99 / 100] : 0;
+    if (file != NULL)
+        keep_times(load->times, (size_t)count, file);
     printf("%ld %ld %.3f %.3f %.3f %zu %zu\n", load->ended, load->errors, seconds, 1e3 * median, 1e3 * late, load->sent,
            load->received);
 }
 
 int main(int count, char **words) {
     static struct connection connections[MOST_CLIENTS];
-    if (count != 8) {
-        fprintf(stderr, "usage: load resp|grpc PORT,PORT CLIENTS SIZE SECONDS CALLS write|read\n");
+    if (count != 8 && count != 10) {
+        fprintf(stderr, "usage: load resp|grpc PORT,PORT CLIENTS SIZE SECONDS CALLS write|read [KEYS FILE]\n");
         return 2;
     }
     struct load load = {.protocol = strcmp(words[1], "grpc") == 0 ? &grpc : &resp,
@@ -173,7 +184,8 @@ int main(int count, char **words) {
                         .size = strtoul(words[4], NULL, 10),
                         .seconds = atof(words[5]),
                         .most_calls = atol(words[6]),
-                        .writes = strcmp(words[7], "write") == 0};
+                        .writes = strcmp(words[7], "write") == 0,
+                        .keys = count == 10 ? words[8] : "key"};
     load.values = malloc(2 * load.size);
     load.times = malloc(MOST_TIMES * sizeof *load.times);
     if (load.clients < 1 || load.clients > MOST_CLIENTS || load.size < 1 || load.values == NULL || load.times == NULL)
@@ -187,6 +199,6 @@ int main(int count, char **words) {
     }
     double began = now();
     run(&load, connections);
-    report(&load, now() - began);
+    report(&load, now() - began, count == 10 ? words[9] : NULL);
     return 0;
 }
