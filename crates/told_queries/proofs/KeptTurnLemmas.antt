@@ -20,14 +20,9 @@ use Rattle.told_queries.specs.Courses.{turn_events, world_after_turns}
 use Rattle.told_queries.proofs.AlikeLemmas.{AreAlike, IsAlike}
 use Rattle.told_queries.proofs.KeptEarlyLemmas.{known_same, layout_same}
 use Rattle.told_queries.proofs.ReplayLemmas.{IsSameBut, Replays, replays_end, replays_start}
+use Rattle.told_queries.proofs.SplitCourseLemmas.{events_append}
 
 -- Turns
-
-pub events_append : (first second : List Turn) → events_of (first ++ second) ≡ events_of first ++ events_of second
-events_append [] second = refl
-events_append (turn ∷ first) second =
-    ap (λ l. turn_events turn ++ l) (events_append first second)
-    ∙ sym (append_assoc (turn_events turn) (events_of first) (events_of second))
 
 -- a turn of the one list has one of the other at its place
 pub record HasPlace (id : ℕ) (before : List Turn) (turn : Turn) (after others : List Turn) : Type 0 where
